@@ -114,22 +114,26 @@ unfolding isIdentifier
 identifier-short [] h = zero-le
 identifier-short (b ∷ s) h = leb-true _ _ (and-left _ (eqb (class b) 1 && all inside s) h)
 
-class-zero : class 0 ≡ 0
-unfolding class letter digit
-class-zero = refl
+-- a byte of an identifier
+in-letters : (b : ℕ) → (class b ≡ 0 → ⊥) → (0 < b) × (b < 256)
+in-letters b f = (go (decLt 0 b), on (decLt b 256))
+  where
+    go : Dec (0 < b) → 0 < b
+    go (yes h) = h
+    go (no h) = absurd (f (class-other b (λ l. omega arith) (λ l. omega arith) (λ l. omega arith) (λ e. omega arith)))
 
-not-zero : (b : ℕ) → (class b ≡ 0 → ⊥) → 0 < b
-not-zero zero f = absurd (f class-zero)
-not-zero (suc b) f = omega arith
+    on : Dec (b < 256) → b < 256
+    on (yes h) = h
+    on (no h) = absurd (f (class-other b (λ l. omega arith) (λ l. omega arith) (λ l. omega arith) (λ e. omega arith)))
 
-pub identifier-bytes : (s : List ℕ) → isIdentifier s ≡ true → (i : ℕ) → i < length s → 0 < getD s i 0
+pub identifier-bytes : (s : List ℕ) → isIdentifier s ≡ true → (i : ℕ) → i < length s → (0 < getD s i 0) × (getD s i 0 < 256)
 unfolding isIdentifier
 identifier-bytes [] h i n = absurd (not-suc-le-zero n)
 identifier-bytes (b ∷ s) h zero n =
     let r = and-right (leb (length (b ∷ s)) name-limit) (eqb (class b) 1 && all inside s) h in
     let e = eqb-true (class b) 1 (and-left (eqb (class b) 1) (all inside s) r) in
-    not-zero b (λ z. let q : _≡_ {A = ℕ} 0 1 = cc in omega arith)
+    in-letters b (λ z. let q : _≡_ {A = ℕ} 0 1 = cc in omega arith)
 identifier-bytes (b ∷ s) h (suc i) n =
     let r = and-right (leb (length (b ∷ s)) name-limit) (eqb (class b) 1 && all inside s) h in
     let e = all-each inside s (and-right (eqb (class b) 1) (all inside s) r) i (le-of-suc-le-suc n) in
-    not-zero _ (λ z. false-true (sym (simp (eq-eqb _ _ z)) ∙ e))
+    in-letters _ (λ z. false-true (sym (simp (eq-eqb _ _ z)) ∙ e))
