@@ -80,7 +80,7 @@ add-t24 c = search needs
 returns : tie.Need-returns Inv-loop μ-loop
 returns c =
     let h = c .before .loop .inv in
-    (unit-done _ _ _ (c .before .loop .i) (c .before .loop .rest) (omega arith) (h .2) (h .4), omega (arith, c .before .before .width-of .ensures .2))
+    (unit-done _ _ _ (c .before .loop .i) (c .before .loop .rest) (omega arith) (h .2) (h .4), omega (arith, c .before .before .width-of .ensures .2), h .1)
 
 pub unit-name-spec : {M : Type 1} → statement M
 unit-name-spec =
