@@ -1,0 +1,91 @@
+//! The families of bundles.
+
+mod damage;
+mod faults;
+mod limits;
+mod valid;
+
+use bundle_format::{Bundle, Item};
+
+use crate::rng::Rng;
+
+pub struct Family {
+    pub name: &'static str,
+    pub about: &'static str,
+    /// How often a bundle of this family comes, against the sum of all weights.
+    pub weight: usize,
+    pub make: fn(&mut Rng) -> Vec<u8>,
+    /// Whether the tree written out may pass the bound of projects, so that it is tested.
+    pub unbounded: bool,
+}
+
+macro_rules! families {
+    ($($name:literal $weight:literal $bound:ident $make:path, $about:literal;)*) => {
+        pub const FAMILIES: &[Family] = &[$(Family {
+            name: $name,
+            about: $about,
+            weight: $weight,
+            make: $make,
+            unbounded: stringify!($bound).len() == "unbounded".len(),
+        }),*];
+    };
+}
+
+families! {
+    "projects" 900 bounded valid::projects, "several files, some libraries and inline modules";
+    "packages" 500 bounded valid::packages, "nested contexts, equal names, libraries inside packages";
+    "contexts" 500 bounded valid::contexts, "many remappings over nested folders";
+    "reexports" 500 bounded valid::reexports, "public uses through several files";
+    "modules" 500 bounded valid::modules, "inline modules up to the depth limit, private segments";
+    "copies" 500 bounded valid::copies, "imports of modules, open ones too";
+    "own" 300 bounded valid::own, "files that import from themselves";
+    "keywords" 300 bounded valid::keywords, "names that are keywords, main or unit names";
+    "longest" 200 bounded valid::longest, "long paths and names";
+    "large" 20 bounded valid::large, "up to 64 files";
+    "shadows" 400 bounded valid::shadows, "folders beside files of the same name, folders named *.simf";
+    "chains" 200 bounded valid::chains, "long chains of files with short cuts";
+    "graphs" 400 bounded valid::graphs, "import graphs with diamonds, rings and self imports";
+    "deep-paths" 100 bounded valid::deep_paths, "paths through copies of copies, up to 17 segments";
+    "wild" 400 bounded valid::wild, "uses with any words of a small stock";
+    "tree-faults" 1500 bounded faults::tree, "41 to 49";
+    "lookup-faults" 700 bounded faults::lookups, "20 to 25";
+    "rings" 400 bounded faults::rings, "26";
+    "assembly-faults" 400 bounded faults::assembly, "27 and 28";
+    "remapping-faults" 400 bounded faults::remappings, "9 to 13";
+    "path-faults" 150 bounded faults::paths, "4";
+    "name-faults" 150 bounded faults::names, "5";
+    "kind-faults" 150 bounded faults::kinds, "6";
+    "list-faults" 250 bounded faults::lists, "7 and 8";
+    "count-limits" 150 bounded limits::counts, "folders, remappings, files, items, uses, segments, elements, depth";
+    "length-limits" 150 bounded limits::lengths, "names, components, paths";
+    "total-limit" 10 bounded limits::total, "a bundle of 65,535 bytes after its header";
+    "image-limit" 20 bounded limits::image, "an image of 65,535 bytes after its header: 15";
+    "tree-limit" 30 bounded limits::tree, "a tree of 1,024 entries: 51";
+    "truncated" 200 bounded damage::truncated, "cut at any byte";
+    "changed" 400 unbounded damage::changed, "one or two bytes changed";
+    "lengths" 200 bounded damage::lengths, "length and count fields off";
+    "resized" 200 bounded damage::resized, "an item's end moved, the lengths around it mended";
+    "spliced" 400 unbounded damage::spliced, "pieces of two bundles";
+    "noise" 50 bounded damage::noise, "any bytes";
+}
+
+fn encode(bundle: Bundle) -> Vec<u8> {
+    bundle
+        .encode()
+        .expect("the families keep lengths within their fields")
+}
+
+/// Every item, nested ones included, in byte order.
+fn each_item(bundle: &Bundle, visit: &mut impl FnMut(&Item)) {
+    fn each(items: &[Item], visit: &mut impl FnMut(&Item)) {
+        for item in items {
+            visit(item);
+            if let bundle_format::Body::Module { items, .. } = &item.body {
+                each(items, visit);
+            }
+        }
+    }
+    for file in &bundle.files {
+        each(&file.items, visit);
+    }
+}
