@@ -134,6 +134,9 @@ fn generate(package: &Path, out: &Path, files: &[Text]) {
         fs::write(path, copy).expect("OUT_DIR");
     }
 
+    // Declared under cfg(test) by src/driver/mod.rs, and not among the files.
+    fs::write(out.join("src/driver/version_tests.rs"), "").expect("OUT_DIR");
+
     let roots: String = ["resolution.rs", "driver/mod.rs", "source.rs", "str.rs"]
         .into_iter()
         .map(|file| {

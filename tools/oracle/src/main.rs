@@ -153,7 +153,7 @@ mod command {
             let line = line?;
             let tree = open.get_or_insert_default();
             if line.is_empty() {
-                write!(output, "{}--\n", tree.write())?;
+                writeln!(output, "{}--", tree.write())?;
                 open = None;
                 continue;
             }
@@ -164,7 +164,7 @@ mod command {
             writeln!(output, "{answer}")?;
         }
         if let Some(tree) = open {
-            write!(output, "{}--\n", tree.write())?;
+            writeln!(output, "{}--", tree.write())?;
         }
         output.flush()?;
         Ok(ExitCode::SUCCESS)

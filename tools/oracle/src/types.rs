@@ -6,7 +6,7 @@ use crate::error::Error;
 use crate::str::AliasName;
 
 /// The type that a type alias names.
-#[derive(Clone, Copy, Debug, Eq, PartialEq, Hash)]
+#[derive(Clone, Debug, Eq, PartialEq, Hash)]
 pub struct AliasedType {
     pub mark: usize,
 }
@@ -20,7 +20,7 @@ impl AliasedType {
     }
 }
 
-#[derive(Clone, Copy, Debug, Eq, PartialEq)]
+#[derive(Clone, Debug, Eq, PartialEq)]
 pub struct ResolvedType {
     pub mark: usize,
 }

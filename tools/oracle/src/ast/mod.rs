@@ -2,7 +2,7 @@
 
 pub mod scope;
 
-#[derive(Clone, Copy, Debug, Eq, PartialEq)]
+#[derive(Clone, Debug, Eq, PartialEq)]
 pub struct CustomFunction {
     pub mark: usize,
 }
