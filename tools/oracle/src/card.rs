@@ -7,6 +7,7 @@
 use std::collections::HashSet;
 use std::ffi::OsStr;
 use std::os::unix::ffi::OsStrExt;
+use std::os::unix::fs::DirBuilderExt;
 use std::path::{Path, PathBuf};
 use std::{env, fs, io, process};
 
@@ -30,7 +31,7 @@ impl Card {
         let mut number = 0;
         let root = loop {
             let root = parent.join(format!("oracle-{}-{number}", process::id()));
-            match fs::create_dir(&root) {
+            match fs::DirBuilder::new().mode(0o700).create(&root) {
                 Ok(()) => break root,
                 Err(error) if error.kind() == io::ErrorKind::AlreadyExists => number += 1,
                 Err(error) => return Err(error),
@@ -74,12 +75,18 @@ impl Card {
         Ok(())
     }
 
-    /// Starts again with an empty root.
+    /// Empties the root.
     pub fn clear(&mut self) -> io::Result<()> {
-        fs::remove_dir_all(&self.root)?;
+        for entry in fs::read_dir(&self.root)? {
+            let entry = entry?;
+            match entry.file_type()?.is_dir() {
+                true => fs::remove_dir_all(entry.path())?,
+                false => fs::remove_file(entry.path())?,
+            }
+        }
         self.folders.clear();
         self.files.clear();
-        fs::create_dir(&self.root)
+        Ok(())
     }
 
     /// The path in the private root of a path in the bundle.
