@@ -173,6 +173,9 @@ pub fn layout(rng: &mut Rng, shape: &Shape) -> Bundle {
     let count = range(rng, shape.files);
     for index in 0..4 * count {
         let mut folder = any_folder(rng, &bundle);
+        if !is_prefix(root, &folder) && rng.chance(50) {
+            folder = root.to_vec();
+        }
         let mut stem: &[u8] = rng.word(shape.components);
         if bundle.files.is_empty() && !rng.chance(shape.elsewhere) {
             folder = root.to_vec();
@@ -321,10 +324,39 @@ impl Builder<'_> {
         if self.tree.enter(&unit_name(file), false, 0).is_err() {
             return Vec::new();
         }
+        let first = self.rng.chance(60);
+        let mut items = if first {
+            self.connect(file)
+        } else {
+            Vec::new()
+        };
         let count = range(self.rng, self.shape.items);
-        let items = self.items(file, 0, count);
+        items.extend(self.items(file, 0, count));
+        if !first {
+            items.extend(self.connect(file));
+        }
+        if file == 0 {
+            items.extend((0..6).filter_map(|_| self.next_fault(file)));
+        }
         self.tree.exit();
         self.done.push(file);
+        items
+    }
+
+    /// Uses of files that none imports yet: of most in the entry, of one in other files.
+    fn connect(&mut self, file: usize) -> Vec<Item> {
+        let mut targets = self.done.clone();
+        targets.retain(|&target| !self.imported[target]);
+        self.rng.shuffle(&mut targets);
+        if file != 0 {
+            targets.truncate(self.rng.below(2));
+        }
+        let mut items = Vec::new();
+        for target in targets {
+            if self.rng.chance(85) {
+                items.extend(self.good_use(file, Some(target)));
+            }
+        }
         items
     }
 
@@ -351,17 +383,9 @@ impl Builder<'_> {
     }
 
     fn item(&mut self, file: usize, depth: usize) -> Option<Item> {
-        if self.rng.chance(25) {
-            if let Some(number) = self.faults.last().copied() {
-                let (item, answer) = self.faulty(file, number)?;
-                if answer == Err(number) {
-                    self.faults.pop();
-                    return Some(item);
-                }
-                return answer.is_ok().then_some(item);
-            }
+        if !self.faults.is_empty() && self.rng.chance(25) {
+            return self.next_fault(file);
         }
-
         let mut weights = self.shape.kinds;
         if file != 0 {
             weights[3] = 0;
@@ -386,7 +410,7 @@ impl Builder<'_> {
                 self.tree.insert_function(name, public, 0).ok()?;
                 Some(function(public, name))
             }
-            2 => self.good_use(file),
+            2 => self.good_use(file, None),
             4 => {
                 self.tree.enter(name, public, 0).ok()?;
                 let most = range(self.rng, self.shape.items);
@@ -399,9 +423,9 @@ impl Builder<'_> {
         }
     }
 
-    fn good_use(&mut self, file: usize) -> Option<Item> {
+    fn good_use(&mut self, file: usize, target: Option<usize>) -> Option<Item> {
         (0..3).find_map(|_| {
-            let proposal = self.proposal(file)?;
+            let proposal = self.proposal(file, target)?;
             let (item, answer) = self.try_use(file, proposal)?;
             answer.is_ok().then_some(item)
         })
@@ -439,19 +463,14 @@ impl Builder<'_> {
         Some((item(public, Body::Use { segments, elements }), answer))
     }
 
-    fn proposal(&mut self, file: usize) -> Option<Proposal> {
-        let own = self.done.is_empty() || self.rng.chance(self.shape.own);
-        let target = if own {
-            file
-        } else {
-            let mut target = *self.rng.pick(&self.done);
-            for _ in 0..4 {
-                if self.imported[target] && self.rng.chance(70) {
-                    target = *self.rng.pick(&self.done);
-                }
-            }
-            target
+    /// A use of `target`, or of any file.
+    fn proposal(&mut self, file: usize, target: Option<usize>) -> Option<Proposal> {
+        let target = match target {
+            Some(target) => target,
+            None if self.done.is_empty() || self.rng.chance(self.shape.own) => file,
+            None => *self.rng.pick(&self.done),
         };
+        let own = target == file;
         // A file directly in its root reaches itself by `crate` alone.
         let mut segments = if own && self.rng.chance(70) {
             vec![b"crate".to_vec()]
@@ -482,10 +501,16 @@ impl Builder<'_> {
         for _ in 0..count {
             let wants_module = self.rng.chance(self.shape.modules);
             let fits = |entry: &Entry| entry.public && (entry.kind == Kind::Module) == wants_module;
-            let entry = choose(self.rng, entries, fits)
-                .or_else(|| choose(self.rng, entries, |entry| entry.public))?;
+            let Some(entry) = choose(self.rng, entries, fits)
+                .or_else(|| choose(self.rng, entries, |entry| entry.public))
+            else {
+                break;
+            };
             let alias = self.rng.chance(35).then(|| self.rng.word(self.shape.names));
             elements.push(element(&entry.name, alias));
+        }
+        if count > 0 && elements.is_empty() && self.rng.chance(60) {
+            return None;
         }
         Some(Proposal {
             target,
@@ -494,6 +519,17 @@ impl Builder<'_> {
             elements,
             public: self.rng.chance(self.shape.public),
         })
+    }
+
+    /// An item towards the next fault, which it need not reach.
+    fn next_fault(&mut self, file: usize) -> Option<Item> {
+        let number = *self.faults.last()?;
+        let (item, answer) = self.faulty(file, number)?;
+        if answer == Err(number) {
+            self.faults.pop();
+            return Some(item);
+        }
+        answer.is_ok().then_some(item)
     }
 
     /// An item that may be refused with `number`, and what the tree says of it.
@@ -530,7 +566,7 @@ impl Builder<'_> {
             }
             _ => {
                 for _ in 0..8 {
-                    let Some(mut proposal) = self.proposal(file) else {
+                    let Some(mut proposal) = self.proposal(file, None) else {
                         continue;
                     };
                     self.spoil(&mut proposal, number, name);

@@ -44,6 +44,9 @@ const REACHABLE: [(u8, &str); 33] = [
 pub fn stats(input: impl BufRead) -> std::io::Result<String> {
     let mut answers = 0u64;
     let mut linked = 0u64;
+    // The oracle's answers where the original would not finish or panics.
+    let mut large = 0u64;
+    let mut panics = 0u64;
     let mut other = 0u64;
     // For each number: answers, lines, and the last answer it was in.
     let mut counts = vec![(0u64, 0u64, 0u64); 256];
@@ -66,6 +69,8 @@ pub fn stats(input: impl BufRead) -> std::io::Result<String> {
                 }
                 None => other += 1,
             },
+            Some("large") => large += 1,
+            Some("panic") => panics += 1,
             Some("unit" | "has" | "ring" | "image" | "--") => {}
             _ => other += 1,
         }
@@ -93,6 +98,8 @@ pub fn stats(input: impl BufRead) -> std::io::Result<String> {
             row(number, "not expected", counts[usize::from(number)]);
         }
     }
-    out += &format!("\n{answers} answers, {other} lines of another form\n");
+    out += &format!(
+        "\n{answers} answers, {large} large, {panics} panics, {other} lines of another form\n"
+    );
     Ok(out)
 }

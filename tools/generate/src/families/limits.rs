@@ -243,8 +243,9 @@ pub fn lengths(rng: &mut Rng) -> Vec<u8> {
     encode(bundle)
 }
 
-/// Uses of about 280 bytes whose module path is there, and the file that has it.
-fn long_uses(count: usize) -> (Vec<Item>, Vec<Item>) {
+/// Uses with a long module path in the file named by the segments `from`, as many as the bytes
+/// hold, and the items of that file.
+fn long_uses(from: &str, bytes: usize) -> (Vec<Item>, Vec<Item>) {
     let mut inner = Vec::new();
     let mut segments = String::new();
     for number in 0..limits::DEPTH {
@@ -252,14 +253,27 @@ fn long_uses(count: usize) -> (Vec<Item>, Vec<Item>) {
         segments = format!("::{name}{segments}");
         inner = vec![module(true, name.as_bytes(), inner)];
     }
-    let one = import(false, &format!("crate::a{segments}"), Vec::new());
-    (vec![one; count], inner)
+    let uses = vec![import(false, &format!("{from}{segments}"), Vec::new())];
+    let count = bytes / length(&uses);
+    (vec![uses[0].clone(); count], inner)
 }
 
-/// A bundle of 65,535 bytes after its header, one less, or bytes after those.
+/// A bundle of 65,535 bytes after its header, one less, or bytes after those. Through a folder
+/// its uses get shorter in the image, without one longer.
 pub fn total(rng: &mut Rng) -> Vec<u8> {
-    let (uses, inner) = long_uses(rng.between(200, 225));
+    let bytes = rng.between(50_000, 64_000);
+    let folder = "d".repeat(limits::NAME);
+    let from = if rng.chance(70) {
+        format!("crate::{folder}::a")
+    } else {
+        "crate::a".to_string()
+    };
+    let (uses, inner) = long_uses(&from, bytes);
     let mut bundle = two_files([vec![main()], uses].concat(), inner);
+    if from.contains(&folder) {
+        bundle.folders.push(format!("/r/{folder}").into_bytes());
+        bundle.files[1].path = format!("/r/{folder}/a.simf").into_bytes();
+    }
     let wanted = limits::LENGTH - rng.below(2);
     let now = bundle.encode().expect("under the limit").len() - limits::HEADER;
     let chosen = rng.below(2);
@@ -275,7 +289,7 @@ pub fn total(rng: &mut Rng) -> Vec<u8> {
 
 /// An image of 65,535 bytes after its header, one less, or more.
 pub fn image(rng: &mut Rng) -> Vec<u8> {
-    let (uses, inner) = long_uses(rng.between(180, 215));
+    let (uses, inner) = long_uses("crate::a", rng.between(50_000, 63_000));
     // In the image `a` becomes `unit_1`, five bytes more for each use.
     let longer = 5 * uses.len();
     let mut entry = [vec![main()], uses].concat();

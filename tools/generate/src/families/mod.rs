@@ -46,6 +46,7 @@ families! {
     "chains" 200 bounded valid::chains, "long chains of files with short cuts";
     "graphs" 400 bounded valid::graphs, "import graphs with diamonds, rings and self imports";
     "deep-paths" 100 bounded valid::deep_paths, "paths through copies of copies, up to 17 segments";
+    "doubling" 30 bounded valid::doubling, "a module that imports itself again and again, and paths into the copies";
     "wild" 400 bounded valid::wild, "uses with any words of a small stock";
     "tree-faults" 1500 bounded faults::tree, "41 to 49";
     "lookup-faults" 700 bounded faults::lookups, "20 to 25";

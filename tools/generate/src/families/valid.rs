@@ -368,6 +368,55 @@ pub fn deep_paths(rng: &mut Rng) -> Vec<u8> {
     })
 }
 
+/// A module that imports itself again and again: each copy holds those made before it, which
+/// doubles the tree written out.
+pub fn doubling(rng: &mut Rng) -> Vec<u8> {
+    let copies = rng.between(1, 10);
+    let mut items = vec![function(true, b"f")];
+    let mut made = Vec::new();
+    for copy in 0..copies {
+        let name = format!("c{copy}");
+        items.push(import(
+            true,
+            "crate",
+            vec![element(b"m", Some(name.as_bytes()))],
+        ));
+        // A function that the copies made before do not hold.
+        let own = format!("f{copy}");
+        if rng.chance(50) {
+            items.push(function(true, own.as_bytes()));
+        }
+        made.push(name);
+    }
+    // Mostly from a later copy to an earlier one.
+    let mut segments = String::from("crate::m");
+    let mut last = copies;
+    while last > 0 && rng.chance(80) {
+        let bound = if rng.chance(10) { copies } else { last };
+        last = rng.below(bound);
+        segments += &format!("::{}", made[last]);
+    }
+    let name = match rng.below(3) {
+        0 => format!("f{}", rng.below(copies)),
+        1 => made[rng.below(copies)].clone(),
+        _ => "f".to_string(),
+    };
+    let look = import(
+        rng.chance(50),
+        &segments,
+        vec![element(name.as_bytes(), Some(b"q"))],
+    );
+    let module = module(true, b"m", items);
+    encode(Bundle {
+        root: b"/".to_vec(),
+        files: vec![file(
+            "/main.simf",
+            vec![module, look, function(false, b"main")],
+        )],
+        ..Bundle::default()
+    })
+}
+
 /// Uses with any words of a small stock, whatever they name.
 pub fn wild(rng: &mut Rng) -> Vec<u8> {
     let mut bundle = layout(rng, &SHAPE);
