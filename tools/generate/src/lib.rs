@@ -25,7 +25,7 @@ pub fn bundle(seed: u64, index: u64, family: Option<&Family>) -> Vec<u8> {
     });
     loop {
         let bytes = (family.make)(&mut rng);
-        if !family.unbounded || !link::run(&bytes, LARGEST).too_large {
+        if !family.measured || !link::run(&bytes, LARGEST).too_large {
             return bytes;
         }
     }

@@ -1,14 +1,18 @@
 //! A whole run by document 01, over the format library. The generator keeps its bundles small
 //! with it, and its answers can be compared with the oracle's.
 
-use bundle_format::{image, Body, Bundle, Item};
+use bundle_format::{image, Body, Bundle, Item, Refusal};
 
 use crate::lookup::Lookup;
-use crate::tree::{Tree, TOO_LARGE};
+use crate::tree::{unit_name, Tree, TOO_LARGE};
 
-/// What the printing program prints, and the number of entries of the tree written out.
+/// What comes of a bundle.
 pub struct Run {
+    /// What the printing program prints.
     pub text: String,
+    /// The image of a bundle that links.
+    pub image: Option<Vec<u8>>,
+    /// The number of entries of the tree written out.
     pub written: usize,
     /// The tree written out would have passed the number given.
     pub too_large: bool,
@@ -17,22 +21,21 @@ pub struct Run {
 /// The run of a bundle whose tree may have up to `largest` entries written out.
 pub fn run(bytes: &[u8], largest: usize) -> Run {
     let mut tree = Tree::new(largest);
-    let result = Bundle::decode(bytes).and_then(|bundle| match bundle.check() {
-        Some(refusal) => Err(refusal),
-        None => Ok(bundle),
-    });
-    let (text, too_large) = match result {
-        Err(refusal) => (format!("{refusal}\n"), false),
-        Ok(bundle) => match Linker::new(&bundle).run(&mut tree) {
-            Ok(text) => (text, false),
-            Err(Stop::Report(text)) => (text, false),
-            Err(Stop::Number(number, place)) => {
-                (format!("no {number} {place}\n"), number == TOO_LARGE)
-            }
+    let answer = match Bundle::decode(bytes) {
+        Err(refusal) => Err(Stop::Refusal(refusal)),
+        Ok(bundle) => match bundle.check() {
+            Some(refusal) => Err(Stop::Refusal(refusal)),
+            None => Linker::new(&bundle).run(&mut tree),
         },
+    };
+    let (text, image, too_large) = match answer {
+        Ok((text, image)) => (text, Some(image), false),
+        Err(Stop::Report(text)) => (text, None, false),
+        Err(Stop::Refusal(refusal)) => (format!("{refusal}\n"), None, refusal.number == TOO_LARGE),
     };
     Run {
         text,
+        image,
         written: tree.written(),
         too_large,
     }
@@ -40,7 +43,7 @@ pub fn run(bytes: &[u8], largest: usize) -> Run {
 
 enum Stop {
     Report(String),
-    Number(u8, usize),
+    Refusal(Refusal),
 }
 
 struct Linker<'a> {
@@ -74,10 +77,6 @@ fn enums(items: &[Item], report: &mut String) {
     }
 }
 
-fn unit_name(id: usize) -> Vec<u8> {
-    format!("unit_{id}").into_bytes()
-}
-
 impl<'a> Linker<'a> {
     fn new(bundle: &'a Bundle) -> Self {
         Linker {
@@ -93,7 +92,7 @@ impl<'a> Linker<'a> {
         &self.lookup.bundle.files[self.units[unit]].items
     }
 
-    fn run(mut self, tree: &mut Tree) -> Result<String, Stop> {
+    fn run(mut self, tree: &mut Tree) -> Result<(String, Vec<u8>), Stop> {
         self.discover();
         self.stop_if_reported()?;
 
@@ -129,11 +128,15 @@ impl<'a> Linker<'a> {
             });
         }
         walk(&units, tree)?;
-        if image(&units).is_err() {
-            return Err(Stop::Number(15, 0));
-        }
+        // Names and counts fit, so an error is about a length.
+        let image = image(&units).map_err(|_| {
+            Stop::Refusal(Refusal {
+                number: 15,
+                place: 0,
+            })
+        })?;
         tree.print(&mut text);
-        Ok(text)
+        Ok((text, image))
     }
 
     fn stop_if_reported(&mut self) -> Result<(), Stop> {
@@ -247,7 +250,8 @@ fn walk(items: &[Item], tree: &mut Tree) -> Result<(), Stop> {
             Body::Module { name, .. } => tree.enter(name, *public, *mark),
             Body::Ignored => Ok(()),
         };
-        result.map_err(|number| Stop::Number(number, *mark))?;
+        let place = *mark;
+        result.map_err(|number| Stop::Refusal(Refusal { number, place }))?;
         if let Body::Module { items, .. } = body {
             walk(items, tree)?;
             tree.exit();

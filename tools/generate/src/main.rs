@@ -8,7 +8,7 @@ use bundle_generate::{bundle, link, stats, Family, FAMILIES};
 const USAGE: &str = "\
 usage: generate SEED COUNT [--family NAME]   a stream of bundles on standard output
        generate --list-families              their names
-       generate --answers                    a stream of bundles in, the model's answers out
+       generate --answers [--image]          a stream of bundles in, the model's answers out
        generate --stats                      answers in, a table of their numbers out";
 
 fn main() -> ExitCode {
@@ -20,7 +20,8 @@ fn main() -> ExitCode {
     let result = match arguments[..] {
         ["--list-families"] => list(),
         ["--stats"] => stats(std::io::stdin().lock()).and_then(|table| print(&table)),
-        ["--answers"] => answers(),
+        ["--answers"] => answers(false),
+        ["--answers", "--image"] => answers(true),
         [seed, count] => stream(seed, count, None),
         [seed, count, "--family", name] | ["--family", name, seed, count] => {
             stream(seed, count, Some(name))
@@ -78,7 +79,7 @@ fn stream(seed: &str, count: &str, name: Option<&str>) -> std::io::Result<()> {
 }
 
 /// What the model says of each bundle of a stream, each answer followed by a line `--`.
-fn answers() -> std::io::Result<()> {
+fn answers(with_image: bool) -> std::io::Result<()> {
     let mut input = std::io::BufReader::with_capacity(1 << 18, std::io::stdin().lock());
     let mut out = BufWriter::with_capacity(1 << 18, std::io::stdout().lock());
     let mut bytes = Vec::new();
@@ -95,7 +96,12 @@ fn answers() -> std::io::Result<()> {
         length.copy_from_slice(&bytes);
         bytes.resize(u32::from_be_bytes(length) as usize, 0);
         input.read_exact(&mut bytes)?;
-        out.write_all(link::run(&bytes, 1_000_000).text.as_bytes())?;
+        let run = link::run(&bytes, 1_000_000);
+        out.write_all(run.text.as_bytes())?;
+        if let (Some(image), true) = (run.image, with_image) {
+            let hex: String = image.iter().map(|byte| format!("{byte:02x}")).collect();
+            writeln!(out, "image {hex}")?;
+        }
         out.write_all(b"--\n")?;
     }
 }

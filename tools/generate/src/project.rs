@@ -5,10 +5,10 @@ use bundle_format::{forms, limits, Body, Bundle, Element, File, Item, Remapping}
 
 use crate::lookup::{is_prefix, join, Found, Lookup};
 use crate::rng::Rng;
-use crate::tree::{Entry, Kind, Tree};
+use crate::tree::{unit_name, Entry, Kind, Tree};
 
-/// The most entries of a tree written out, where a family does not say otherwise.
-pub const LARGEST: usize = 1_500;
+/// The most entries of a project's tree written out.
+const LARGEST: usize = 1_500;
 
 type Words = &'static [&'static [u8]];
 
@@ -267,10 +267,6 @@ struct Builder<'a> {
     uses: usize,
     /// Numbers still to be reached.
     faults: Vec<u8>,
-}
-
-fn unit_name(file: usize) -> Vec<u8> {
-    format!("unit_{file}").into_bytes()
 }
 
 /// Some entry that `test` takes.

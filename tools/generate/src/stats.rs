@@ -77,8 +77,9 @@ pub fn stats(input: impl BufRead) -> std::io::Result<String> {
     }
 
     let share = |count: u64| match answers.checked_div(count) {
-        Some(share) => share.to_string(),
         None => "never".to_string(),
+        Some(0..=9) => format!("{:.1}", answers as f64 / count as f64),
+        Some(share) => share.to_string(),
     };
     let mut out =
         String::from("| No. | Word | Answers | One in | Lines |\n|---|---|---|---|---|\n");

@@ -51,6 +51,10 @@ enum At<'a> {
 /// The answer where a tree written out would be larger than the caller allows.
 pub const TOO_LARGE: u8 = 0;
 
+pub fn unit_name(id: usize) -> Vec<u8> {
+    format!("unit_{id}").into_bytes()
+}
+
 pub struct Tree {
     /// The root, then the open modules with their names.
     open: Vec<(Vec<u8>, Scope)>,

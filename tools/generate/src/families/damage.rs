@@ -211,7 +211,7 @@ pub fn noise(rng: &mut Rng) -> Vec<u8> {
         })
         .collect();
     if let [version, ..] = &mut bytes[..] {
-        if rng.chance(90) {
+        if rng.chance(80) {
             *version = limits::VERSION;
         }
     }
