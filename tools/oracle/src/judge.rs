@@ -282,7 +282,7 @@ fn walk_module(tree: &mut Tree, module: &parse::Module, mark: usize) -> Result<(
     tree.enter(module.name().clone(), module.visibility().clone(), mark)
         .map_err(refuse(mark))?;
     for item in module.items() {
-        let mark = item.span().expect("ignored items are gone").start;
+        let mark = parse::mark(item).expect("ignored items are gone");
         match item {
             parse::Item::TypeAlias(alias) => tree
                 .type_alias(alias.name(), alias.visibility().clone(), alias.ty())
@@ -294,7 +294,7 @@ fn walk_module(tree: &mut Tree, module: &parse::Module, mark: usize) -> Result<(
             parse::Item::EnumDeclaration(decl) => tree
                 .enumeration(decl.name(), decl.visibility().clone(), mark)
                 .map_err(refuse(mark))?,
-            parse::Item::Module(module) => walk_module(tree, module, module.span().file_id)?,
+            parse::Item::Module(module) => walk_module(tree, module, mark)?,
             parse::Item::Ignored => unreachable!("ignored items are gone"),
         }
     }

@@ -119,6 +119,14 @@ fn item_of(file_id: usize, item: &bundle_format::Item) -> Item {
     }
 }
 
+/// The mark of an item, before and after assembly.
+pub fn mark(item: &Item) -> Option<usize> {
+    match item {
+        Item::Module(module) => Some(module.span().file_id),
+        item => item.span().map(|span| span.start),
+    }
+}
+
 pub fn visibility_of(public: bool) -> Visibility {
     match public {
         true => Visibility::Public,
