@@ -9,7 +9,7 @@ use lib.ListN.{length, getD, drop, take}
 use lib.Seq.{take-all, length-take-le}
 use lib.ListN.{length-drop}
 use Rattle.names.specs.Path.{split, wellFormed}
-use Rattle.names.specs.Counted.{fits, fits-first, fits-bad, fits-last, fits-more, fits-none}
+use Rattle.names.specs.PathSteps.{fits, fits-first, fits-bad, fits-last, fits-more, fits-none}
 use Rattle.names.proofs.path.are_components.Statement.{statement}
 use Rattle.names.proofs.path.are_components.Tie as tie
 

@@ -6,7 +6,7 @@ use native.Mathlib.Omega.{arith}
 use lib.ListN.{length, getD, drop}
 use mathlib.Core.Logic.{⊎-elim}
 use Rattle.names.specs.Split.{slashes, slashes-more, slashes-same, slashes-none}
-use Rattle.names.specs.Counted.{depth-root, depth-is}
+use Rattle.names.specs.PathSteps.{depth-root, depth-is}
 use Rattle.names.proofs.path.depth_of.Statement.{statement}
 use Rattle.names.proofs.path.depth_of.Tie as tie
 
