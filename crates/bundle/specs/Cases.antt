@@ -21,17 +21,17 @@ use Rattle.bundle.specs.Read.{Reading, value, refused, form, lists, file
 -- THE PRINTED CASE
 unfoldable printed : Bundle
 printed = record {
-    root = ascii "/r";
-    folders = ascii "/r" ∷ [];
-    remappings = [];
-    files =
+  root = ascii "/r";
+  folders = ascii "/r" ∷ [];
+  remappings = [];
+  files =
       record {
         path = ascii "/r/main.simf";
         items =
-          use-of 27 0 (ascii "crate" ∷ ascii "a" ∷ []) (record { name = ascii "f"; alias = [] } ∷ [])
-          (named 2 44 0 (ascii "main") none)
-      } ∷ record { path = ascii "/r/a.simf"; items = named 2 65 1 (ascii "f") none } ∷ []
-  }
+            use-of 27 0 (ascii "crate" ∷ ascii "a" ∷ []) (record { name = ascii "f"; alias = [] } ∷ [])
+            (named 2 44 0 (ascii "main") none);
+      } ∷ record { path = ascii "/r/a.simf"; items = named 2 65 1 (ascii "f") none } ∷ [];
+}
 
 printed-length : length (encode printed) ≡ 71
 unfolding printed ascii encode fields sized two string counted joined remapping file items element

@@ -29,10 +29,10 @@ placedAt s at = record { place = at; string = text s at }
 
 unfoldable pub placedRemappingAt : List ℕ → ℕ → PlacedRemapping
 placedRemappingAt s at = record {
-    context = placedAt s at;
-    name = placedAt s (after s at);
-    target = placedAt s (after s (after s at))
-  }
+  context = placedAt s at;
+  name = placedAt s (after s at);
+  target = placedAt s (after s (after s at));
+}
 
 abbrev pub texts : List Placed → List Text
 texts = map (λ p. p .string)

@@ -52,7 +52,7 @@ itemAt inside s at rest =
     let visibility = byte s (at + 3) in
     let nested = module-of at visibility (text s (at + 4)) (inside (afterLength s at) (after s (at + 4))) rest in
     let use-item = use-of at visibility (counted (after s) (text s) s (at + 4))
-                   (counted (afterElement s) (elementAt s) s (afterList (after s) s (at + 4))) rest in
+    (counted (afterElement s) (elementAt s) s (afterList (after s) s (at + 4))) rest in
     cond (eqb kind module-kind) nested
     (cond (eqb kind use-kind) use-item
     (cond (eqb kind ignored-kind) (ignored at visibility rest) (named kind at visibility (text s (at + 4)) rest)))
@@ -84,8 +84,8 @@ filesAt s = afterList (afterRemapping s) s (remappingsAt s)
 
 unfoldable pub decode : List ℕ → Bundle
 decode s = record {
-    root = text s header;
-    folders = counted (after s) (text s) s (foldersAt s);
-    remappings = counted (afterRemapping s) (remappingAt s) s (remappingsAt s);
-    files = counted (afterFile s) (fileAt s) s (filesAt s)
-  }
+  root = text s header;
+  folders = counted (after s) (text s) s (foldersAt s);
+  remappings = counted (afterRemapping s) (remappingAt s) s (remappingsAt s);
+  files = counted (afterFile s) (fileAt s) s (filesAt s);
+}

@@ -111,8 +111,8 @@ module _ (s : List ℕ) (folders files : List Text) (n i at a : ℕ) (placed : a
 
   here : i < n → remapped folders files before-it (each (afterRemapping s) (placedRemappingAt s) (n - i) a)
       ≡ orElse (remappingTold folders files (placedRemappingAt s a))
-        (cond (any (sameRemapping (placedRemappingAt s a)) before-it) (Refused 13 a)
-        (remapped folders files (before-it ++ (placedRemappingAt s a ∷ [])) (each (afterRemapping s) (placedRemappingAt s) (n - (i + 1)) (afterRemapping s a))))
+      (cond (any (sameRemapping (placedRemappingAt s a)) before-it) (Refused 13 a)
+      (remapped folders files (before-it ++ (placedRemappingAt s a ∷ [])) (each (afterRemapping s) (placedRemappingAt s) (n - (i + 1)) (afterRemapping s a))))
   unfolding remapped each placedRemappingAt placedAt
   here h =
       let z : n - i ≡ suc (n - (i + 1)) = omega arith in
@@ -172,8 +172,8 @@ conflictsAt s f r g nf nr ng =
 
 split-at : (s : List ℕ) (f r g : ℕ)
     → orElse (listed (root ∷ []) (root ∷ texts (counted (after s) (placedAt s) s f)) (counted (after s) (placedAt s) s f ++ counted (afterFile s) (placedAt s) s g))
-      (orElse (remapped (root ∷ texts (counted (after s) (placedAt s) s f)) (texts (counted (afterFile s) (placedAt s) s g)) [] (counted (afterRemapping s) (placedRemappingAt s) s r))
-      (located (root ∷ texts (counted (after s) (placedAt s) s f)) (texts (counted (afterFile s) (placedAt s) s g)) (placedAt s header)))
+    (orElse (remapped (root ∷ texts (counted (after s) (placedAt s) s f)) (texts (counted (afterFile s) (placedAt s) s g)) [] (counted (afterRemapping s) (placedRemappingAt s) s r))
+    (located (root ∷ texts (counted (after s) (placedAt s) s f)) (texts (counted (afterFile s) (placedAt s) s g)) (placedAt s header)))
     ≡ conflictsAt s f r g (byte s f) (byte s r) (byte s g)
 split-at s f r g =
     rw (listed-append (root ∷ []) (root ∷ texts (counted (after s) (placedAt s) s f)) (counted (after s) (placedAt s) s f) (counted (afterFile s) (placedAt s) s g), told-after)

@@ -165,7 +165,7 @@ head-next s end at count uses {n = n} h =
       kind-high = lb .3;
       visibility = v;
       count-small = ltb-true _ _ (u .0);
-      uses-small = leb-true _ _ (u .1)
+      uses-small = leb-true _ _ (u .1);
     }
 
 -- A LOOP OVER n FIELDS, i of which are done

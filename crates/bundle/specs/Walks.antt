@@ -101,8 +101,8 @@ item-goes s inModule E end at c u a c' u' h =
   where
     go : (next : ℕ) → Head s end at c u next → (b : Bool) → eqb (byte s (at + 2)) module-kind ≡ b
         → cond b (inModule next at c u)
-          (walkOn (andThen (scanBody s next at) (scanEnd next)) (λ past. Past past (c + 1) (usesAfter s at u)))
-          ≡ Past a c' u'
+        (walkOn (andThen (scanBody s next at) (scanEnd next)) (λ past. Past past (c + 1) (usesAfter s at u)))
+        ≡ Past a c' u'
         → Went (suc at) end a c' u'
     go next hd true q h =
         let k : byte s (at + 2) ≡ module-kind = eqb-true _ _ q in
@@ -122,7 +122,7 @@ item-goes s inModule E end at c u a c' u' h =
           from = omega (arith, hd .long);
           to = omega (arith, hd .within);
           count = omega (arith, hd .count-small);
-          uses = rw z at (hd .uses-small)
+          uses = rw z at (hd .uses-small);
         }
 
 module-enters : (depth : ℕ) (s : List ℕ) → Enters s (scanModule depth s)
@@ -136,8 +136,8 @@ module-enters (suc depth) s next at c u a c' u' h4 hc hu h =
     let n = formed-next s next (at + 4) isIdentifier 5 (m .first) in
     let b = string-next s next (at + 4) (n .0) in
     let w = siblings-go (scanItem depth s next) next (item-goes s (scanModule depth s) (module-enters depth s) next)
-            (next - m .mid) (m .mid) (c + 1) u a c' u'
-            (record { from = omega arith; to = b .2; count = omega arith; uses = hu }) (m .second) in
+    (next - m .mid) (m .mid) (c + 1) u a c' u'
+    (record { from = omega arith; to = b .2; count = omega arith; uses = hu }) (m .second) in
     record { from = omega (arith, w .from); to = w .to; count = w .count; uses = w .uses }
 
 -- THE ITEMS OF A BUNDLE

@@ -267,7 +267,13 @@ pub fn conflicts(s: &[u8]) -> Checked
             match second {
                 Checked::Refused(n, p) => Checked::Refused(n, p),
                 Checked::Ok => {
-                    let third = remappings_verdict(s, folders, files, remappings + 1, remapping_count);
+                    let third = remappings_verdict(
+                        s,
+                        folders,
+                        files,
+                        remappings + 1,
+                        remapping_count,
+                    );
                     match third {
                         Checked::Refused(n, p) => Checked::Refused(n, p),
                         Checked::Ok => place_verdict(s, folders, files, HEADER),
