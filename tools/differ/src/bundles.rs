@@ -1,0 +1,181 @@
+//! `bundle::check` against the reader of tools/format.
+
+use bundle_format::{Body, Bundle, File, Item, Refusal};
+
+use crate::host;
+
+/// What tools/format says: 0, or a number and its place.
+fn expected(bundle: &[u8]) -> (u8, usize) {
+    let refusal = match Bundle::decode(bundle) {
+        Err(refusal) => Some(refusal),
+        Ok(bundle) => bundle.check(),
+    };
+    match refusal {
+        None => (0, usize::MAX),
+        Some(Refusal { number, place }) => (number, place),
+    }
+}
+
+/// Counts inputs, differences and the numbers seen.
+struct Tally {
+    inputs: u64,
+    differences: u64,
+    numbers: [u64; 14],
+}
+
+impl Tally {
+    fn new() -> Self {
+        Tally {
+            inputs: 0,
+            differences: 0,
+            numbers: [0; 14],
+        }
+    }
+
+    fn compare(&mut self, bundle: &[u8]) {
+        let (expected, found) = (expected(bundle), host::check(bundle));
+        self.inputs += 1;
+        self.numbers[usize::from(expected.0)] += 1;
+        if expected != found {
+            self.differences += 1;
+            if self.differences <= 10 {
+                let hex: String = bundle.iter().map(|byte| format!("{byte:02x}")).collect();
+                println!("{expected:?} expected, {found:?} found: {hex}");
+            }
+        }
+    }
+
+    fn tell(self) -> u64 {
+        println!("{} inputs, {} differences", self.inputs, self.differences);
+        for (number, count) in self.numbers.iter().enumerate() {
+            println!("{number}: {count}");
+        }
+        self.differences
+    }
+}
+
+pub fn generated(seed: u64, count: u64) -> u64 {
+    let mut tally = Tally::new();
+    for index in 0..count {
+        tally.compare(&bundle_generate::bundle(seed, index, None));
+    }
+    tally.tell()
+}
+
+/// Of the generated bundles those that are accepted: every truncation, and of the small ones every
+/// change of one byte.
+pub fn damaged(seed: u64, count: u64) -> u64 {
+    let mut tally = Tally::new();
+    let accepted = (0..).map(|index| bundle_generate::bundle(seed, index, None));
+    for mut bundle in accepted
+        .filter(|bundle| expected(bundle).0 == 0)
+        .take(count as usize)
+    {
+        for end in 0..bundle.len() {
+            tally.compare(&bundle[..end]);
+        }
+        if bundle.len() > 128 {
+            continue;
+        }
+        for at in 0..bundle.len() {
+            let kept = bundle[at];
+            for byte in 0..=255 {
+                bundle[at] = byte;
+                tally.compare(&bundle);
+            }
+            bundle[at] = kept;
+        }
+    }
+    tally.tell()
+}
+
+pub fn short() -> u64 {
+    let mut tally = Tally::new();
+    for length in 0..=4 {
+        for value in 0..1u64 << (8 * length) {
+            tally.compare(&value.to_be_bytes()[8 - length..]);
+        }
+    }
+    tally.tell()
+}
+
+/// The largest bundle: 65,538 bytes, 64 folders, 64 files, 1,024 items.
+fn largest() -> Vec<u8> {
+    let name = |mark: usize, length: usize| {
+        let mut name = format!("n{mark}_").into_bytes();
+        name.resize(length, b'x');
+        name
+    };
+    let folders: Vec<Vec<u8>> = (0..64)
+        .map(|at| [b"/".as_slice(), &name(at, 20)].concat())
+        .collect();
+    let item = |at: usize, length: usize| Item {
+        mark: 0,
+        public: true,
+        body: Body::Function(name(at, length)),
+    };
+    let mut bundle = Bundle {
+        root: b"/".to_vec(),
+        folders,
+        ..Bundle::default()
+    };
+    for file in 0..64 {
+        let path = [&bundle.folders[file][..], b"/", &name(file, 20), b".simf"].concat();
+        let mut items: Vec<Item> = (0..15).map(|at| item(16 * file + at, 32)).collect();
+        // The last item of each file is a use, which fills up the rest.
+        let segments = (0..16).map(|at| name(at, 20)).collect();
+        items.push(Item {
+            mark: 0,
+            public: false,
+            body: Body::Use {
+                segments,
+                elements: Vec::new(),
+            },
+        });
+        bundle.files.push(File {
+            path,
+            path_at: 0,
+            items,
+        });
+    }
+    let mut at = 0;
+    loop {
+        let bytes = bundle.encode().expect("the bundle fits");
+        let missing = 65_538 - bytes.len();
+        if missing == 0 {
+            return bytes;
+        }
+        let Body::Use { elements, .. } = &mut bundle.files[at % 64].items[15].body else {
+            unreachable!("the last item is a use");
+        };
+        // An element takes its name's length and two bytes.
+        let length = if missing >= 68 {
+            32
+        } else if missing > 34 {
+            missing / 2 - 2
+        } else {
+            missing - 2
+        };
+        elements.push(bundle_format::Element {
+            name: name(at, length),
+            alias: None,
+        });
+        at += 1;
+    }
+}
+
+pub fn measure(who: &str, times: u64) -> u64 {
+    let bundle = largest();
+    assert_eq!(expected(&bundle).0, 0);
+    let check = match who {
+        "port" => host::check,
+        "tools" => expected,
+        _ => return 1,
+    };
+    let mut accepted = 0;
+    for _ in 0..times {
+        accepted += u64::from(check(std::hint::black_box(&bundle)).0 == 0);
+    }
+    println!("{} bytes, accepted {accepted} times", bundle.len());
+    0
+}
