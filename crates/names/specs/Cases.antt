@@ -1,13 +1,12 @@
 -- Cases of document 01 on paths and names, computed over the definitions. Assumes nothing.
 use Prim.Native.Nat.{ℕ}
 use Prim.Native.String.{String}
-use mathlib.Core.Bool.{Bool, true, false, not, _&&_}
+use mathlib.Core.Bool.{Bool, true, not}
 use mathlib.Core.Path.{_≡_, refl}
 use mathlib.Core.List.{List, [], _∷_, _++_}
-use lib.ListN.{length, replicate}
-use lib.Dec.{eqb}
-use Rattle.names.specs.Bytes.{ascii, same, member, all, hasPrefix}
-use Rattle.names.specs.Keywords.{keywords, isKeyword, isCrate, isMain}
+use lib.ListN.{replicate}
+use Rattle.names.specs.Bytes.{ascii, same, member, all}
+use Rattle.names.specs.Keywords.{keywords, isKeyword}
 use Rattle.names.specs.Identifier.{letter, digit, class, isIdentifier}
 use Rattle.names.specs.Decimal.{digits, decimal, unitName}
 use Rattle.names.specs.Path.{onto, split, components, led, render, root, isComponent, wellFormed, isPath}

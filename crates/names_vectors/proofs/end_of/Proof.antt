@@ -1,7 +1,6 @@
 -- `names_vectors::end_of` meets its contract. Assumes nothing.
 use borrow.Author.Needs.{needs}
-use Prim.Native.Nat.{ℕ, _≤_, _<_, _-_, _+_}
-use native.Mathlib.Omega.{arith}
+use Prim.Native.Nat.{_≤_, _-_}
 use lib.ListN.{length}
 use Rattle.names_vectors.proofs.end_of.Statement.{statement}
 use Rattle.names_vectors.proofs.end_of.Tie as tie
