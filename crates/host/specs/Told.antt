@@ -1,11 +1,17 @@
 -- How an answer is told in numbers. Assumes nothing.
 use Prim.Native.Nat.{ℕ, _≤_}
 use mathlib.Core.Path.{_≡_, refl, sym}
+use mathlib.Core.Bool.{Bool, true, false}
 use mathlib.Core.List.{List}
 use lib.ListN.{length, set}
 use lib.Seq.{set-out}
 use Rattle.bundle.specs.declared.Checked.{Checked}
 use Rattle.bundle.specs.declared.Checked.the-variants.{Ok, Refused}
+
+-- a truth
+abbrev pub bitOf : Bool → ℕ
+bitOf true = 1
+bitOf false = 0
 
 -- document 01's number; 0 where there is none
 abbrev pub numberOf : Checked → ℕ

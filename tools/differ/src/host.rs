@@ -1,6 +1,8 @@
 //! The functions of crates/host, wrapped. None has a precondition.
 
 extern "C" {
+    fn gontsamy_is_keyword(s: *const u8, s_len: usize) -> u8;
+    fn gontsamy_starts_with(f: *const u8, f_len: usize, p: *const u8, p_len: usize) -> u8;
     fn gontsamy_check(s: *const u8, s_len: usize, place: *mut usize, place_len: usize) -> u8;
 }
 
@@ -17,4 +19,14 @@ pub fn check(bundle: &[u8]) -> (u8, usize) {
         )
     };
     (number, place[0])
+}
+
+pub fn is_keyword(s: &[u8]) -> bool {
+    // SAFETY: as above.
+    unsafe { gontsamy_is_keyword(s.as_ptr(), s.len()) == 1 }
+}
+
+pub fn starts_with(f: &[u8], p: &[u8]) -> bool {
+    // SAFETY: as above.
+    unsafe { gontsamy_starts_with(f.as_ptr(), f.len(), p.as_ptr(), p.len()) == 1 }
 }

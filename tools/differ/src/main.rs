@@ -6,6 +6,8 @@
 mod bundles;
 #[cfg(host)]
 mod host;
+#[cfg(host)]
+mod names;
 
 #[cfg(host)]
 fn main() -> std::process::ExitCode {
@@ -22,6 +24,14 @@ fn main() -> std::process::ExitCode {
             _ => return usage(),
         },
         ["short"] => bundles::short(),
+        ["names", seed, count] => match (number(seed), number(count)) {
+            (Some(seed), Some(count)) => names::compare(seed, count),
+            _ => return usage(),
+        },
+        ["measure", "names", who, times] => match number(times) {
+            Some(times) => names::measure(who, times),
+            _ => return usage(),
+        },
         ["measure", which, times] => match number(times) {
             Some(times) => bundles::measure(which, times),
             _ => return usage(),
@@ -41,7 +51,9 @@ fn usage() -> std::process::ExitCode {
         "usage: differ bundles SEED COUNT    generated bundles\n\
          \x20      differ damaged SEED COUNT    every truncation and single-byte change of small bundles\n\
          \x20      differ short                 every byte string of at most 4 bytes\n\
-         \x20      differ measure WHO TIMES     WHO is port or tools: checks of the largest bundle"
+         \x20      differ names SEED COUNT      prefixes and keywords\n\
+         \x20      differ measure WHO TIMES     WHO is port or tools: checks of the largest bundle\n\
+         \x20      differ measure names WHO TIMES   WHO is port or original: prefixes and keywords"
     );
     std::process::ExitCode::from(2)
 }
