@@ -1,0 +1,26 @@
+use borrow.Author.Needs.{needs}
+use mathlib.Core.Path.{_≡_, refl, sym, ap, _∙_}
+use Rattle.bundle.specs.Read.{numberOf, placeOf}
+use Rattle.bundle.proofs.bundle_number.Statement.{statement}
+use Rattle.bundle.proofs.bundle_number.Tie as tie
+
+check-requires : tie.Need-check-requires
+check-requires c κs = search needs
+
+enum-told : tie.Need-enum-told
+enum-told c = search needs
+
+enum-known-told : tie.Need-enum-known-told
+enum-known-told c = search needs
+
+returns : tie.Need-returns
+unfolding numberOf
+returns c = rw (sym ((c .before .before .check) .ensures) ∙ (c .enum-told) .given .1)
+
+returns-2 : tie.Need-returns-2
+unfolding numberOf
+returns-2 c = rw (sym ((c .before .before .before .check) .ensures) ∙ (c .before .told) .given .1)
+
+pub bundle-number-spec : {M : Type 1} → statement M
+bundle-number-spec =
+    tie.close (tie.spec check-requires enum-told enum-known-told returns returns-2)
