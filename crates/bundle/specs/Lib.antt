@@ -22,3 +22,4 @@ pub mod CompleteItems
 pub mod CompleteBundle
 pub mod Marks
 pub mod Theorems
+pub mod Numbers
