@@ -2,9 +2,9 @@
 use Prim.Native.Nat.{ℕ, zero, suc, _+_, _-_, _*_, _≤_, _<_}
 use native.Mathlib.Omega.{arith}
 use native.Mathlib.Numerals.{add-one}
-use mathlib.Core.Bool.{Bool, true, false, cond, _&&_, _||_}
+use mathlib.Core.Bool.{Bool, true, false, cond, _||_}
 use mathlib.Core.Path.{_≡_, refl, sym, ap, _∙_}
-use mathlib.Core.List.{List, [], _∷_, _++_, map, append-nil, append-assoc}
+use mathlib.Core.List.{List, [], _∷_, _++_, append-nil, append-assoc}
 use Rattle.names.specs.Bytes.{same, member}
 use Rattle.names.specs.Path.{root}
 use Rattle.names.specs.Prefix.{directlyIn}

@@ -1,8 +1,8 @@
 // Operations as functions for programs in other languages: numbers and byte slices alone, each with the contract of the
 // operation that it calls.
 ghost use mathlib.Core.Path.{_≡_};
-ghost use Rattle.bundle.specs.Read.{verdict};
-ghost use Rattle.host.specs.Told.{bitOf, numberOf, placeTold};
+ghost use Rattle.bundle.specs.Read.{numberOf, verdict};
+ghost use Rattle.host.specs.Told.{bitOf, placeTold};
 ghost use Rattle.names.specs.Keywords.{isKeyword};
 ghost use Rattle.names.specs.Prefix.{startsWith};
 

@@ -1,6 +1,9 @@
 //! `bundle::check` against the reader of tools/format.
 
+use std::collections::BTreeMap;
+
 use bundle_format::{Body, Bundle, File, Item, Refusal};
+use bundle_generate::rng::Rng;
 
 use crate::host;
 
@@ -97,6 +100,76 @@ pub fn short() -> u64 {
         }
     }
     tally.tell()
+}
+
+fn damage(bytes: &mut [u8], rng: &mut Rng) {
+    for _ in 0..1 + rng.below(3) {
+        let at = rng.below(bytes.len());
+        bytes[at] = match rng.below(4) {
+            0 => rng.below(256) as u8,
+            1 => bytes[at].wrapping_add(1),
+            2 => bytes[at].wrapping_sub(1),
+            _ => bytes[rng.below(bytes.len())],
+        };
+    }
+}
+
+/// A bundle with one file that has an item's bytes so many times.
+fn filled(item: &[u8], count: usize) -> Vec<u8> {
+    let items = item.repeat(count);
+    let length = |bytes: &[u8]| (bytes.len() as u16).to_be_bytes();
+    let fields = [
+        &[1, b'/', 0, 0, 1, 2, b'/', b'm'][..],
+        &length(&items),
+        &items,
+    ]
+    .concat();
+    [&[1][..], &length(&fields), &fields].concat()
+}
+
+/// Writes the files `stdin` and `stdout` of crates/bundle_vectors: `count` small bundles, good or
+/// damaged, of each number, at different places, and bundles at and over the limits of items and
+/// uses, with what tools/format says of them.
+pub fn sample(count: usize) -> std::io::Result<()> {
+    let mut found: BTreeMap<u8, Vec<(usize, Vec<u8>)>> = BTreeMap::new();
+    let mut rng = Rng::new(7, 7);
+    for index in 0..400_000 {
+        let mut bytes = bundle_generate::bundle(7, index, None);
+        if bytes.len() > 400 {
+            continue;
+        }
+        if rng.below(2) == 0 && !bytes.is_empty() {
+            damage(&mut bytes, &mut rng);
+        }
+        let (number, place) = expected(&bytes);
+        let list = found.entry(number).or_default();
+        if list.len() < count && list.iter().all(|(other, _)| *other != place || number == 0) {
+            list.push((place, bytes));
+        }
+    }
+    let (ignored, empty_use) = ([0, 2, 6, 0], [0, 4, 3, 0, 0, 0]);
+    for bytes in [
+        filled(&ignored, 1024),
+        filled(&ignored, 1025),
+        filled(&empty_use, 256),
+        filled(&empty_use, 257),
+    ] {
+        let (number, place) = expected(&bytes);
+        found.entry(number).or_default().push((place, bytes));
+    }
+    let (mut input, mut output) = (Vec::new(), String::new());
+    for (number, list) in found {
+        for (place, bytes) in list {
+            input.extend_from_slice(&(bytes.len() as u32).to_be_bytes());
+            input.extend_from_slice(&bytes);
+            output += &match number {
+                0 => "ok\n".to_string(),
+                _ => format!("no {number} {place}\n"),
+            };
+        }
+    }
+    std::fs::write("stdin", input)?;
+    std::fs::write("stdout", output)
 }
 
 /// The largest bundle: 65,538 bytes, 64 folders, 64 files, 1,024 items.

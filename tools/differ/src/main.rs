@@ -24,6 +24,14 @@ fn main() -> std::process::ExitCode {
             _ => return usage(),
         },
         ["short"] => bundles::short(),
+        ["sample", count] => match number(count).map(|count| bundles::sample(count as usize)) {
+            Some(Ok(())) => 0,
+            Some(Err(error)) => {
+                eprintln!("differ: {error}");
+                1
+            }
+            None => return usage(),
+        },
         ["names", seed, count] => match (number(seed), number(count)) {
             (Some(seed), Some(count)) => names::compare(seed, count),
             _ => return usage(),
@@ -51,6 +59,7 @@ fn usage() -> std::process::ExitCode {
         "usage: differ bundles SEED COUNT    generated bundles\n\
          \x20      differ damaged SEED COUNT    every truncation and single-byte change of small bundles\n\
          \x20      differ short                 every byte string of at most 4 bytes\n\
+         \x20      differ sample COUNT          the files stdin and stdout of crates/bundle_vectors\n\
          \x20      differ names SEED COUNT      prefixes and keywords\n\
          \x20      differ measure WHO TIMES     WHO is port or tools: checks of the largest bundle\n\
          \x20      differ measure names WHO TIMES   WHO is port or original: prefixes and keywords"

@@ -1,9 +1,7 @@
 use borrow.Author.Needs.{needs}
-use mathlib.Core.Path.{_≡_, refl, sym, ap, _∙_}
+use mathlib.Core.Path.{sym}
 use native.Mathlib.Omega.{arith}
-use Prim.Native.Nat.{ℕ, _+_, _-_, _≤_, _<_}
-use lib.ListN.{length, getD, take, drop, List·getD-eq-default, length-drop}
-use lib.Seq.{take-all}
+use lib.ListN.{List·getD-eq-default}
 use Rattle.bundle.proofs.bytes.byte_at.Statement.{statement}
 use Rattle.bundle.proofs.bytes.byte_at.Tie as tie
 

@@ -1,12 +1,8 @@
 use borrow.Author.Needs.{needs}
-use mathlib.Core.Path.{_≡_, refl, sym, ap, _∙_}
+use mathlib.Core.Path.{_≡_, sym, _∙_}
 use native.Mathlib.Omega.{arith}
-use Prim.Native.Nat.{ℕ, _+_, _-_, _≤_, _<_}
-use lib.ListN.{length, getD}
-use borrow.Author.Tests.{lt-ltb, le-ltb, le-leb, lt-leb, eq-eqb, ne-eqb}
-use Rattle.bundle.specs.declared.Scan.the-variants.{Next, Bad}
-use Rattle.bundle.specs.Steps.{string-next}
-use Rattle.bundle.specs.Scan.{byte, word, text, scanString, scanFormed, scanPath, scanName, scanAlias, scanField, scanCount, scanList, scanUse, scanLength, scanMark, scanEnd, times}
+use Prim.Native.Nat.{_-_}
+use Rattle.bundle.specs.Scan.{scanField, times}
 use Rattle.bundle.specs.Steps.{times-next, times-bad, times-done}
 use Rattle.bundle.proofs.fields.fields_end.Statement.{statement}
 use Rattle.bundle.proofs.fields.fields_end.Tie as tie

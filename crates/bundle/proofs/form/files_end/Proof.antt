@@ -1,15 +1,10 @@
 use borrow.Author.Needs.{needs}
-use mathlib.Core.Path.{_≡_, refl, sym, ap, _∙_}
+use mathlib.Core.Path.{_≡_, sym, _∙_}
 use native.Mathlib.Omega.{arith}
-use Prim.Native.Nat.{ℕ, suc, _+_, _-_, _*_, _≤_, _<_}
-use lib.ListN.{length, getD}
-use borrow.Author.Tests.{lt-ltb, le-ltb, le-leb, lt-leb, eq-eqb, ne-eqb}
+use Prim.Native.Nat.{_-_, _≤_}
 use Rattle.bundle.specs.Limits.{item-limit, use-limit}
-use Rattle.bundle.specs.Steps.{length-next, formed-next, string-next}
-use Rattle.names.specs.Path.{isPath}
 use Rattle.bundle.specs.Walks.{file-goes, files-next, files-fault, files-done}
-use Rattle.bundle.specs.Scan.{scanFile, scanFiles, scanHeader}
-use Rattle.bundle.specs.Read.{files, lists, form}
+use Rattle.bundle.specs.Scan.{scanFiles}
 use Rattle.bundle.proofs.form.files_end.Statement.{statement}
 use Rattle.bundle.proofs.form.files_end.Tie as tie
 

@@ -1,15 +1,6 @@
 use borrow.Author.Needs.{needs}
-use mathlib.Core.Path.{_≡_, refl, sym, ap, _∙_}
-use native.Mathlib.Omega.{arith}
-use Prim.Native.Nat.{ℕ, suc, _+_, _-_, _*_, _≤_, _<_}
-use lib.ListN.{length, getD}
-use borrow.Author.Tests.{lt-ltb, le-ltb, le-leb, lt-leb, eq-eqb, ne-eqb}
-use Rattle.bundle.specs.Limits.{item-limit, use-limit}
-use Rattle.bundle.specs.Steps.{length-next, formed-next, string-next}
-use Rattle.names.specs.Path.{isPath}
-use Rattle.bundle.specs.Walks.{file-goes, files-next, files-fault, files-done}
-use Rattle.bundle.specs.Scan.{scanFile, scanFiles, scanHeader}
-use Rattle.bundle.specs.Read.{files, lists, form}
+use mathlib.Core.Path.{sym, _∙_}
+use Rattle.bundle.specs.Read.{lists}
 use Rattle.bundle.proofs.form.lists_form.Statement.{statement}
 use Rattle.bundle.proofs.form.lists_form.Tie as tie
 

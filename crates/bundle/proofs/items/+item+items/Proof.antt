@@ -2,16 +2,14 @@ use borrow.Author.Needs.{needs}
 use Prim.Native.Nat.{ℕ, _<_}
 use borrow.Fn.Kinds.{In}
 use borrow.Fn.PlainCycle.{Measures, is, falls, and}
-use mathlib.Core.Path.{_≡_, refl, sym, ap, _∙_}
+use mathlib.Core.Path.{_≡_, refl, sym, _∙_}
 use native.Mathlib.Omega.{arith}
-use Prim.Native.Nat.{ℕ, suc, _+_, _-_, _*_, _≤_, _<_}
-use lib.ListN.{length, getD}
-use borrow.Author.Tests.{lt-ltb, le-ltb, le-leb, lt-leb, eq-eqb, ne-eqb}
+use Prim.Native.Nat.{ℕ, _+_, _-_, _*_, _≤_, _<_}
 use Rattle.bundle.specs.Limits.{item-limit, use-limit}
-use Rattle.bundle.specs.Steps.{length-next, mark-next, Head, head-next, formed-next, string-next}
+use Rattle.bundle.specs.Steps.{head-next, formed-next, string-next}
 use Rattle.names.specs.Identifier.{isIdentifier}
-use Rattle.bundle.specs.Walks.{Went, goes, siblings-next, siblings-fault, siblings-done, head-fault, too-deep, name-fault, enters, leaf-fault, leaf-past}
-use Rattle.bundle.specs.Scan.{usesAfter, scanHead, scanBody, scanEnd, scanItem, scanItems, siblings}
+use Rattle.bundle.specs.Walks.{goes, siblings-next, siblings-fault, siblings-done, head-fault, too-deep, name-fault, enters, leaf-fault, leaf-past}
+use Rattle.bundle.specs.Scan.{scanItem, scanItems}
 use Rattle.bundle.proofs.items.item.Reads as item
 use Rattle.bundle.proofs.items.item.Kinds as item-kinds
 use Rattle.bundle.proofs.items.+item+items.Lts-item as item-lts

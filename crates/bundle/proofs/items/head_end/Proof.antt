@@ -1,14 +1,9 @@
 use borrow.Author.Needs.{needs}
-use mathlib.Core.Path.{_≡_, refl, sym, ap, _∙_}
+use mathlib.Core.Path.{sym, _∙_}
 use native.Mathlib.Omega.{arith}
-use Prim.Native.Nat.{ℕ, suc, _+_, _-_, _*_, _≤_, _<_}
-use lib.ListN.{length, getD}
-use borrow.Author.Tests.{lt-ltb, le-ltb, le-leb, lt-leb, eq-eqb, ne-eqb}
-use Rattle.bundle.specs.Limits.{item-limit, use-limit}
-use Rattle.bundle.specs.Steps.{length-next, mark-next, Head, head-next, formed-next, string-next}
-use Rattle.names.specs.Identifier.{isIdentifier}
-use Rattle.bundle.specs.Walks.{Went, goes, siblings-next, siblings-fault, siblings-done, head-fault, too-deep, name-fault, enters, leaf-fault, leaf-past}
-use Rattle.bundle.specs.Scan.{usesAfter, scanHead, scanBody, scanEnd, scanItem, scanItems, siblings}
+use borrow.Author.Tests.{lt-ltb, le-ltb, le-leb, lt-leb}
+use Rattle.bundle.specs.Steps.{length-next}
+use Rattle.bundle.specs.Scan.{scanHead}
 use Rattle.bundle.proofs.items.head_end.Statement.{statement}
 use Rattle.bundle.proofs.items.head_end.Tie as tie
 
