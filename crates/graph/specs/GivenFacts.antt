@@ -15,6 +15,7 @@ use Rattle.graph.specs.declared.Linearized.{Linearized}
 use Rattle.graph.specs.Limits.{unit-limit, id-limit}
 use Rattle.graph.specs.Given.{depsOf, below, all, counted, fits, knows, fitting, known, refusal, answer, numbered, linearizeGiven}
 use Rattle.graph.specs.Linearize.{linearize}
+use Rattle.graph.specs.Order.{Within}
 use Rattle.graph.specs.State.{Sound}
 
 and-left : (a b : Bool) → a && b ≡ true → a ≡ true
@@ -151,17 +152,23 @@ accepted true true false e = absurd (omega arith)
 accepted true false c e = absurd (omega arith)
 accepted false b c e = absurd (omega arith)
 
-pub sound-of : (g : Graph) → length (g .ids) ≡ id-limit → refusal g ≡ 0 → Sound g
-unfolding refusal
-sound-of g long e =
-    let t = accepted (counted g) (fitting g) (known g) e in
-    let n = counts g (t .0) in
-    record {
-      small = n .1;
-      ids-long = long;
-      within = record { some = n .0; lists = λ u d h m. list-known g u d (t .2) h m };
-      rooms = λ u h. let f = list-fits g u (t .1) h in let k = n .2 in omega arith;
-    }
+module _ (g : Graph) (e : refusal g ≡ 0) where
+  tests : (counted g ≡ true) × (fitting g ≡ true) × (known g ≡ true)
+  unfolding refusal
+  tests = accepted (counted g) (fitting g) (known g) e
+
+  pub within-of : Within (depsOf g) (g .units)
+  within-of = record { some = counts g (tests .0) .0; lists = λ u d h m. list-known g u d (tests .2) h m }
+
+  pub sound-of : length (g .ids) ≡ id-limit → Sound g
+  sound-of long =
+      let n = counts g (tests .0) in
+      record {
+        small = n .1;
+        ids-long = long;
+        within = within-of;
+        rooms = λ u h. let f = list-fits g u (tests .1) h in let k = n .2 in omega arith;
+      }
 
 -- the tests in the code's order
 module _ (g : Graph) where

@@ -8,3 +8,5 @@ pub mod State
 pub mod Arrays
 pub mod Steps
 pub mod GivenFacts
+pub mod GivenTheorems
+pub mod Corners

@@ -18,7 +18,8 @@ refusal-requires c κs = search needs
 
 -- src/linearization.rt:210:9
 linearize-requires : tie.Need-linearize-requires
-linearize-requires c κs = sound-of (c .before .before .args .g) (search needs) (sym (c .before .refusal .ensures) ∙ c .if1 .taken)
+linearize-requires c κs =
+    sound-of (c .before .before .args .g) (sym (c .before .refusal .ensures) ∙ c .if1 .taken) (search needs)
 
 -- src/linearization.rt:210:9
 returns : tie.Need-returns
