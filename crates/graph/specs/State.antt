@@ -44,11 +44,12 @@ pub record Fine (w : Search) : Type 0 where
   pub full : w .count ≤ unit-limit
   pub flags : (x : ℕ) → x < unit-limit → getD (w .visited) x false ≡ memb x (orderOf w)
 
--- what holds where unit u is visited
+-- what holds where unit u, which is not done, is visited
 pub record Ready (g : Graph) (w : Search) (u : ℕ) : Type 0 where
   pub sound : Sound g
   pub fine : Fine w
   pub on : On (depsOf g) (g .units) (sound .within) (visitingOf w) (suc (g .units) - w .depth)
+  pub new : memb u (orderOf w) ≡ false
   pub done : Done (depsOf g) (orderOf w)
   pub apart : Apart (depsOf g) (visitingOf w) (orderOf w)
   pub trail : Trail (depsOf g) (visitingOf w) u

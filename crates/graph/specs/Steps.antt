@@ -114,27 +114,14 @@ module _ (g : Graph) (w : Search) (u : ℕ) (R : Ready g w u) where
   pub fuel' : suc (g .units) - (w .depth + 1) ≡ g .units - w .depth
   fuel' = let d = deep in omega arith
 
-  pub was-done : getD (w .visited) u false ≡ true → Visited g w u w
-  was-done e =
-      record {
-        answer = rw (R .fine .ok, fuel) (sym (visit-done _ _ _ _ _ (sym (R .fine .flags u u-small) ∙ e)));
-        fine = λ q. R .fine;
-        depth = λ q. refl;
-        stack = λ q. refl;
-        closed = λ q. let o = R .fine .ok in let z : _≡_ {A = ℕ} 0 1 = cc in absurd (omega arith);
-      }
-
-  module _ (new : getD (w .visited) u false ≡ false) (p : ℕ) (at : p ≡ index u (visitingOf w)) where
-    not-done : memb u (orderOf w) ≡ false
-    not-done = sym (R .fine .flags u u-small) ∙ new
-
+  module _ (p : ℕ) (at : p ≡ index u (visitingOf w)) where
     on-stack : memb u (visitingOf w) ≡ ltb p (w .depth)
     on-stack = memb-index u (visitingOf w) ∙ rw (at, stack-length)
 
     pub met : p < w .depth → Visited g w u (ringed w p)
     met h =
         record {
-          answer = rw (fuel, at) (sym (visit-ring _ _ _ _ _ not-done (on-stack ∙ lt-ltb p (w .depth) h) ∙ ap ring (from-index u (visitingOf w))));
+          answer = rw (fuel, at) (sym (visit-ring _ _ _ _ _ (R .new) (on-stack ∙ lt-ltb p (w .depth) h) ∙ ap ring (from-index u (visitingOf w))));
           fine = λ q. let z : _≡_ {A = ℕ} 0 1 = cc in absurd (omega arith);
           depth = λ q. refl;
           stack = λ q. refl;
@@ -148,11 +135,16 @@ module _ (g : Graph) (w : Search) (u : ℕ) (R : Ready g w u) where
       on' : On (depsOf g) (g .units) (R .sound .within) (visitingOf w ++ (u ∷ [])) (g .units - w .depth)
       on' = on-push (depsOf g) (g .units) (R .sound .within) (rw fuel at (R .on)) (memb-false u (visitingOf w) not-on) (R .below) (R .reach)
 
-      pub room : w .depth < unit-limit
-      room =
-          let S = R .sound in
+      off-walk : w .depth < g .units
+      off-walk =
           let q = stack-length in
           omega (arith, length-append (visitingOf w) (u ∷ []), pigeons (g .units) (visitingOf w ++ (u ∷ [])) (on' .once) (on' .below))
+
+      pub room : w .depth < unit-limit
+      room = let S = R .sound in let h = off-walk in omega arith
+
+      fuel'' : suc (g .units) - (w .depth + 1) ≡ suc (g .units - (w .depth + 1))
+      fuel'' = let h = off-walk in omega arith
 
       stack' : visitingOf (pushed w u) ≡ visitingOf w ++ (u ∷ [])
       stack' = rw add-one (take-suc-set (w .visiting) (w .depth) u (let r = room in let F = R .fine in omega arith))
@@ -172,7 +164,7 @@ module _ (g : Graph) (w : Search) (u : ℕ) (R : Ready g w u) where
             depth = refl;
             stack = refl;
             done = R .done;
-            apart = rw stack' (λ y m m'. ⊎-elim (λ k. R .apart y k m') (λ q. memb-false u (orderOf w) not-done (Memᴰ·cast (sym q) m')) (mem-snoc (visitingOf w) m));
+            apart = rw stack' (λ y m m'. ⊎-elim (λ k. R .apart y k m') (λ q. memb-false u (orderOf w) (R .new) (Memᴰ·cast (sym q) m')) (mem-snoc (visitingOf w) m));
             upto = omega arith;
             rest = refl;
           }
@@ -183,7 +175,7 @@ module _ (g : Graph) (w : Search) (u : ℕ) (R : Ready g w u) where
       -- the definition at w, by the walk of the units that u lists
       opened : visit (depsOf g) (suc (g .units) - w .depth) (visitingOf w) (orderOf w) u
           ≡ andThen (each (visit (depsOf g) (suc (g .units) - (w .depth + 1)) (visitingOf (pushed w u))) u (orderOf w) (depsOf g u)) (λ o'. order (o' ++ (u ∷ [])))
-      opened = rw (fuel, fuel', stack') (visit-more _ _ _ _ _ not-done not-on)
+      opened = rw (fuel, fuel', stack') (visit-more _ _ _ _ _ (R .new) not-on)
 
       module _ (x : Search) (i : ℕ) (T : Turn g u (pushed w u) x i) where
         module _ (more : i < getD (g .len) u 0) where
@@ -210,58 +202,86 @@ module _ (g : Graph) (w : Search) (u : ℕ) (R : Ready g w u) where
             edge : Edge (depsOf g) u d
             edge = record { other = ne; listed = Memᴰ·cast (is ∙ sym at-i) (mem-getD (depsOf g u) i within) }
 
-            pub call-ready : Ready g x d
-            call-ready =
+            d-below : d < g .units
+            d-below = R .sound .within .lists u d (R .below) (edge .listed)
+
+            pub id-small : d < unit-limit
+            id-small = let S = R .sound in let h = d-below in omega arith
+
+            -- the walk of the list, from what it makes of d
+            passed : (z : Out) → visit (depsOf g) (suc (g .units) - (w .depth + 1)) (visitingOf (pushed w u)) (orderOf x) d ≡ z
+                → each (visit (depsOf g) (suc (g .units) - (w .depth + 1)) (visitingOf (pushed w u))) u (orderOf w) (depsOf g u)
+                ≡ andThen z (λ o'. each (visit (depsOf g) (suc (g .units) - (w .depth + 1)) (visitingOf (pushed w u))) u o' (drop (i + 1) (depsOf g u)))
+            passed z res =
+                let v = visit (depsOf g) (suc (g .units) - (w .depth + 1)) (visitingOf (pushed w u)) in
+                let at-d : getD (depsOf g u) i 0 ≡ d = at-i ∙ sym is in
+                T .rest ∙ each-take v u (orderOf x) (depsOf g u) i within (λ q. ne (sym at-d ∙ q)) ∙ rw (at-d, res)
+
+            flag-d : memb d (orderOf x) ≡ getD (x .visited) d false
+            flag-d = sym (T .fine .flags d id-small)
+
+            pub done-turn : getD (x .visited) d false ≡ true → Turn g u (pushed w u) x (i + 1)
+            done-turn e =
                 record {
-                  sound = R .sound;
                   fine = T .fine;
-                  on = rw (T .stack, stack', T .depth, fuel') on';
+                  depth = T .depth;
+                  stack = T .stack;
                   done = T .done;
-                  apart = rw (T .stack) (T .apart);
-                  trail = rw (T .stack, stack') (trail-snoc (depsOf g) (visitingOf w) (R .trail) edge);
-                  below = R .sound .within .lists u d (R .below) (edge .listed);
-                  reach = path-join (R .reach) (step edge here);
+                  apart = T .apart;
+                  upto = let h = within in omega arith;
+                  rest = passed (order (orderOf x)) (rw fuel'' (visit-done _ _ _ _ _ (flag-d ∙ e)));
                 }
 
-            pub call-less : suc (g .units) - x .depth < suc (g .units) - w .depth
-            call-less = let d = deep in omega (arith, T .depth)
+            pub call-less : g .units - x .depth < g .units - w .depth
+            call-less = let h = off-walk in omega (arith, T .depth)
 
-            module _ (r : Search) (W : Visited g x d r) where
-              came : (z : Out) → outOf r ≡ z → each (visit (depsOf g) (suc (g .units) - (w .depth + 1)) (visitingOf (pushed w u))) u (orderOf w) (depsOf g u)
-                  ≡ andThen z (λ o'. each (visit (depsOf g) (suc (g .units) - (w .depth + 1)) (visitingOf (pushed w u))) u o' (drop (i + 1) (depsOf g u)))
-              came z e =
-                  let v = visit (depsOf g) (suc (g .units) - (w .depth + 1)) (visitingOf (pushed w u)) in
-                  let at-d : getD (depsOf g u) i 0 ≡ d = at-i ∙ sym is in
-                  let res : v (orderOf x) d ≡ z = rw (T .stack, T .depth) at (sym (W .answer) ∙ e) in
-                  T .rest ∙ each-take v u (orderOf x) (depsOf g u) i within (λ q. ne (sym at-d ∙ q)) ∙ rw (at-d, res)
-
-              pub after-call : r .ok ≡ true → Turn g u (pushed w u) r (i + 1)
-              unfolding call-ready
-              after-call ok =
-                  let C = call-ready in
-                  let Q = visit-right (depsOf g) (g .units) (R .sound .within) (suc (g .units) - x .depth) (visitingOf x) (orderOf x) d (C .on) (C .done) (C .apart) (C .trail) (C .below) (C .reach) in
-                  let out : outOf r ≡ order (orderOf r) = rw ok in
-                  let P : Post (depsOf g) (visitingOf x) (orderOf x) (λ o'. List·Memᴰ d o') (order (orderOf r)) = rw (← W .answer, out) at Q in
+            module _ (new : getD (x .visited) d false ≡ false) where
+              pub call-ready : Ready g x d
+              call-ready =
                   record {
-                    fine = W .fine ok;
-                    depth = W .depth ok ∙ T .depth;
-                    stack = W .stack ok ∙ T .stack;
-                    done = P .0 .done;
-                    apart = rw (T .stack) at (P .0 .apart);
-                    upto = let h = within in omega arith;
-                    rest = came (order (orderOf r)) out;
+                    sound = R .sound;
+                    fine = T .fine;
+                    on = rw (T .stack, stack', T .depth, fuel') on';
+                    new = flag-d ∙ new;
+                    done = T .done;
+                    apart = rw (T .stack) (T .apart);
+                    trail = rw (T .stack, stack') (trail-snoc (depsOf g) (visitingOf w) (R .trail) edge);
+                    below = d-below;
+                    reach = path-join (R .reach) (step edge here);
                   }
 
-              pub call-ring : r .ok ≡ false → Visited g w u r
-              call-ring ok =
-                  let out : outOf r ≡ ring (drop (r .ring) (visitingOf r)) = rw ok in
-                  record {
-                    answer = out ∙ sym (opened ∙ ap (λ (z : Out). andThen z (λ o'. order (o' ++ (u ∷ [])))) (came _ out));
-                    fine = λ q. let z : _≡_ {A = ℕ} 0 1 = cc in absurd (omega arith);
-                    depth = λ q. let z : _≡_ {A = ℕ} 0 1 = cc in absurd (omega arith);
-                    stack = λ q. let z : _≡_ {A = ℕ} 0 1 = cc in absurd (omega arith);
-                    closed = W .closed;
-                  }
+              module _ (r : Search) (W : Visited g x d r) where
+                came : (z : Out) → outOf r ≡ z → each (visit (depsOf g) (suc (g .units) - (w .depth + 1)) (visitingOf (pushed w u))) u (orderOf w) (depsOf g u)
+                    ≡ andThen z (λ o'. each (visit (depsOf g) (suc (g .units) - (w .depth + 1)) (visitingOf (pushed w u))) u o' (drop (i + 1) (depsOf g u)))
+                came z e = passed z (rw (T .stack, T .depth) at (sym (W .answer) ∙ e))
+
+                pub after-call : r .ok ≡ true → Turn g u (pushed w u) r (i + 1)
+                unfolding call-ready
+                after-call ok =
+                    let C = call-ready in
+                    let Q = visit-right (depsOf g) (g .units) (R .sound .within) (suc (g .units) - x .depth) (visitingOf x) (orderOf x) d (C .on) (C .done) (C .apart) (C .trail) (C .below) (C .reach) in
+                    let out : outOf r ≡ order (orderOf r) = rw ok in
+                    let P : Post (depsOf g) (visitingOf x) (orderOf x) (λ o'. List·Memᴰ d o') (order (orderOf r)) = rw (← W .answer, out) at Q in
+                    record {
+                      fine = W .fine ok;
+                      depth = W .depth ok ∙ T .depth;
+                      stack = W .stack ok ∙ T .stack;
+                      done = P .0 .done;
+                      apart = rw (T .stack) at (P .0 .apart);
+                      upto = let h = within in omega arith;
+                      rest = came (order (orderOf r)) out;
+                    }
+
+                pub call-ring : r .ok ≡ false → Visited g w u r
+                call-ring ok =
+                    let out : outOf r ≡ ring (drop (r .ring) (visitingOf r)) = rw ok in
+                    record {
+                      answer = out ∙ sym (opened ∙ ap (λ (z : Out). andThen z (λ o'. order (o' ++ (u ∷ [])))) (came _ out));
+                      fine = λ q. let z : _≡_ {A = ℕ} 0 1 = cc in absurd (omega arith);
+                      depth = λ q. let z : _≡_ {A = ℕ} 0 1 = cc in absurd (omega arith);
+                      stack = λ q. let z : _≡_ {A = ℕ} 0 1 = cc in absurd (omega arith);
+                      closed = W .closed;
+                    }
 
         fresh : List·Memᴰ u (orderOf x) → ⊥
         fresh m = T .apart u (rw stack' (Memᴰ·append-right (visitingOf w) (List·Memᴰ·head refl))) m
@@ -325,6 +345,7 @@ ready g S =
       sound = S;
       fine = record { visited-long = refl; visiting-long = refl; order-long = refl; ok = refl; deep = omega arith; full = omega arith; flags = λ x h. getD-replicate unit-limit x };
       on = record { once = none; below = λ x m. absurd (List·Memᴰ·not-nil m); reach = λ x m. absurd (List·Memᴰ·not-nil m); left = omega arith };
+      new = refl;
       done = start;
       apart = λ x m m'. List·Memᴰ·not-nil m;
       trail = record { begins = refl; chains = tt };

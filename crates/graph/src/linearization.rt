@@ -47,14 +47,13 @@ fn position(l: &[u16; UNITS], n: usize, u: u16) -> usize
     i
 }
 
+// The walk at u, which is not done: a ring where u is being visited, or else all that it lists and then u. What is done is
+// tested before the call, so that it costs none.
 fn dfs_linearize(g: Graph, s: Search, u: u16) -> Search
     requires { ⌜ Ready g s u ⌝ }
     ensures { λ r. ⌜ Visited g s u r ⌝ }
 {
     let at = u as usize;
-    if s.visited[at] {
-        return s;
-    }
     let depth = s.depth;
     let p = position(&s.visiting, depth, u);
     let mut x = s;
@@ -72,9 +71,12 @@ fn dfs_linearize(g: Graph, s: Search, u: u16) -> Search
         let d = g.ids[first + i];
         // A unit that lists itself is no ring.
         if d != u {
-            x = dfs_linearize(g, x, d);
-            if !x.ok {
-                return x;
+            let done = x.visited[d as usize];
+            if !done {
+                x = dfs_linearize(g, x, d);
+                if !x.ok {
+                    return x;
+                }
             }
         }
         i += 1;

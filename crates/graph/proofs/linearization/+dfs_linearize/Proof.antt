@@ -1,634 +1,248 @@
 -- `linearization::dfs_linearize` walks as the definition does: a step of specs/Steps for each test of the code. The measure is the number of units off the walk. Assumes nothing.
 use native.Mathlib.Omega.{arith}
 use mathlib.Core.Logic.{⊎-elim}
-use mathlib.Core.Path.{_≡_, refl, sym, ap, subst, _∙_}
-use Prim.Native.Nat.{ℕ, suc, _<_, _-_, _+_}
+use mathlib.Core.Path.{_≡_, refl}
+use Prim.Native.Nat.{ℕ, _≤_, _<_, _-_, _+_}
 use borrow.Author.Tests.{not-true, not-false}
-use lib.ListN.{length, take, getD}
-use Rattle.graph.specs.State.{Ready, Visited, Sound, Fine}
-use Rattle.graph.specs.Steps.{Turn, pushed, popped, ringed, was-done, met, begin, deep, u-small, room, same-turn, call-ready, call-less, after-call, call-ring, count-room, finish}
 use borrow.Fn.Kinds.{In}
 use borrow.Fn.PlainCycle.{Measures, is, falls, and}
-use Rattle.graph.proofs.linearization.dfs_linearize.Reads as dfs-linearize
-use Rattle.graph.proofs.linearization.dfs_linearize.Kinds as dfs-linearize-kinds
-use Rattle.graph.proofs.linearization.+dfs_linearize.Lts-dfs_linearize as dfs-linearize-lts
+use lib.ListN.{getD}
+use Rattle.graph.specs.declared.Graph.{Graph}
+use Rattle.graph.specs.declared.linearization.Search.{Search}
+use Rattle.graph.specs.Limits.{unit-limit, id-limit}
+use Rattle.graph.specs.State.{Ready, index, visitingOf}
+use Rattle.graph.specs.Steps.{Turn, met, begin, u-small, room, pushed, same-turn, done-turn, id-small, call-ready, call-less, after-call, call-ring, count-room, finish}
+use Rattle.graph.proofs.linearization.dfs_linearize.Reads as reads
+use Rattle.graph.proofs.linearization.dfs_linearize.Kinds as kinds
+use Rattle.graph.proofs.linearization.+dfs_linearize.Lts-dfs_linearize as lts
 use Rattle.graph.proofs.linearization.position.Reads as position-reads
 use Rattle.graph.proofs.linearization.+dfs_linearize.{statement}
 use Rattle.graph.proofs.linearization.+dfs_linearize.Tie.{close}
 
-abbrev μ-dfs-linearize : Measures 0 dfs-linearize-kinds.ps ℕ
-μ-dfs-linearize κs a = suc (a .0 .units) - a .1 .0 .depth
+abbrev μ-walk : Measures 0 kinds.ps ℕ
+μ-walk κs a = a .0 .units - a .1 .0 .depth
 
-abbrev dfs-linearize-at : ℕ → In 0 dfs-linearize-kinds.ps
-dfs-linearize-at t =
-    and 0 dfs-linearize-kinds.ps (is 0 dfs-linearize-kinds.ps μ-dfs-linearize t) dfs-linearize.Pre
+abbrev Inv-loop : lts.InvT-loop
+Inv-loop u g at depth p x₀ first len i₀ x i = Turn g u x₀ x i
 
-abbrev dfs-linearize-below : ℕ → In 0 dfs-linearize-kinds.ps
-dfs-linearize-below t =
-    and
-    0
-    dfs-linearize-kinds.ps
-    (falls 0 dfs-linearize-kinds.ps _<_ μ-dfs-linearize t)
-    dfs-linearize.Pre
+abbrev μ-loop : lts.MeasureT-loop
+μ-loop u g at depth p x₀ first len i₀ x i = len - i
 
-abbrev dfs-linearize-Inv-loop : dfs-linearize-lts.InvT-loop
-dfs-linearize-Inv-loop u g at depth p x₀ first len i₀ x i = Turn g u x₀ x i
+module _ (t : ℕ) where
+  abbrev at-t : In 0 kinds.ps
+  at-t = and 0 kinds.ps (is 0 kinds.ps μ-walk t) reads.Pre
 
-abbrev dfs-linearize-μ-loop : dfs-linearize-lts.MeasureT-loop
-dfs-linearize-μ-loop u g at depth p x₀ first len i₀ x i = len - i
+  abbrev below-t : In 0 kinds.ps
+  below-t = and 0 kinds.ps (falls 0 kinds.ps _<_ μ-walk t) reads.Pre
 
--- src/linearization.rt:55:8
-dfs-linearize-element-copy-out-if1 : (t : ℕ) → dfs-linearize-lts.Need-element-copy-out-if1 (
-  position-reads.Asked,
-  position-reads.Learnt,
-  dfs-linearize-below t,
-  dfs-linearize.Post,
-) (dfs-linearize-at t) dfs-linearize.Post dfs-linearize-Inv-loop dfs-linearize-μ-loop
-dfs-linearize-element-copy-out-if1 t c =
-    let s = c in
-    let g = s .args .t1 in
-    let w = s .args .t2 in
-    let u = s .args .u in
-    let R = s .pre .1 in
-    u-small g w u R
+  abbrev claims : lts.Claims
+  claims = (position-reads.Asked, position-reads.Learnt, below-t, reads.Post)
 
--- src/linearization.rt:56:9
-dfs-linearize-returns : (t : ℕ) → dfs-linearize-lts.Need-returns (
-  position-reads.Asked,
-  position-reads.Learnt,
-  dfs-linearize-below t,
-  dfs-linearize.Post,
-) (dfs-linearize-at t) dfs-linearize.Post dfs-linearize-Inv-loop dfs-linearize-μ-loop
-dfs-linearize-returns t c =
-    let s = c .before .before in
-    let g = s .args .t1 in
-    let w = s .args .t2 in
-    let u = s .args .u in
-    let R = s .pre .1 in
-    was-done g w u R (c .if1 .taken)
+  -- THE PLACES OF THE CODE, AND WHAT IS KNOWN THERE
 
--- src/linearization.rt:59:9
-dfs-linearize-position-requires : (t : ℕ) → dfs-linearize-lts.Need-position-requires (
-  position-reads.Asked,
-  position-reads.Learnt,
-  dfs-linearize-below t,
-  dfs-linearize.Post,
-) (dfs-linearize-at t) dfs-linearize.Post dfs-linearize-Inv-loop dfs-linearize-μ-loop
-dfs-linearize-position-requires t c κs =
-    let s = c .before .before .before .before in
-    let g = s .args .t1 in
-    let w = s .args .t2 in
-    let u = s .args .u in
-    let R = s .pre .1 in
-    (R .fine .deep, R .fine .visiting-long)
+  abbrev Start : Type 0
+  Start = lts.Start claims at-t reads.Post Inv-loop μ-loop
 
--- src/linearization.rt:64:9
-dfs-linearize-returns-2 : (t : ℕ) → dfs-linearize-lts.Need-returns-2 (
-  position-reads.Asked,
-  position-reads.Learnt,
-  dfs-linearize-below t,
-  dfs-linearize.Post,
-) (dfs-linearize-at t) dfs-linearize.Post dfs-linearize-Inv-loop dfs-linearize-μ-loop
-dfs-linearize-returns-2 t c =
-    let s = c .before .before .before .before .before .before in
-    let g = s .args .t1 in
-    let w = s .args .t2 in
-    let u = s .args .u in
-    let R = s .pre .1 in
-    met g w u R (c .before .before .before .before .if1 .left) (c .before .position .result) (c .before .position .ensures) (c .if2 .taken)
+  abbrev g : Start → Graph
+  g s = s .args .t1
 
--- src/linearization.rt:66:5
-dfs-linearize-mul-x : (t : ℕ) → dfs-linearize-lts.Need-mul-x (
-  position-reads.Asked,
-  position-reads.Learnt,
-  dfs-linearize-below t,
-  dfs-linearize.Post,
-) (dfs-linearize-at t) dfs-linearize.Post dfs-linearize-Inv-loop dfs-linearize-μ-loop
-dfs-linearize-mul-x t c =
-    let e = c in
-    let s = e .before .before .before .before .before .before in
-    let g = s .args .t1 in
-    let w = s .args .t2 in
-    let u = s .args .u in
-    let R = s .pre .1 in
-    let new = e .before .before .before .before .if1 .left in
-    let p = e .before .position .result in
-    let at = e .before .position .ensures in
-    let off = e .if2 .left in
-    let r = room g w u R new p at off in
-    omega arith
+  abbrev w : Start → Search
+  w s = s .args .t2
 
--- src/linearization.rt:66:5
-dfs-linearize-element-write-x : (t : ℕ) → dfs-linearize-lts.Need-element-write-x (
-  position-reads.Asked,
-  position-reads.Learnt,
-  dfs-linearize-below t,
-  dfs-linearize.Post,
-) (dfs-linearize-at t) dfs-linearize.Post dfs-linearize-Inv-loop dfs-linearize-μ-loop
-dfs-linearize-element-write-x t c =
-    let e = c in
-    let s = e .before .before .before .before .before .before in
-    let g = s .args .t1 in
-    let w = s .args .t2 in
-    let u = s .args .u in
-    let R = s .pre .1 in
-    let new = e .before .before .before .before .if1 .left in
-    let p = e .before .position .result in
-    let at = e .before .position .ensures in
-    let off = e .if2 .left in
-    room g w u R new p at off
+  abbrev u : Start → ℕ
+  u s = s .args .u
 
--- src/linearization.rt:67:15
-dfs-linearize-add-x : (t : ℕ) → dfs-linearize-lts.Need-add-x (
-  position-reads.Asked,
-  position-reads.Learnt,
-  dfs-linearize-below t,
-  dfs-linearize.Post,
-) (dfs-linearize-at t) dfs-linearize.Post dfs-linearize-Inv-loop dfs-linearize-μ-loop
-dfs-linearize-add-x t c =
-    let e = c in
-    let s = e .before .before .before .before .before .before in
-    let g = s .args .t1 in
-    let w = s .args .t2 in
-    let u = s .args .u in
-    let R = s .pre .1 in
-    let new = e .before .before .before .before .if1 .left in
-    let p = e .before .position .result in
-    let at = e .before .position .ensures in
-    let off = e .if2 .left in
-    let r = room g w u R new p at off in
-    omega arith
+  abbrev R : (s : Start) → Ready (g s) (w s) (u s)
+  R s = s .pre .1
 
--- src/linearization.rt:68:17
-dfs-linearize-mul-first : (t : ℕ) → dfs-linearize-lts.Need-mul-first (
-  position-reads.Asked,
-  position-reads.Learnt,
-  dfs-linearize-below t,
-  dfs-linearize.Post,
-) (dfs-linearize-at t) dfs-linearize.Post dfs-linearize-Inv-loop dfs-linearize-μ-loop
-dfs-linearize-mul-first t c =
-    let e = c in
-    let s = e .before .before .before .before .before .before in
-    let g = s .args .t1 in
-    let w = s .args .t2 in
-    let u = s .args .u in
-    let R = s .pre .1 in
-    let new = e .before .before .before .before .if1 .left in
-    let p = e .before .position .result in
-    let at = e .before .position .ensures in
-    let off = e .if2 .left in
-    let r = u-small g w u R in
-    omega arith
+  -- past the ring test: u is not being visited
+  abbrev Off : Type 0
+  Off = lts.Else1 claims at-t reads.Post Inv-loop μ-loop
 
--- src/linearization.rt:68:17
-dfs-linearize-element-copy-out-first : (t : ℕ) → dfs-linearize-lts.Need-element-copy-out-first (
-  position-reads.Asked,
-  position-reads.Learnt,
-  dfs-linearize-below t,
-  dfs-linearize.Post,
-) (dfs-linearize-at t) dfs-linearize.Post dfs-linearize-Inv-loop dfs-linearize-μ-loop
-dfs-linearize-element-copy-out-first t c =
-    let e = c in
-    let s = e .before .before .before .before .before .before in
-    let g = s .args .t1 in
-    let w = s .args .t2 in
-    let u = s .args .u in
-    let R = s .pre .1 in
-    let new = e .before .before .before .before .if1 .left in
-    let p = e .before .position .result in
-    let at = e .before .position .ensures in
-    let off = e .if2 .left in
-    u-small g w u R
+  abbrev s : Off → Start
+  s e = e .before .before .before .before
 
--- src/linearization.rt:68:17
-dfs-linearize-cast-first : (t : ℕ) → dfs-linearize-lts.Need-cast-first (
-  position-reads.Asked,
-  position-reads.Learnt,
-  dfs-linearize-below t,
-  dfs-linearize.Post,
-) (dfs-linearize-at t) dfs-linearize.Post dfs-linearize-Inv-loop dfs-linearize-μ-loop
-dfs-linearize-cast-first t c =
-    let e = c .before in
-    let s = e .before .before .before .before .before .before in
-    let g = s .args .t1 in
-    let w = s .args .t2 in
-    let u = s .args .u in
-    let R = s .pre .1 in
-    let new = e .before .before .before .before .if1 .left in
-    let p = e .before .position .result in
-    let at = e .before .position .ensures in
-    let off = e .if2 .left in
-    omega (arith, R .sound .rooms u (R .below))
+  abbrev p : Off → ℕ
+  p e = e .before .position .result
 
--- src/linearization.rt:69:15
-dfs-linearize-mul-len : (t : ℕ) → dfs-linearize-lts.Need-mul-len (
-  position-reads.Asked,
-  position-reads.Learnt,
-  dfs-linearize-below t,
-  dfs-linearize.Post,
-) (dfs-linearize-at t) dfs-linearize.Post dfs-linearize-Inv-loop dfs-linearize-μ-loop
-dfs-linearize-mul-len t c =
-    let e = c .before in
-    let s = e .before .before .before .before .before .before in
-    let g = s .args .t1 in
-    let w = s .args .t2 in
-    let u = s .args .u in
-    let R = s .pre .1 in
-    let new = e .before .before .before .before .if1 .left in
-    let p = e .before .position .result in
-    let at = e .before .position .ensures in
-    let off = e .if2 .left in
-    let r = u-small g w u R in
-    omega arith
+  abbrev at : (e : Off) → p e ≡ index (u (s e)) (visitingOf (w (s e)))
+  at e = e .before .position .ensures
 
--- src/linearization.rt:69:15
-dfs-linearize-element-copy-out-len : (t : ℕ) → dfs-linearize-lts.Need-element-copy-out-len (
-  position-reads.Asked,
-  position-reads.Learnt,
-  dfs-linearize-below t,
-  dfs-linearize.Post,
-) (dfs-linearize-at t) dfs-linearize.Post dfs-linearize-Inv-loop dfs-linearize-μ-loop
-dfs-linearize-element-copy-out-len t c =
-    let e = c .before in
-    let s = e .before .before .before .before .before .before in
-    let g = s .args .t1 in
-    let w = s .args .t2 in
-    let u = s .args .u in
-    let R = s .pre .1 in
-    let new = e .before .before .before .before .if1 .left in
-    let p = e .before .position .result in
-    let at = e .before .position .ensures in
-    let off = e .if2 .left in
-    u-small g w u R
+  abbrev off : (e : Off) → w (s e) .depth ≤ p e
+  off e = e .if1 .left
 
--- src/linearization.rt:69:15
-dfs-linearize-cast-len : (t : ℕ) → dfs-linearize-lts.Need-cast-len (
-  position-reads.Asked,
-  position-reads.Learnt,
-  dfs-linearize-below t,
-  dfs-linearize.Post,
-) (dfs-linearize-at t) dfs-linearize.Post dfs-linearize-Inv-loop dfs-linearize-μ-loop
-dfs-linearize-cast-len t c =
-    let e = c .before .before in
-    let s = e .before .before .before .before .before .before in
-    let g = s .args .t1 in
-    let w = s .args .t2 in
-    let u = s .args .u in
-    let R = s .pre .1 in
-    let new = e .before .before .before .before .if1 .left in
-    let p = e .before .position .result in
-    let at = e .before .position .ensures in
-    let off = e .if2 .left in
-    omega (arith, R .sound .rooms u (R .below))
+  -- at the loop's test
+  abbrev Loop : Type 0
+  Loop = lts.At-loop claims at-t reads.Post Inv-loop μ-loop
 
--- src/linearization.rt:71:5
-dfs-linearize-loop-holds : (t : ℕ) → dfs-linearize-lts.Need-loop-holds (
-  position-reads.Asked,
-  position-reads.Learnt,
-  dfs-linearize-below t,
-  dfs-linearize.Post,
-) (dfs-linearize-at t) dfs-linearize.Post dfs-linearize-Inv-loop dfs-linearize-μ-loop
-dfs-linearize-loop-holds t c =
-    let e = c .before .before in
-    let s = e .before .before .before .before .before .before in
-    let g = s .args .t1 in
-    let w = s .args .t2 in
-    let u = s .args .u in
-    let R = s .pre .1 in
-    let new = e .before .before .before .before .if1 .left in
-    let p = e .before .position .result in
-    let at = e .before .position .ensures in
-    let off = e .if2 .left in
-    begin g w u R new p at off
+  abbrev e : Loop → Off
+  e l = l .before .before .before
 
--- src/linearization.rt:72:23
-dfs-linearize-add-d : (t : ℕ) → dfs-linearize-lts.Need-add-d (
-  position-reads.Asked,
-  position-reads.Learnt,
-  dfs-linearize-below t,
-  dfs-linearize.Post,
-) (dfs-linearize-at t) dfs-linearize.Post dfs-linearize-Inv-loop dfs-linearize-μ-loop
-dfs-linearize-add-d t c =
-    let e = c .before .before .before .before in
-    let s = e .before .before .before .before .before .before in
-    let g = s .args .t1 in
-    let w = s .args .t2 in
-    let u = s .args .u in
-    let R = s .pre .1 in
-    let new = e .before .before .before .before .if1 .left in
-    let p = e .before .position .result in
-    let at = e .before .position .ensures in
-    let off = e .if2 .left in
-    let m = c .loop-test .taken in
-    omega (arith, R .sound .rooms u (R .below))
+  abbrev x : Loop → Search
+  x l = l .loop .x
 
--- src/linearization.rt:72:17
-dfs-linearize-mul-d : (t : ℕ) → dfs-linearize-lts.Need-mul-d (
-  position-reads.Asked,
-  position-reads.Learnt,
-  dfs-linearize-below t,
-  dfs-linearize.Post,
-) (dfs-linearize-at t) dfs-linearize.Post dfs-linearize-Inv-loop dfs-linearize-μ-loop
-dfs-linearize-mul-d t c =
-    let e = c .before .before .before .before in
-    let s = e .before .before .before .before .before .before in
-    let g = s .args .t1 in
-    let w = s .args .t2 in
-    let u = s .args .u in
-    let R = s .pre .1 in
-    let new = e .before .before .before .before .if1 .left in
-    let p = e .before .position .result in
-    let at = e .before .position .ensures in
-    let off = e .if2 .left in
-    let m = c .loop-test .taken in
-    omega (arith, R .sound .rooms u (R .below))
+  abbrev i : Loop → ℕ
+  i l = l .loop .i
 
--- src/linearization.rt:72:17
-dfs-linearize-element-copy-out-d : (t : ℕ) → dfs-linearize-lts.Need-element-copy-out-d (
-  position-reads.Asked,
-  position-reads.Learnt,
-  dfs-linearize-below t,
-  dfs-linearize.Post,
-) (dfs-linearize-at t) dfs-linearize.Post dfs-linearize-Inv-loop dfs-linearize-μ-loop
-dfs-linearize-element-copy-out-d t c =
-    let e = c .before .before .before .before in
-    let s = e .before .before .before .before .before .before in
-    let g = s .args .t1 in
-    let w = s .args .t2 in
-    let u = s .args .u in
-    let R = s .pre .1 in
-    let new = e .before .before .before .before .if1 .left in
-    let p = e .before .position .result in
-    let at = e .before .position .ensures in
-    let off = e .if2 .left in
-    let m = c .loop-test .taken in
-    omega (arith, R .sound .rooms u (R .below))
+  abbrev T : (l : Loop) → Turn (g (s (e l))) (u (s (e l))) (pushed (w (s (e l))) (u (s (e l)))) (x l) (i l)
+  T l = l .loop .inv
 
--- src/linearization.rt:75:17
-dfs-linearize-dfs-linearize-requires : (t : ℕ) → dfs-linearize-lts.Need-dfs-linearize-requires (
-  position-reads.Asked,
-  position-reads.Learnt,
-  dfs-linearize-below t,
-  dfs-linearize.Post,
-) (dfs-linearize-at t) dfs-linearize.Post dfs-linearize-Inv-loop dfs-linearize-μ-loop
-dfs-linearize-dfs-linearize-requires t c κs =
-    let e = c .before .before .before .before .before .before in
-    let s = e .before .before .before .before .before .before in
-    let g = s .args .t1 in
-    let w = s .args .t2 in
-    let u = s .args .u in
-    let R = s .pre .1 in
-    let new = e .before .before .before .before .if1 .left in
-    let p = e .before .position .result in
-    let at = e .before .position .ensures in
-    let off = e .if2 .left in
-    let l = c .before .before .before in
-    let x = l .loop .x in
-    let i = l .loop .i in
-    let T = l .loop .inv in
-    let more = c .before .before .loop-test .taken in (
-      rw (← s .pre .0) (call-less g w u R new p at off x i T more (getD (g .ids) (getD (g .start) u 0 + i) 0) refl (c .if3 .taken)),
-      call-ready g w u R new p at off x i T more (getD (g .ids) (getD (g .start) u 0 + i) 0) refl (c .if3 .taken),
-    )
+  -- the unit that is listed at i
+  abbrev d : Loop → ℕ
+  d l = getD (g (s (e l)) .ids) (getD (g (s (e l)) .start) (u (s (e l))) 0 + i l) 0
 
--- src/linearization.rt:77:17
-dfs-linearize-returns-3 : (t : ℕ) → dfs-linearize-lts.Need-returns-3 (
-  position-reads.Asked,
-  position-reads.Learnt,
-  dfs-linearize-below t,
-  dfs-linearize.Post,
-) (dfs-linearize-at t) dfs-linearize.Post dfs-linearize-Inv-loop dfs-linearize-μ-loop
-dfs-linearize-returns-3 t c =
-    let e = c .before .before .before .before .before .before .before .before in
-    let s = e .before .before .before .before .before .before in
-    let g = s .args .t1 in
-    let w = s .args .t2 in
-    let u = s .args .u in
-    let R = s .pre .1 in
-    let new = e .before .before .before .before .if1 .left in
-    let p = e .before .position .result in
-    let at = e .before .position .ensures in
-    let off = e .if2 .left in
-    let l = c .before .before .before .before .before in
-    let x = l .loop .x in
-    let i = l .loop .i in
-    let T = l .loop .inv in
-    let more = c .before .before .before .before .loop-test .taken in
-    call-ring g w u R new p at off x i T more (getD (g .ids) (getD (g .start) u 0 + i) 0) refl (c .before .before .if3 .taken) (c .before .dfs-linearize .result) (c .before .dfs-linearize .ensures) (not-true _ (c .if4 .taken))
+  -- THE NEEDS
 
--- src/linearization.rt:80:9
-dfs-linearize-add-i : (t : ℕ) → dfs-linearize-lts.Need-add-i (
-  position-reads.Asked,
-  position-reads.Learnt,
-  dfs-linearize-below t,
-  dfs-linearize.Post,
-) (dfs-linearize-at t) dfs-linearize.Post dfs-linearize-Inv-loop dfs-linearize-μ-loop
-dfs-linearize-add-i t c =
-    let e = c .before .before .before .before .before .before in
-    let s = e .before .before .before .before .before .before in
-    let g = s .args .t1 in
-    let w = s .args .t2 in
-    let u = s .args .u in
-    let R = s .pre .1 in
-    let new = e .before .before .before .before .if1 .left in
-    let p = e .before .position .result in
-    let at = e .before .position .ensures in
-    let off = e .if2 .left in
-    let m = c .before .before .loop-test .taken in
-    omega (arith, R .sound .rooms u (R .below))
+  position-requires : lts.Need-position-requires claims at-t reads.Post Inv-loop μ-loop
+  position-requires c κs = let f = R (c .before .before) .fine in (f .deep, f .visiting-long)
 
--- src/linearization.rt:71:5
-dfs-linearize-loop-less : (t : ℕ) → dfs-linearize-lts.Need-loop-less (
-  position-reads.Asked,
-  position-reads.Learnt,
-  dfs-linearize-below t,
-  dfs-linearize.Post,
-) (dfs-linearize-at t) dfs-linearize.Post dfs-linearize-Inv-loop dfs-linearize-μ-loop
-dfs-linearize-loop-less t c =
-    let m = c .before .before .loop-test .taken in
-    omega arith
+  returns : lts.Need-returns claims at-t reads.Post Inv-loop μ-loop
+  returns c =
+      let s = c .before .before .before .before in
+      met (g s) (w s) (u s) (R s) (c .before .position .result) (c .before .position .ensures) (c .if1 .taken)
 
--- src/linearization.rt:71:5
-dfs-linearize-loop-again : (t : ℕ) → dfs-linearize-lts.Need-loop-again (
-  position-reads.Asked,
-  position-reads.Learnt,
-  dfs-linearize-below t,
-  dfs-linearize.Post,
-) (dfs-linearize-at t) dfs-linearize.Post dfs-linearize-Inv-loop dfs-linearize-μ-loop
-dfs-linearize-loop-again t c =
-    let e = c .before .before .before .before .before .before in
-    let s = e .before .before .before .before .before .before in
-    let g = s .args .t1 in
-    let w = s .args .t2 in
-    let u = s .args .u in
-    let R = s .pre .1 in
-    let new = e .before .before .before .before .if1 .left in
-    let p = e .before .position .result in
-    let at = e .before .position .ensures in
-    let off = e .if2 .left in
-    let l = c .before .before .before in
-    let x = l .loop .x in
-    let i = l .loop .i in
-    let T = l .loop .inv in
-    let more = c .before .before .loop-test .taken in
-    ⊎-elim
-    (λ k. rw (k .3) (after-call g w u R new p at off x i T more (getD (g .ids) (getD (g .start) u 0 + i) 0) refl (k .0 .taken) (k .1 .result) (k .1 .ensures) (not-false _ (k .2 .left))))
-    (λ k. rw (k .1) (same-turn g w u R new p at off x i T more (k .0 .left)))
-    (c .if3 .came)
+  room-at : (e : Off) → w (s e) .depth < unit-limit
+  room-at e = room (g (s e)) (w (s e)) (u (s e)) (R (s e)) (p e) (at e) (off e)
 
--- src/linearization.rt:83:5
-dfs-linearize-mul-x-2 : (t : ℕ) → dfs-linearize-lts.Need-mul-x-2 (
-  position-reads.Asked,
-  position-reads.Learnt,
-  dfs-linearize-below t,
-  dfs-linearize.Post,
-) (dfs-linearize-at t) dfs-linearize.Post dfs-linearize-Inv-loop dfs-linearize-μ-loop
-dfs-linearize-mul-x-2 t c =
-    let e = c .before .before .before .before in
-    let s = e .before .before .before .before .before .before in
-    let g = s .args .t1 in
-    let w = s .args .t2 in
-    let u = s .args .u in
-    let R = s .pre .1 in
-    let new = e .before .before .before .before .if1 .left in
-    let p = e .before .position .result in
-    let at = e .before .position .ensures in
-    let off = e .if2 .left in
-    let l = c .before in
-    let x = l .loop .x in
-    let i = l .loop .i in
-    let T = l .loop .inv in
-    let r = count-room g w u R new p at off x i T in
-    omega arith
+  mul-x : lts.Need-mul-x claims at-t reads.Post Inv-loop μ-loop
+  mul-x c = omega (arith, room-at c)
 
--- src/linearization.rt:83:5
-dfs-linearize-element-write-x-2 : (t : ℕ) → dfs-linearize-lts.Need-element-write-x-2 (
-  position-reads.Asked,
-  position-reads.Learnt,
-  dfs-linearize-below t,
-  dfs-linearize.Post,
-) (dfs-linearize-at t) dfs-linearize.Post dfs-linearize-Inv-loop dfs-linearize-μ-loop
-dfs-linearize-element-write-x-2 t c =
-    let e = c .before .before .before .before in
-    let s = e .before .before .before .before .before .before in
-    let g = s .args .t1 in
-    let w = s .args .t2 in
-    let u = s .args .u in
-    let R = s .pre .1 in
-    let new = e .before .before .before .before .if1 .left in
-    let p = e .before .position .result in
-    let at = e .before .position .ensures in
-    let off = e .if2 .left in
-    let l = c .before in
-    let x = l .loop .x in
-    let i = l .loop .i in
-    let T = l .loop .inv in
-    count-room g w u R new p at off x i T
+  element-write-x : lts.Need-element-write-x claims at-t reads.Post Inv-loop μ-loop
+  element-write-x c = room-at c
 
--- src/linearization.rt:84:15
-dfs-linearize-add-x-2 : (t : ℕ) → dfs-linearize-lts.Need-add-x-2 (
-  position-reads.Asked,
-  position-reads.Learnt,
-  dfs-linearize-below t,
-  dfs-linearize.Post,
-) (dfs-linearize-at t) dfs-linearize.Post dfs-linearize-Inv-loop dfs-linearize-μ-loop
-dfs-linearize-add-x-2 t c =
-    let e = c .before .before .before .before in
-    let s = e .before .before .before .before .before .before in
-    let g = s .args .t1 in
-    let w = s .args .t2 in
-    let u = s .args .u in
-    let R = s .pre .1 in
-    let new = e .before .before .before .before .if1 .left in
-    let p = e .before .position .result in
-    let at = e .before .position .ensures in
-    let off = e .if2 .left in
-    let l = c .before in
-    let x = l .loop .x in
-    let i = l .loop .i in
-    let T = l .loop .inv in
-    let r = count-room g w u R new p at off x i T in
-    omega arith
+  add-x : lts.Need-add-x claims at-t reads.Post Inv-loop μ-loop
+  add-x c = omega (arith, room-at c)
 
--- src/linearization.rt:85:5
-dfs-linearize-element-write-x-3 : (t : ℕ) → dfs-linearize-lts.Need-element-write-x-3 (
-  position-reads.Asked,
-  position-reads.Learnt,
-  dfs-linearize-below t,
-  dfs-linearize.Post,
-) (dfs-linearize-at t) dfs-linearize.Post dfs-linearize-Inv-loop dfs-linearize-μ-loop
-dfs-linearize-element-write-x-3 t c =
-    let e = c .before .before .before .before in
-    let s = e .before .before .before .before .before .before in
-    let g = s .args .t1 in
-    let w = s .args .t2 in
-    let u = s .args .u in
-    let R = s .pre .1 in
-    let new = e .before .before .before .before .if1 .left in
-    let p = e .before .position .result in
-    let at = e .before .position .ensures in
-    let off = e .if2 .left in
-    u-small g w u R
+  mul-first : lts.Need-mul-first claims at-t reads.Post Inv-loop μ-loop
+  mul-first c = omega (arith, u-small (g (s c)) (w (s c)) (u (s c)) (R (s c)))
 
--- src/linearization.rt:50:1
-dfs-linearize-returns-4 : (t : ℕ) → dfs-linearize-lts.Need-returns-4 (
-  position-reads.Asked,
-  position-reads.Learnt,
-  dfs-linearize-below t,
-  dfs-linearize.Post,
-) (dfs-linearize-at t) dfs-linearize.Post dfs-linearize-Inv-loop dfs-linearize-μ-loop
-dfs-linearize-returns-4 t c =
-    let e = c .before .before .before .before in
-    let s = e .before .before .before .before .before .before in
-    let g = s .args .t1 in
-    let w = s .args .t2 in
-    let u = s .args .u in
-    let R = s .pre .1 in
-    let new = e .before .before .before .before .if1 .left in
-    let p = e .before .position .result in
-    let at = e .before .position .ensures in
-    let off = e .if2 .left in
-    let l = c .before in
-    let x = l .loop .x in
-    let i = l .loop .i in
-    let T = l .loop .inv in
-    finish g w u R new p at off x i T (c .loop-test .left)
+  element-copy-out-first : lts.Need-element-copy-out-first claims at-t reads.Post Inv-loop μ-loop
+  element-copy-out-first c = u-small (g (s c)) (w (s c)) (u (s c)) (R (s c))
+
+  cast-first : lts.Need-cast-first claims at-t reads.Post Inv-loop μ-loop
+  cast-first c = let r = R (s (c .before)) in omega (arith, r .sound .rooms (u (s (c .before))) (r .below))
+
+  mul-len : lts.Need-mul-len claims at-t reads.Post Inv-loop μ-loop
+  mul-len c = let s = s (c .before) in omega (arith, u-small (g s) (w s) (u s) (R s))
+
+  element-copy-out-len : lts.Need-element-copy-out-len claims at-t reads.Post Inv-loop μ-loop
+  element-copy-out-len c = let s = s (c .before) in u-small (g s) (w s) (u s) (R s)
+
+  cast-len : lts.Need-cast-len claims at-t reads.Post Inv-loop μ-loop
+  cast-len c = let r = R (s (c .before .before)) in omega (arith, r .sound .rooms (u (s (c .before .before))) (r .below))
+
+  loop-holds : lts.Need-loop-holds claims at-t reads.Post Inv-loop μ-loop
+  loop-holds c =
+      let e = c .before .before in
+      begin (g (s e)) (w (s e)) (u (s e)) (R (s e)) (p e) (at e) (off e)
+
+  -- the list of u lies within the ids
+  list-room : (l : Loop) → getD (g (s (e l)) .start) (u (s (e l))) 0 + getD (g (s (e l)) .len) (u (s (e l))) 0 ≤ id-limit
+  list-room l = let r = R (s (e l)) in r .sound .rooms (u (s (e l))) (r .below)
+
+  add-d : lts.Need-add-d claims at-t reads.Post Inv-loop μ-loop
+  add-d c = let m = c .loop-test .taken in omega (arith, list-room (c .before))
+
+  mul-d : lts.Need-mul-d claims at-t reads.Post Inv-loop μ-loop
+  mul-d c = let m = c .loop-test .taken in omega (arith, list-room (c .before))
+
+  element-copy-out-d : lts.Need-element-copy-out-d claims at-t reads.Post Inv-loop μ-loop
+  element-copy-out-d c = let m = c .loop-test .taken in omega (arith, list-room (c .before))
+
+  module _ (l : Loop) (more : i l < getD (g (s (e l)) .len) (u (s (e l))) 0) (ne : d l ≡ u (s (e l)) → ⊥) where
+    d-small : d l < unit-limit
+    d-small = id-small (g (s (e l))) (w (s (e l))) (u (s (e l))) (R (s (e l))) (p (e l)) (at (e l)) (off (e l)) (x l) (i l) (T l) more (d l) refl ne
+
+  cast-done : lts.Need-cast-done claims at-t reads.Post Inv-loop μ-loop
+  cast-done c = let l = c .before .before .before in omega (arith, d-small l (c .before .before .loop-test .taken) (c .if2 .taken))
+
+  element-copy-out-done : lts.Need-element-copy-out-done claims at-t reads.Post Inv-loop μ-loop
+  element-copy-out-done c = let l = c .before .before .before in d-small l (c .before .before .loop-test .taken) (c .if2 .taken)
+
+  dfs-linearize-requires : lts.Need-dfs-linearize-requires claims at-t reads.Post Inv-loop μ-loop
+  dfs-linearize-requires c κs =
+      let l = c .before .before .before .before .before in
+      let e = e l in
+      let more = c .before .before .before .before .loop-test .taken in
+      let ne = c .before .before .if2 .taken in
+      let new = not-true _ (c .if3 .taken) in (
+        rw (← s e .pre .0) (call-less (g (s e)) (w (s e)) (u (s e)) (R (s e)) (p e) (at e) (off e) (x l) (i l) (T l) more (d l) refl ne),
+        call-ready (g (s e)) (w (s e)) (u (s e)) (R (s e)) (p e) (at e) (off e) (x l) (i l) (T l) more (d l) refl ne new,
+      )
+
+  returns-2 : lts.Need-returns-2 claims at-t reads.Post Inv-loop μ-loop
+  returns-2 c =
+      let n = c .before .before in
+      let l = n .before .before .before .before .before in
+      let e = e l in
+      call-ring (g (s e)) (w (s e)) (u (s e)) (R (s e)) (p e) (at e) (off e) (x l) (i l) (T l) (n .before .before .before .before .loop-test .taken) (d l) refl (n .before .before .if2 .taken) (not-true _ (n .if3 .taken)) (c .before .dfs-linearize .result) (c .before .dfs-linearize .ensures) (not-true _ (c .if4 .taken))
+
+  add-i : lts.Need-add-i claims at-t reads.Post Inv-loop μ-loop
+  add-i c = let m = c .before .before .loop-test .taken in omega (arith, list-room (c .before .before .before))
+
+  loop-less : lts.Need-loop-less claims at-t reads.Post Inv-loop μ-loop
+  loop-less c = let m = c .before .before .loop-test .taken in omega arith
+
+  loop-again : lts.Need-loop-again claims at-t reads.Post Inv-loop μ-loop
+  loop-again c =
+      let l = c .before .before .before in
+      let e = e l in
+      let more = c .before .before .loop-test .taken in
+      ⊎-elim
+      (λ k. rw (k .5) (after-call (g (s e)) (w (s e)) (u (s e)) (R (s e)) (p e) (at e) (off e) (x l) (i l) (T l) more (d l) refl (k .0 .taken) (not-true _ (k .2 .taken)) (k .3 .result) (k .3 .ensures) (not-false _ (k .4 .left))))
+      (λ m. ⊎-elim
+      (λ k. rw (k .3) (done-turn (g (s e)) (w (s e)) (u (s e)) (R (s e)) (p e) (at e) (off e) (x l) (i l) (T l) more (d l) refl (k .0 .taken) (not-false _ (k .2 .left))))
+      (λ k. rw (k .1) (same-turn (g (s e)) (w (s e)) (u (s e)) (R (s e)) (p e) (at e) (off e) (x l) (i l) (T l) more (k .0 .left)))
+      m)
+      (c .if2 .came)
+
+  count-at : (l : Loop) → x l .count < unit-limit
+  count-at l = count-room (g (s (e l))) (w (s (e l))) (u (s (e l))) (R (s (e l))) (p (e l)) (at (e l)) (off (e l)) (x l) (i l) (T l)
+
+  mul-x-2 : lts.Need-mul-x-2 claims at-t reads.Post Inv-loop μ-loop
+  mul-x-2 c = omega (arith, count-at (c .before))
+
+  element-write-x-2 : lts.Need-element-write-x-2 claims at-t reads.Post Inv-loop μ-loop
+  element-write-x-2 c = count-at (c .before)
+
+  add-x-2 : lts.Need-add-x-2 claims at-t reads.Post Inv-loop μ-loop
+  add-x-2 c = omega (arith, count-at (c .before))
+
+  element-write-x-3 : lts.Need-element-write-x-3 claims at-t reads.Post Inv-loop μ-loop
+  element-write-x-3 c = let s = s (e (c .before)) in u-small (g s) (w s) (u s) (R s)
+
+  returns-3 : lts.Need-returns-3 claims at-t reads.Post Inv-loop μ-loop
+  returns-3 c =
+      let l = c .before in
+      let e = e l in
+      finish (g (s e)) (w (s e)) (u (s e)) (R (s e)) (p e) (at e) (off e) (x l) (i l) (T l) (c .loop-test .left)
 
 pub +dfs-linearize-spec : {M : Type 1} → statement M
-+dfs-linearize-spec = close μ-dfs-linearize λ t. dfs-linearize-lts.spec (
-  position-reads.Asked,
-  position-reads.Learnt,
-  dfs-linearize-below t,
-  dfs-linearize.Post,
-)
-    (dfs-linearize-at t)
-    dfs-linearize.Post
-    dfs-linearize-Inv-loop
-    dfs-linearize-μ-loop
-    (dfs-linearize-element-copy-out-if1 t)
-    (dfs-linearize-returns t)
-    (dfs-linearize-position-requires t)
-    (dfs-linearize-returns-2 t)
-    (dfs-linearize-mul-x t)
-    (dfs-linearize-element-write-x t)
-    (dfs-linearize-add-x t)
-    (dfs-linearize-mul-first t)
-    (dfs-linearize-element-copy-out-first t)
-    (dfs-linearize-cast-first t)
-    (dfs-linearize-mul-len t)
-    (dfs-linearize-element-copy-out-len t)
-    (dfs-linearize-cast-len t)
-    (dfs-linearize-loop-holds t)
-    (dfs-linearize-add-d t)
-    (dfs-linearize-mul-d t)
-    (dfs-linearize-element-copy-out-d t)
-    (dfs-linearize-dfs-linearize-requires t)
-    (dfs-linearize-returns-3 t)
-    (dfs-linearize-add-i t)
-    (dfs-linearize-loop-less t)
-    (dfs-linearize-loop-again t)
-    (dfs-linearize-mul-x-2 t)
-    (dfs-linearize-element-write-x-2 t)
-    (dfs-linearize-add-x-2 t)
-    (dfs-linearize-element-write-x-3 t)
-    (dfs-linearize-returns-4 t)
++dfs-linearize-spec = close μ-walk λ t. lts.spec (claims t) (at-t t) reads.Post Inv-loop μ-loop
+    (position-requires t)
+    (returns t)
+    (mul-x t)
+    (element-write-x t)
+    (add-x t)
+    (mul-first t)
+    (element-copy-out-first t)
+    (cast-first t)
+    (mul-len t)
+    (element-copy-out-len t)
+    (cast-len t)
+    (loop-holds t)
+    (add-d t)
+    (mul-d t)
+    (element-copy-out-d t)
+    (cast-done t)
+    (element-copy-out-done t)
+    (dfs-linearize-requires t)
+    (returns-2 t)
+    (add-i t)
+    (loop-less t)
+    (loop-again t)
+    (mul-x-2 t)
+    (element-write-x-2 t)
+    (add-x-2 t)
+    (element-write-x-3 t)
+    (returns-3 t)
