@@ -1,9 +1,9 @@
 -- Facts of lists and chains. Assumes nothing.
-use mathlib.Core.Path.{_≡_, refl, sym, ap, subst, _∙_}
+use mathlib.Core.Path.{_≡_, refl, sym, subst}
 use mathlib.Core.Bool.{Bool, true, false, cond, _||_}
 use mathlib.Core.Logic.{_⊎_, inl, inr, ⊎-elim}
-use mathlib.Core.List.{List, [], _∷_, _++_, List·Memᴰ, List·Memᴰ·head, List·Memᴰ·tail, List·Memᴰ·not-nil, List·Memᴰ·cases-cons, List·Memᴰ·append-cases, List·Memᴰ·eq-of-singleton, Memᴰ·cast, Memᴰ·append-left, Memᴰ·append-right}
-use Prim.Native.Nat.{ℕ, zero, suc, _<_, _≤_, _+_}
+use mathlib.Core.List.{List, [], _∷_, _++_, List·Memᴰ, List·Memᴰ·head, List·Memᴰ·tail, List·Memᴰ·not-nil, List·Memᴰ·cases-cons, List·Memᴰ·append-cases, List·Memᴰ·eq-of-singleton, Memᴰ·cast}
+use Prim.Native.Nat.{ℕ, zero, suc, _<_, _≤_}
 use native.Mathlib.Omega.{arith}
 use lib.Dec.{eqb}
 use lib.ListN.{length}
@@ -110,12 +110,6 @@ module _ {deps : ℕ → List ℕ} where
   pub chain-path : {u w : ℕ} {l : List ℕ} → Chain deps u l w → Reaches deps u w
   chain-path (last e) = step e here
   chain-path (link e c) = step e (chain-path c)
-
-  -- every unit of a chain's list is reached from its start
-  pub chain-reach : {u w x : ℕ} {l : List ℕ} → Chain deps u l w → List·Memᴰ x l → Reaches deps u x
-  chain-reach (last e) m = absurd (List·Memᴰ·not-nil m)
-  chain-reach {x = x} (link {u} {v} e c) m =
-      ⊎-elim (λ q. subst (λ (y : ℕ). Reaches deps u y) (sym q) (step e here)) (λ m'. step e (chain-reach c m')) (List·Memᴰ·cases-cons m)
 
   -- a path between different units is a chain
   pub path-chain : {u w : ℕ} → Reaches deps u w → (u ≡ w) ⊎ ((l : List ℕ) × Chain deps u l w)

@@ -1,5 +1,5 @@
 -- A graph given directly, and what is answered to it: 3, 1, 29, the ring (26) or the linked order, in document 01's numbers, all at place 0. Assumes nothing.
-use mathlib.Core.Bool.{Bool, true, false, cond, _&&_}
+use mathlib.Core.Bool.{Bool, true, cond, _&&_}
 use mathlib.Core.List.{List, [], _∷_, _++_}
 use Prim.Native.Nat.{ℕ, zero, suc, _+_}
 use lib.ListN.{length, take, drop, getD, replicate}
@@ -8,6 +8,19 @@ use Rattle.graph.specs.declared.Graph.{Graph}
 use Rattle.graph.specs.declared.Linearized.{Linearized}
 use Rattle.graph.specs.Limits.{unit-limit, id-limit}
 use Rattle.graph.specs.Linearize.{Out, order, ring, linearize}
+
+-- document 01's numbers
+abbrev pub cut : ℕ
+cut = 1
+
+abbrev pub too-many : ℕ
+too-many = 3
+
+abbrev pub ring-met : ℕ
+ring-met = 26
+
+abbrev pub unknown-unit : ℕ
+unknown-unit = 29
 
 -- what unit u lists
 abbrev pub depsOf : Graph → ℕ → List ℕ
@@ -43,16 +56,16 @@ known g = below (g .units) (knows g)
 
 -- the number that refuses g, 0 for none
 unfoldable pub refusal : Graph → ℕ
-refusal g = cond (counted g) (cond (fitting g) (cond (known g) 0 29) 1) 3
+refusal g = cond (counted g) (cond (fitting g) (cond (known g) 0 unknown-unit) cut) too-many
 
 -- a number and some ids: these at the start of cleared places, and how many they are
 abbrev pub answer : ℕ → List ℕ → Linearized
 answer k l = record { number = k; ids = l ++ drop (length l) (replicate unit-limit 0); count = length l }
 
--- the order has the number 0, the ring 26
+-- the order has the number 0
 abbrev pub numbered : Out → Linearized
 numbered (order o) = answer 0 o
-numbered (ring r) = answer 26 r
+numbered (ring r) = answer ring-met r
 
 unfoldable pub linearizeGiven : Graph → Linearized
 linearizeGiven g =

@@ -1,6 +1,6 @@
 -- Linearization of an import graph of any number of units, as linearization.rs has it: depth first from unit 0, a unit
 -- after its list, itself skipped. A graph is its dependency lists, `deps`. Assumes nothing.
-use mathlib.Core.Bool.{Bool, true, false, cond, _||_}
+use mathlib.Core.Bool.{Bool, false, cond, _||_}
 use mathlib.Core.List.{List, [], _∷_, _++_}
 use Prim.Native.Nat.{ℕ, zero, suc}
 use lib.Dec.{eqb}

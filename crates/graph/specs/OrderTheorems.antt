@@ -3,7 +3,7 @@ use mathlib.Core.Path.{_≡_, refl, sym, ap, subst, _∙_}
 use mathlib.Core.Bool.{Bool, true, false, cond}
 use mathlib.Core.Logic.{_⊎_, inl, inr, ⊎-elim}
 use mathlib.Core.List.{List, [], _∷_, _++_, List·Memᴰ, List·Memᴰ·head, List·Memᴰ·tail, List·Memᴰ·not-nil, List·Memᴰ·cases-cons, Memᴰ·cast, Memᴰ·append-left, Memᴰ·append-right}
-use Prim.Native.Nat.{ℕ, zero, suc, _<_, _≤_, _+_}
+use Prim.Native.Nat.{ℕ, zero, suc, _<_, _+_}
 use native.Mathlib.Omega.{arith}
 use lib.Dec.{eqb}
 use lib.ListN.{length, length-append}
@@ -37,6 +37,11 @@ before-from u (x ∷ l) = go (eqb u x) (before-from u l)
     go false e = ap (λ (k : List ℕ). x ∷ k) e
 
 module _ (deps : ℕ → List ℕ) where
+  -- what an answer is to be: an order where there is no ring, and a ring where there is one
+  abbrev pub Linearizes : Out → Type 0
+  Linearizes (order o) = Ordered deps o × (Cyclic deps → ⊥)
+  Linearizes (ring r) = Named deps r × Cyclic deps
+
   -- what is done: each unit once, after every other that it lists
   pub data Done : List ℕ → Type 0 where
     start : Done []
@@ -239,28 +244,6 @@ module _ (deps : ℕ → List ℕ) where
         (record { once = none; below = λ x m. absurd (List·Memᴰ·not-nil m); reach = λ x m. absurd (List·Memᴰ·not-nil m); left = omega arith })
         start (λ x m m'. List·Memᴰ·not-nil m) (record { begins = refl; chains = tt }) (w .some) here
 
-    -- THE THEOREM
-    pub order-right : (o : List ℕ) → linearize deps n ≡ order o → Ordered deps o
-    order-right o e =
-        let p : Post [] [] (λ o'. List·Memᴰ 0 o') (order o) = rw e at linearize-post in
-        let d = p .0 .done in
-        record {
-          sound = done-reach d;
-          complete = λ x h. done-path d h (p .1);
-          once = done-once d;
-          after = done-after d;
-        }
-
-    pub ring-right : (r : List ℕ) → linearize deps n ≡ ring r → Named deps r
-    ring-right r e = rw e at linearize-post
-
-    order-acyclic : (o : List ℕ) → linearize deps n ≡ order o → Cyclic deps → ⊥
-    order-acyclic o e c =
-        let p : Post [] [] (λ o'. List·Memᴰ 0 o') (order o) = rw e at linearize-post in
-        let at : List·Memᴰ (c .a) o = done-path (p .0 .done) (c .reached) (p .1) in
-        ⊎-elim (c .different) (λ k. ⊎-elim (λ q. c .different (sym q))
-        (λ k'. done-acyclic (p .0 .done) (c .a) _ at (chain-join (k .1) (k' .1))) (path-chain (c .back))) (path-chain (c .there))
-
     ring-cyclic : {r : List ℕ} → Ring deps r → Cyclic deps
     ring-cyclic {r} g = go (g .first) (g .second) (g .rest) (g .round) (subst Once (g .is) (g .once)) (g .reached (g .first) (subst (λ (l : List ℕ). List·Memᴰ (g .first) l) (sym (g .is)) (List·Memᴰ·head refl)))
       where
@@ -268,10 +251,31 @@ module _ (deps : ℕ → List ℕ) where
         go a b l (link e c) (more f on) p =
             record { a = a; b = b; different = λ q. f (List·Memᴰ·head q); reached = p; there = step e here; back = chain-path c }
 
+    done-right : {o : List ℕ} → Done o → List·Memᴰ 0 o → Linearizes (order o)
+    done-right {o} d m =
+        (record { sound = done-reach d; complete = λ x h. done-path d h m; once = done-once d; after = done-after d }, acyclic)
+      where
+        acyclic : Cyclic deps → ⊥
+        acyclic c =
+            let at : List·Memᴰ (c .a) o = done-path d (c .reached) m in
+            ⊎-elim (c .different) (λ k. ⊎-elim (λ q. c .different (sym q))
+            (λ k'. done-acyclic d (c .a) _ at (chain-join (k .1) (k' .1))) (path-chain (c .back))) (path-chain (c .there))
+
+    post-right : (x : Out) → Post [] [] (λ o'. List·Memᴰ 0 o') x → Linearizes x
+    post-right (order o) p = done-right (p .0 .done) (p .1)
+    post-right (ring r) p = (p, ring-cyclic (p .ring))
+
+    -- THE THEOREM, for any number of units
+    pub linearize-right : Linearizes (linearize deps n)
+    linearize-right = post-right (linearize deps n) linearize-post
+
     -- a ring is answered exactly where there is one
     pub ring-iff : ((r : List ℕ) × (linearize deps n ≡ ring r) → Cyclic deps) × (Cyclic deps → (r : List ℕ) × (linearize deps n ≡ ring r))
-    ring-iff = (λ p. ring-cyclic (ring-right (p .0) (p .1) .ring), λ c. go (linearize deps n) refl c)
+    ring-iff = (λ p. by-ring (p .0) (p .1), λ c. go (linearize deps n) refl linearize-right c)
       where
-        go : (x : Out) → linearize deps n ≡ x → Cyclic deps → (r : List ℕ) × (linearize deps n ≡ ring r)
-        go (order o) e c = absurd (order-acyclic o e c)
-        go (ring r) e c = (r, e)
+        by-ring : (r : List ℕ) → linearize deps n ≡ ring r → Cyclic deps
+        by-ring r e = let q : Linearizes (ring r) = rw e at linearize-right in q .1
+
+        go : (x : Out) → linearize deps n ≡ x → Linearizes x → Cyclic deps → (r : List ℕ) × (linearize deps n ≡ ring r)
+        go (order o) e q c = absurd (q .1 c)
+        go (ring r) e q c = (r, e)

@@ -1,6 +1,6 @@
 -- The code's state of the walk, as the definition has it. Assumes nothing.
 use mathlib.Core.Path.{_≡_}
-use mathlib.Core.Bool.{Bool, true, false, cond}
+use mathlib.Core.Bool.{true, false, cond}
 use mathlib.Core.List.{List, [], _∷_}
 use Prim.Native.Nat.{ℕ, suc, _<_, _≤_, _+_, _-_}
 use lib.ListN.{length, take, drop, getD}

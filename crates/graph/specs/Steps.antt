@@ -1,7 +1,7 @@
 -- What each step of the code's walk makes of its state. Assumes nothing.
 use mathlib.Core.Path.{_≡_, refl, sym, ap, subst, _∙_}
-use mathlib.Core.Bool.{Bool, true, false, cond, _||_}
-use mathlib.Core.Logic.{_⊎_, inl, inr, ⊎-elim}
+use mathlib.Core.Bool.{Bool, true, false, _||_}
+use mathlib.Core.Logic.{⊎-elim}
 use mathlib.Core.List.{List, [], _∷_, _++_, List·Memᴰ, List·Memᴰ·head, List·Memᴰ·tail, List·Memᴰ·not-nil, Memᴰ·append-right, Memᴰ·cast}
 use Prim.Native.Nat.{ℕ, zero, suc, _<_, _≤_, _+_, _-_}
 use native.Mathlib.Numerals.{add-one}
@@ -12,13 +12,13 @@ use lib.Dec.{eqb, ltb}
 use borrow.Author.Tests.{eq-eqb, ne-eqb, lt-ltb, le-ltb, eqb-true, eqb-false}
 use Rattle.graph.specs.declared.Graph.{Graph}
 use Rattle.graph.specs.declared.linearization.Search.{Search}
-use Rattle.graph.specs.Limits.{unit-limit, id-limit}
+use Rattle.graph.specs.Limits.{unit-limit}
 use Rattle.graph.specs.Linearize.{Out, order, ring, memb, from, andThen, each, visit, linearize}
-use Rattle.graph.specs.Order.{Edge, Reaches, here, step, Once, none}
-use Rattle.graph.specs.Facts.{memb-true, memb-false, mem-snoc, once-snoc, pigeons, path-join}
-use Rattle.graph.specs.OrderTheorems.{Done, Apart, Trail, On, Post, Grown, on-push, trail-snoc, visit-right, done-once, done-reach, start}
+use Rattle.graph.specs.Order.{Edge, Reaches, here, step, none}
+use Rattle.graph.specs.Facts.{memb-false, mem-snoc, once-snoc, pigeons, path-join}
+use Rattle.graph.specs.OrderTheorems.{Done, Apart, On, Post, on-push, trail-snoc, visit-right, done-once, done-reach, start}
 use Rattle.graph.specs.Given.{depsOf, answer, numbered}
-use Rattle.graph.specs.State.{index, visitingOf, orderOf, outOf, Sound, Fine, Ready, Closed, Visited}
+use Rattle.graph.specs.State.{index, visitingOf, orderOf, outOf, Sound, Fine, Ready, Visited}
 use Rattle.graph.specs.Arrays.{memb-index, from-index}
 
 -- the definition, a case at a time

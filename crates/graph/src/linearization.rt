@@ -13,6 +13,15 @@ use crate::IDS;
 use crate::Linearized;
 use crate::UNITS;
 
+// Document 01's numbers.
+const CUT: u8 = 1;
+
+const TOO_MANY: u8 = 3;
+
+const RING: u8 = 26;
+
+const UNKNOWN_UNIT: u8 = 29;
+
 // The state of the walk: `visited` says which units are done, the first `depth` of `visiting` are those being visited,
 // oldest first, and the first `count` of `order` those that are done. Where a ring was met `ok` is false, and the ring is
 // `visiting` from `ring` on.
@@ -107,7 +116,7 @@ fn answer(number: u8, l: &[u16; UNITS], from: usize, to: usize) -> Linearized
     }
 }
 
-// The walk from unit 0 over a graph whose lists lie within its ids and name its units.
+// The linked order or the ring of a graph whose lists lie within its ids and name its units.
 pub fn linearize(g: Graph) -> Linearized
     requires { ⌜ Sound g ⌝ }
     ensures { λ r. ⌜ r ≡ numbered (linearize (depsOf g) (g .units)) ⌝ }
@@ -127,7 +136,7 @@ pub fn linearize(g: Graph) -> Linearized
     if r.ok {
         return answer(0, &r.order, 0, r.count);
     }
-    answer(26, &r.visiting, r.ring, r.depth)
+    answer(RING, &r.visiting, r.ring, r.depth)
 }
 
 // Whether each unit's list lies within the ids.
@@ -185,25 +194,25 @@ fn refusal(g: Graph) -> u8
     ensures { λ r. ⌜ r ≡ refusal g ⌝ }
 {
     if g.units == 0 {
-        return 3;
+        return TOO_MANY;
     }
     if g.units > UNITS {
-        return 3;
+        return TOO_MANY;
     }
     if g.count > IDS {
-        return 3;
+        return TOO_MANY;
     }
     if !lists_fit(g) {
-        return 1;
+        return CUT;
     }
     if !ids_known(g) {
-        return 29;
+        return UNKNOWN_UNIT;
     }
     0
 }
 
 // The linked order of a graph given directly, a ring, or the number that refuses it. The contract rules out, among others,
-// `26` with the ids `0 0` for a unit that lists itself, and the order `0` alone where unit 0 lists unit 1.
+// the ring `0` for a unit 0 that lists itself, and the order `0` alone where unit 0 lists unit 1.
 pub fn linearize_given(g: Graph) -> Linearized
     ensures { λ r. ⌜ r ≡ linearizeGiven g ⌝ }
 {

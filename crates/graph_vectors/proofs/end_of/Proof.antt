@@ -1,7 +1,6 @@
 -- `graph_vectors::end_of` meets its contract. Assumes nothing.
 use borrow.Author.Needs.{needs}
-use Prim.Native.Nat.{ℕ, _≤_, _<_, _-_, _+_}
-use native.Mathlib.Omega.{arith}
+use Prim.Native.Nat.{_≤_, _-_}
 use lib.ListN.{length}
 use Rattle.graph_vectors.proofs.end_of.Statement.{statement}
 use Rattle.graph_vectors.proofs.end_of.Tie as tie

@@ -1,14 +1,9 @@
 -- `graph_vectors::read_number` is safe and ends, and passes a byte. Assumes nothing.
 use borrow.Author.Needs.{needs}
-use Prim.Native.Nat.{ℕ, _≤_, _<_, _-_, _+_}
-use native.Mathlib.Omega.{arith}
+use Prim.Native.Nat.{_≤_, _-_}
 use lib.ListN.{length}
 use Rattle.graph_vectors.proofs.read_number.Statement.{statement}
 use Rattle.graph_vectors.proofs.read_number.Tie as tie
-use Rattle.graph_vectors.proofs.read_number.Reads as reads
-use Rattle.graph_vectors.proofs.read_number.Lts as lts
-use Rattle.graph_vectors.proofs.capped.Reads as capped-reads
-use Rattle.graph_vectors.proofs.digit.Reads as digit-reads
 
 abbrev Inv-loop : tie.InvT-loop
 Inv-loop s at v₀ i₀ v i = (at ≤ i) × (i ≤ length s) × (v ≤ 65535)
@@ -16,67 +11,51 @@ Inv-loop s at v₀ i₀ v i = (at ≤ i) × (i ≤ length s) × (v ≤ 65535)
 abbrev μ-loop : tie.MeasureT-loop
 μ-loop s at v₀ i₀ v i = length s - i
 
--- src/main.rt:64:5
 loop-holds : tie.Need-loop-holds Inv-loop μ-loop
 loop-holds c = search needs
 
--- src/main.rt:65:12
 shared-slice-read-if1 : tie.Need-shared-slice-read-if1 Inv-loop μ-loop
 shared-slice-read-if1 c = search needs
 
--- src/main.rt:67:24
 cast-t9 : tie.Need-cast-t9 Inv-loop μ-loop
 cast-t9 c = search needs
 
--- src/main.rt:68:23
 add-t10 : tie.Need-add-t10 Inv-loop μ-loop
 add-t10 c = search needs
 
--- src/main.rt:66:13
 returns : tie.Need-returns Inv-loop μ-loop
 returns c = search needs
 
--- src/main.rt:71:20
 mul-capped : tie.Need-mul-capped Inv-loop μ-loop
 mul-capped c = search needs
 
--- src/main.rt:71:35
 shared-slice-read-digit : tie.Need-shared-slice-read-digit Inv-loop μ-loop
 shared-slice-read-digit c = search needs
 
--- src/main.rt:71:29
 digit-requires : tie.Need-digit-requires Inv-loop μ-loop
 digit-requires c κs = search needs
 
--- src/main.rt:71:20
 add-capped : tie.Need-add-capped Inv-loop μ-loop
 add-capped c = search needs
 
--- src/main.rt:71:9
 capped-requires : tie.Need-capped-requires Inv-loop μ-loop
 capped-requires c κs = search needs
 
--- src/main.rt:72:9
 add-i : tie.Need-add-i Inv-loop μ-loop
 add-i c = search needs
 
--- src/main.rt:64:5
 loop-less : tie.Need-loop-less Inv-loop μ-loop
 loop-less c = search needs
 
--- src/main.rt:64:5
 loop-again : tie.Need-loop-again Inv-loop μ-loop
 loop-again c = search needs
 
--- src/main.rt:75:16
 cast-t16 : tie.Need-cast-t16 Inv-loop μ-loop
 cast-t16 c = search needs
 
--- src/main.rt:76:15
 add-t17 : tie.Need-add-t17 Inv-loop μ-loop
 add-t17 c = search needs
 
--- src/main.rt:58:1
 returns-2 : tie.Need-returns-2 Inv-loop μ-loop
 returns-2 c = search needs
 

@@ -1,16 +1,9 @@
 -- `graph_vectors::tell_ids` is safe and ends. Assumes nothing.
 use borrow.Author.Needs.{needs}
-use Prim.Native.Nat.{ℕ, _≤_, _<_, _-_, _+_}
-use native.Mathlib.Omega.{arith}
-use lib.ListN.{length}
+use Prim.Native.Nat.{_≤_, _-_}
 use Rattle.graph.specs.Limits.{unit-limit}
 use Rattle.graph_vectors.proofs.tell_ids.Statement.{statement}
 use Rattle.graph_vectors.proofs.tell_ids.Tie as tie
-use Rattle.graph_vectors.proofs.tell_ids.Reads as reads
-use Rattle.graph_vectors.proofs.tell_ids.Lts as lts
-use Rattle.graph_vectors.proofs.wide.Reads as wide-reads
-use Rattle.io.proofs.print_decimal.Reads as print-decimal-reads
-use Rattle.io.proofs.write_all.Reads as write-all-reads
 
 abbrev Inv-loop : tie.InvT-loop
 Inv-loop count ids i₀ t5 t6 i = i ≤ unit-limit
@@ -18,55 +11,42 @@ Inv-loop count ids i₀ t5 t6 i = i ≤ unit-limit
 abbrev μ-loop : tie.MeasureT-loop
 μ-loop count ids i₀ t5 t6 i = unit-limit - i
 
--- src/main.rt:127:5
 loop-holds : tie.Need-loop-holds Inv-loop μ-loop
 loop-holds c = search needs
 
--- src/main.rt:129:42
 slice-aggregate-write-all : tie.Need-slice-aggregate-write-all Inv-loop μ-loop
 slice-aggregate-write-all c = search needs
 
--- src/main.rt:129:13
 write-all-requires : tie.Need-write-all-requires Inv-loop μ-loop
 write-all-requires c κs = search needs
 
--- src/main.rt:130:51
 mul-wide : tie.Need-mul-wide Inv-loop μ-loop
 mul-wide c = search needs
 
--- src/main.rt:130:51
 array-read-wide : tie.Need-array-read-wide Inv-loop μ-loop
 array-read-wide c = search needs
 
--- src/main.rt:130:46
 wide-requires : tie.Need-wide-requires Inv-loop μ-loop
 wide-requires c κs = search needs
 
--- src/main.rt:130:13
 print-decimal-requires : tie.Need-print-decimal-requires Inv-loop μ-loop
 print-decimal-requires c κs = search needs
 
--- src/main.rt:132:9
 add-i : tie.Need-add-i Inv-loop μ-loop
 add-i c = search needs
 
--- src/main.rt:127:5
 loop-less : tie.Need-loop-less Inv-loop μ-loop
 loop-less c = search needs
 
--- src/main.rt:127:5
 loop-again : tie.Need-loop-again Inv-loop μ-loop
 loop-again c = search needs
 
--- src/main.rt:134:34
 slice-aggregate-write-all-2 : tie.Need-slice-aggregate-write-all-2 Inv-loop μ-loop
 slice-aggregate-write-all-2 c = search needs
 
--- src/main.rt:134:5
 write-all-requires-2 : tie.Need-write-all-requires-2 Inv-loop μ-loop
 write-all-requires-2 c κs = search needs
 
--- src/main.rt:125:1
 returns : tie.Need-returns Inv-loop μ-loop
 returns c = search needs
 

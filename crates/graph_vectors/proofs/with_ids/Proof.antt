@@ -1,13 +1,9 @@
 -- `graph_vectors::with_ids` is safe and ends: each id passes a byte. Assumes nothing.
 use borrow.Author.Needs.{needs}
-use Prim.Native.Nat.{ℕ, _≤_, _<_, _-_, _+_}
-use native.Mathlib.Omega.{arith}
+use Prim.Native.Nat.{_≤_, _-_}
 use lib.ListN.{length}
 use Rattle.graph_vectors.proofs.with_ids.Statement.{statement}
 use Rattle.graph_vectors.proofs.with_ids.Tie as tie
-use Rattle.graph_vectors.proofs.with_ids.Reads as reads
-use Rattle.graph_vectors.proofs.with_ids.Lts as lts
-use Rattle.graph_vectors.proofs.read_number.Reads as read-number-reads
 
 abbrev Inv-loop : tie.InvT-loop
 Inv-loop s x₀ count₀ at₀ x count at = count ≤ at
@@ -15,35 +11,27 @@ Inv-loop s x₀ count₀ at₀ x count at = count ≤ at
 abbrev μ-loop : tie.MeasureT-loop
 μ-loop s x₀ count₀ at₀ x count at = length s - at
 
--- src/main.rt:104:5
 loop-holds : tie.Need-loop-holds Inv-loop μ-loop
 loop-holds c = search needs
 
--- src/main.rt:105:13
 read-number-requires : tie.Need-read-number-requires Inv-loop μ-loop
 read-number-requires c κs = search needs
 
--- src/main.rt:107:13
 mul-x : tie.Need-mul-x Inv-loop μ-loop
 mul-x c = search needs
 
--- src/main.rt:107:13
 element-write-x : tie.Need-element-write-x Inv-loop μ-loop
 element-write-x c = search needs
 
--- src/main.rt:109:9
 add-count : tie.Need-add-count Inv-loop μ-loop
 add-count c = search needs
 
--- src/main.rt:104:5
 loop-less : tie.Need-loop-less Inv-loop μ-loop
 loop-less c = search needs
 
--- src/main.rt:104:5
 loop-again : tie.Need-loop-again Inv-loop μ-loop
 loop-again c = search needs
 
--- src/main.rt:100:1
 returns : tie.Need-returns Inv-loop μ-loop
 returns c = search needs
 

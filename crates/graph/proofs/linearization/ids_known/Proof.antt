@@ -3,18 +3,13 @@ use borrow.Author.Needs.{needs}
 use borrow.Author.Tests.{not-true, not-false}
 use native.Mathlib.Omega.{arith}
 use mathlib.Core.Path.{_≡_, sym, _∙_}
-use mathlib.Core.Bool.{true, false}
-use Prim.Native.Nat.{ℕ, _≤_, _<_, _-_, _+_}
-use lib.ListN.{length, getD}
-use Rattle.graph.specs.Limits.{unit-limit, id-limit}
+use mathlib.Core.Bool.{true}
+use Prim.Native.Nat.{_≤_, _-_}
+use Rattle.graph.specs.Limits.{unit-limit}
 use Rattle.graph.specs.Given.{below, knows}
 use Rattle.graph.specs.GivenFacts.{below-none, counts, list-fits, knows-is, knows-more, knows-not, knows-all}
 use Rattle.graph.proofs.linearization.ids_known.Statement.{statement}
 use Rattle.graph.proofs.linearization.ids_known.Tie as tie
-use Rattle.graph.proofs.linearization.ids_known.Reads as reads
-use Rattle.graph.proofs.linearization.ids_known.Lts as lts
-use Rattle.graph.proofs.linearization.all_below.Reads as all-below-reads
-use Rattle.graph.proofs.linearization.wide.Reads as wide-reads
 
 abbrev Inv-loop : tie.InvT-loop
 Inv-loop g n u₀ u = (u ≤ n) × (n ≤ unit-limit) × (below u (knows g) ≡ true)
@@ -22,35 +17,27 @@ Inv-loop g n u₀ u = (u ≤ n) × (n ≤ unit-limit) × (below u (knows g) ≡ 
 abbrev μ-loop : tie.MeasureT-loop
 μ-loop g n u₀ u = n - u
 
--- src/linearization.rt:170:5
 loop-holds : tie.Need-loop-holds Inv-loop μ-loop
 loop-holds c = (omega arith, counts (c .args .t1) (c .pre .0) .1, below-none _)
 
--- src/linearization.rt:171:26
 mul-wide : tie.Need-mul-wide Inv-loop μ-loop
 mul-wide c = search needs
 
--- src/linearization.rt:171:26
 element-copy-out-wide : tie.Need-element-copy-out-wide Inv-loop μ-loop
 element-copy-out-wide c = search needs
 
--- src/linearization.rt:171:13
 wide-requires : tie.Need-wide-requires Inv-loop μ-loop
 wide-requires c κs = search needs
 
--- src/linearization.rt:172:24
 mul-wide-2 : tie.Need-mul-wide-2 Inv-loop μ-loop
 mul-wide-2 c = search needs
 
--- src/linearization.rt:172:24
 element-copy-out-wide-2 : tie.Need-element-copy-out-wide-2 Inv-loop μ-loop
 element-copy-out-wide-2 c = search needs
 
--- src/linearization.rt:172:13
 wide-requires-2 : tie.Need-wide-requires-2 Inv-loop μ-loop
 wide-requires-2 c κs = search needs
 
--- src/linearization.rt:173:13
 all-below-requires : tie.Need-all-below-requires Inv-loop μ-loop
 all-below-requires c κs =
     let l = c .before .before .before .before .before .before .before in
@@ -59,29 +46,24 @@ all-below-requires c κs =
     let f = list-fits g (l .loop .u) (l .before .pre .1) (omega arith) in
     (omega (arith, c .before .before .before .before .wide .ensures .0, c .before .before .wide2 .ensures .0), search needs)
 
--- src/linearization.rt:174:13
 returns : tie.Need-returns Inv-loop μ-loop
 returns c =
     let l = c .before .before .before .before .before .before .before .before .before in
     let g = l .before .args .t1 in
     sym (knows-not g (l .loop .u) (omega arith) (knows-is g (l .loop .u) (c .before .all-below .result) (c .before .before .before .before .before .before .wide .result) (c .before .before .before .before .wide2 .result) (c .before .before .before .before .before .before .wide .ensures .0) (c .before .before .before .before .wide2 .ensures .0) (c .before .all-below .ensures) ∙ not-true _ (c .if1 .taken)))
 
--- src/linearization.rt:176:9
 add-u : tie.Need-add-u Inv-loop μ-loop
 add-u c = search needs
 
--- src/linearization.rt:170:5
 loop-less : tie.Need-loop-less Inv-loop μ-loop
 loop-less c = search needs
 
--- src/linearization.rt:170:5
 loop-again : tie.Need-loop-again Inv-loop μ-loop
 loop-again c =
     let l = c .before .before .before .before .before .before .before .before .before in
     let g = l .before .args .t1 in
     (omega arith, l .loop .inv .1, knows-more g (l .loop .u) (l .loop .inv .2) (knows-is g (l .loop .u) (c .before .all-below .result) (c .before .before .before .before .before .before .wide .result) (c .before .before .before .before .wide2 .result) (c .before .before .before .before .before .before .wide .ensures .0) (c .before .before .before .before .wide2 .ensures .0) (c .before .all-below .ensures) ∙ not-false _ (c .if1 .left)))
 
--- src/linearization.rt:164:1
 returns-2 : tie.Need-returns-2 Inv-loop μ-loop
 returns-2 c =
     let l = c .before in

@@ -1,40 +1,30 @@
 -- `linearization::linearize` begins the walk with nothing visited, and answers what the definition does. Assumes nothing.
-use borrow.Author.Needs.{needs}
 use native.Mathlib.Omega.{arith}
-use mathlib.Core.Path.{_≡_, sym, _∙_}
+use mathlib.Core.Path.{_∙_}
 use Rattle.graph.specs.Steps.{ready, told-order, told-ring}
 use Rattle.graph.proofs.linearization.linearize.Statement.{statement}
 use Rattle.graph.proofs.linearization.linearize.Tie as tie
-use Rattle.graph.proofs.linearization.linearize.Reads as reads
-use Rattle.graph.proofs.linearization.linearize.Lts as lts
-use Rattle.graph.proofs.linearization.answer.Reads as answer-reads
-use Rattle.graph.proofs.linearization.dfs_linearize.Reads as dfs-linearize-reads
 
--- src/linearization.rt:124:13
 dfs-linearize-requires : tie.Need-dfs-linearize-requires
 dfs-linearize-requires c κs = ready (c .args .g) (c .pre)
 
--- src/linearization.rt:126:9
 answer-requires : tie.Need-answer-requires
 answer-requires c κs =
     let v = c .before .before .before .dfs-linearize in
     let f = v .ensures .fine (c .before .before .if1 .taken) in
     (omega arith, f .full, f .order-long)
 
--- src/linearization.rt:126:9
 returns : tie.Need-returns
 returns c =
     let b = c .before .before .before .before in
     c .answer .ensures ∙ told-order (b .before .args .g) (b .dfs-linearize .result) (b .dfs-linearize .ensures) (c .before .before .before .if1 .taken)
 
--- src/linearization.rt:128:5
 answer-requires-2 : tie.Need-answer-requires-2
 answer-requires-2 c κs =
     let v = c .before .before .before .dfs-linearize in
     let k = v .ensures .closed (c .before .before .if1 .left) in
     (k .starts, k .deep, k .long)
 
--- src/linearization.rt:109:1
 returns-2 : tie.Need-returns-2
 returns-2 c =
     let b = c .before .before .before .before in

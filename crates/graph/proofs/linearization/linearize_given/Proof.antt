@@ -7,25 +7,17 @@ use Rattle.graph.specs.GivenFacts.{sound-of, given-accepted, given-refus
 use borrow.Author.Needs.{needs}
 use Rattle.graph.proofs.linearization.linearize_given.Statement.{statement}
 use Rattle.graph.proofs.linearization.linearize_given.Tie as tie
-use Rattle.graph.proofs.linearization.linearize_given.Reads as reads
-use Rattle.graph.proofs.linearization.linearize_given.Lts as lts
-use Rattle.graph.proofs.linearization.linearize.Reads as linearize-reads
-use Rattle.graph.proofs.linearization.refusal.Reads as refusal-reads
 
--- src/linearization.rt:208:9
 refusal-requires : tie.Need-refusal-requires
 refusal-requires c κs = search needs
 
--- src/linearization.rt:210:9
 linearize-requires : tie.Need-linearize-requires
 linearize-requires c κs =
     sound-of (c .before .before .args .g) (sym (c .before .refusal .ensures) ∙ c .if1 .taken) (search needs)
 
--- src/linearization.rt:210:9
 returns : tie.Need-returns
 returns c = c .linearize .ensures ∙ given-accepted (c .before .before .before .args .g) (sym (c .before .before .refusal .ensures) ∙ c .before .if1 .taken)
 
--- src/linearization.rt:205:1
 returns-2 : tie.Need-returns-2
 returns-2 c =
     let e = c .before .refusal .ensures in

@@ -1,16 +1,13 @@
 -- `linearization::position` goes up to the first place. The invariant: what is left of the search is a search in what is left of the list.
-use borrow.Author.Needs.{needs}
 use native.Mathlib.Omega.{arith}
-use mathlib.Core.Path.{_≡_, refl, sym, ap, _∙_}
-use Prim.Native.Nat.{ℕ, _≤_, _<_, _-_, _+_}
-use lib.ListN.{length, take, drop, getD, length-take}
+use mathlib.Core.Path.{_≡_}
+use Prim.Native.Nat.{_≤_, _<_, _-_, _+_}
+use lib.ListN.{take, drop, length-take}
 use lib.Seq.{getD-take}
 use Rattle.graph.specs.Arrays.{index-hit, index-miss, index-end}
 use Rattle.graph.specs.State.{index}
 use Rattle.graph.proofs.linearization.position.Statement.{statement}
 use Rattle.graph.proofs.linearization.position.Tie as tie
-use Rattle.graph.proofs.linearization.position.Reads as reads
-use Rattle.graph.proofs.linearization.position.Lts as lts
 
 abbrev Inv-loop : tie.InvT-loop
 Inv-loop l n u i₀ i = (i ≤ n) × (index u (take n l) ≡ i + index u (drop i (take n l)))
