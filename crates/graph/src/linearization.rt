@@ -58,14 +58,13 @@ fn position(l: &[u16; UNITS], n: usize, u: u16) -> usize
 
 // The walk at u, which is not done: a ring where u is being visited, or else all that it lists and then u. What is done is
 // tested before the call, so that it costs none.
-fn dfs_linearize(g: Graph, s: Search, u: u16) -> Search
-    requires { ⌜ Ready g s u ⌝ }
-    ensures { λ r. ⌜ Visited g s u r ⌝ }
+fn dfs_linearize(g: Graph, mut x: Search, u: u16) -> Search
+    requires { ⌜ Ready g x u ⌝ }
+    ensures { λ r. ⌜ Visited g x u r ⌝ }
 {
     let at = u as usize;
-    let depth = s.depth;
-    let p = position(&s.visiting, depth, u);
-    let mut x = s;
+    let depth = x.depth;
+    let p = position(&x.visiting, depth, u);
     if p < depth {
         x.ring = p;
         x.ok = false;

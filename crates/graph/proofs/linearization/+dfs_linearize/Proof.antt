@@ -23,10 +23,10 @@ abbrev μ-walk : Measures 0 kinds.ps ℕ
 μ-walk κs a = a .0 .units - a .1 .0 .depth
 
 abbrev Inv-loop : lts.InvT-loop
-Inv-loop u g at depth p x₀ first len i₀ x i = Turn g u x₀ x i
+Inv-loop u g x₀ at depth p first len i₀ x i = Turn g u x₀ x i
 
 abbrev μ-loop : lts.MeasureT-loop
-μ-loop u g at depth p x₀ first len i₀ x i = len - i
+μ-loop u g x₀ at depth p first len i₀ x i = len - i
 
 module _ (t : ℕ) where
   abbrev at-t : In 0 kinds.ps
