@@ -1,8 +1,11 @@
--- The corner cases of linearization.rs as one table: dependency lists, and what the definition answers. Assumes nothing.
+-- The corner cases of linearization.rs as one table: dependency lists, and what the definition answers; and a table of the tests of a graph given directly. Assumes nothing.
 use mathlib.Core.Path.{_≡_, refl}
 use mathlib.Core.List.{List, [], _∷_}
-use Prim.Native.Nat.{ℕ}
-use lib.ListN.{length, getD}
+use Prim.Native.Nat.{ℕ, _+_}
+use lib.ListN.{length, getD, replicate}
+use Rattle.graph.specs.declared.Graph.{Graph}
+use Rattle.graph.specs.Limits.{unit-limit, id-limit}
+use Rattle.graph.specs.Given.{cut, too-many, unknown-unit, refusal, counted, fitting, known, below, all}
 use Rattle.graph.specs.Linearize.{Out, order, ring, linearize, visit, each, memb, from}
 
 -- the graph that has these lists
@@ -36,3 +39,38 @@ corners =
 pub corner-cases : holds corners
 unfolding linearize visit each memb from
 corner-cases = (refl, (refl, (refl, (refl, (refl, (refl, tt))))))
+
+-- THE TESTS OF A GRAPH GIVEN DIRECTLY
+
+-- a graph of these starts, lengths and ids
+abbrev given : List ℕ → List ℕ → List ℕ → Graph
+given start len ids = record { start = start; len = len; ids = ids; units = length start; count = length ids }
+
+pub record Test : Type 0 where
+  pub graph : Graph
+  pub number : ℕ
+
+abbrev pub tested : List Test → Type 0
+tested [] = Unit {0}
+tested (t ∷ l) = (refusal (t .graph) ≡ t .number) × tested l
+
+abbrev pub tests : List Test
+tests =
+    -- no unit
+    record { graph = given [] [] []; number = too-many }
+    -- a unit more than the limit, and an id more
+    ∷ record { graph = given (replicate (unit-limit + 1) 0) [] []; number = too-many }
+    ∷ record { graph = given (0 ∷ []) (0 ∷ []) (replicate (id-limit + 1) 0); number = too-many }
+    -- an empty list may start at the end of the ids, and not after it
+    ∷ record { graph = given (1 ∷ []) (0 ∷ []) (0 ∷ []); number = 0 }
+    ∷ record { graph = given (2 ∷ []) (0 ∷ []) (0 ∷ []); number = cut }
+    -- an id that is no unit, in a list and in none
+    ∷ record { graph = given (0 ∷ []) (1 ∷ []) (1 ∷ []); number = unknown-unit }
+    ∷ record { graph = given (0 ∷ []) (0 ∷ []) (1 ∷ []); number = 0 }
+    -- all lists before all ids
+    ∷ record { graph = given (0 ∷ 0 ∷ []) (1 ∷ 2 ∷ []) (7 ∷ []); number = cut }
+    ∷ []
+
+pub test-cases : tested tests
+unfolding refusal counted fitting known below all
+test-cases = (refl, (refl, (refl, (refl, (refl, (refl, (refl, (refl, tt))))))))
