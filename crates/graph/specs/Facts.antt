@@ -43,7 +43,7 @@ once-snoc none h = more List·Memᴰ·not-nil none
 once-snoc {u} (more {u = x} {l = l'} f o) h =
     more (λ m. ⊎-elim f (λ e. h (List·Memᴰ·head (sym e))) (mem-snoc l' m)) (once-snoc o (λ m. h (List·Memᴰ·tail m)))
 
--- PIGEONHOLES
+-- THE PIGEONHOLE PRINCIPLE
 without : ℕ → List ℕ → List ℕ
 without m [] = []
 without m (x ∷ l) = cond (eqb m x) l (x ∷ without m l)
@@ -79,11 +79,11 @@ without-length m (y ∷ l) =
     cond-elim (λ k. length (y ∷ l) ≤ suc (length k)) (eqb m y) {x = l} {y = y ∷ without m l} (λ e. omega arith) (λ e. omega arith)
 
 -- as many different numbers below n as n, and no more
-pub pigeons : (n : ℕ) (l : List ℕ) → Once l → ((x : ℕ) → List·Memᴰ x l → x < n) → length l ≤ n
-pigeons zero [] o h = omega arith
-pigeons zero (x ∷ l) o h = let z = h x (List·Memᴰ·head refl) in absurd (omega arith)
-pigeons (suc m) l o h =
-    let ih = pigeons m (without m l) (without-once m o) (λ x k. below x k (h x (without-mem m l k))) in
+pub pigeonhole : (n : ℕ) (l : List ℕ) → Once l → ((x : ℕ) → List·Memᴰ x l → x < n) → length l ≤ n
+pigeonhole zero [] o h = omega arith
+pigeonhole zero (x ∷ l) o h = let z = h x (List·Memᴰ·head refl) in absurd (omega arith)
+pigeonhole (suc m) l o h =
+    let ih = pigeonhole m (without m l) (without-once m o) (λ x k. below x k (h x (without-mem m l k))) in
     omega (arith, without-length m l)
   where
     below : (x : ℕ) → List·Memᴰ x (without m l) → x < suc m → x < m

@@ -10,7 +10,7 @@ use lib.ListN.{length, length-append}
 use borrow.Author.Tests.{eqb-true, eqb-false}
 use Rattle.graph.specs.Linearize.{Out, order, ring, memb, from, andThen, each, visit, linearize}
 use Rattle.graph.specs.Order.{Edge, Reaches, here, step, Chain, last, link, Once, none, more, Ring, Linked, one, next, Walk, Named, Ordered, Cyclic, Within}
-use Rattle.graph.specs.Facts.{cond-elim, memb-true, memb-false, mem-snoc, once-snoc, pigeons, chain-snoc, chain-join, path-join, chain-path, path-chain}
+use Rattle.graph.specs.Facts.{cond-elim, memb-true, memb-false, mem-snoc, once-snoc, pigeonhole, chain-snoc, chain-join, path-join, chain-path, path-chain}
 
 -- how a list with one more at its end is split at a member: at the last, or before it
 pub split-snoc : (o p q : List ℕ) (u x : ℕ) → o ++ (u ∷ []) ≡ p ++ (x ∷ q) → ((o ≡ p) × (u ≡ x)) ⊎ ((q' : List ℕ) × (o ≡ p ++ (x ∷ q')))
@@ -216,7 +216,7 @@ module _ (deps : ℕ → List ℕ) where
     pub visit-right : (k : ℕ) (s o : List ℕ) (u : ℕ) → On s k → Done o → Apart s o → Trail s u → u < n → Reaches deps 0 u
         → Post s o (λ o'. List·Memᴰ u o') (visit deps k s o u)
     unfolding visit
-    visit-right zero s o u h dn ap t b r = let l = h .left in absurd (omega (arith, pigeons n s (h .once) (h .below)))
+    visit-right zero s o u h dn ap t b r = let l = h .left in absurd (omega (arith, pigeonhole n s (h .once) (h .below)))
     visit-right (suc k) s o u h dn ap t b r =
         cond-elim (Post s o (λ o'. List·Memᴰ u o')) (memb u o)
         (λ e. (record { done = dn; keeps = λ x m. m; apart = ap }, memb-true u o e))
@@ -279,3 +279,10 @@ module _ (deps : ℕ → List ℕ) where
         go : (x : Out) → linearize deps n ≡ x → Linearizes x → Cyclic deps → (r : List ℕ) × (linearize deps n ≡ ring r)
         go (order o) e q c = absurd (q .1 c)
         go (ring r) e q c = (r, e)
+
+    -- which is where two different reached units are reached from each other
+    pub ring-there : (Cyclic deps → (r : List ℕ) × Ring deps r) × ((r : List ℕ) × Ring deps r → Cyclic deps)
+    ring-there = (λ c. let q = ring-iff .1 c in by-answer (q .0) (q .1), λ k. ring-cyclic (k .1))
+      where
+        by-answer : (r : List ℕ) → linearize deps n ≡ ring r → (r : List ℕ) × Ring deps r
+        by-answer r e = let q : Linearizes (ring r) = rw e at linearize-right in (r, q .0 .ring)

@@ -15,7 +15,7 @@ use Rattle.graph.specs.declared.linearization.Search.{Search}
 use Rattle.graph.specs.Limits.{unit-limit}
 use Rattle.graph.specs.Linearize.{Out, order, ring, memb, from, andThen, each, visit, linearize}
 use Rattle.graph.specs.Order.{Edge, Reaches, here, step, none}
-use Rattle.graph.specs.Facts.{memb-false, mem-snoc, once-snoc, pigeons, path-join}
+use Rattle.graph.specs.Facts.{memb-false, mem-snoc, once-snoc, pigeonhole, path-join}
 use Rattle.graph.specs.OrderTheorems.{Done, Apart, On, Post, on-push, trail-snoc, visit-right, done-once, done-reach, start}
 use Rattle.graph.specs.Given.{depsOf, answer, numbered}
 use Rattle.graph.specs.State.{index, visitingOf, orderOf, outOf, Sound, Fine, Ready, Visited}
@@ -103,7 +103,7 @@ module _ (g : Graph) (w : Search) (u : ℕ) (R : Ready g w u) where
   stack-length = let F = R .fine in length-take-le (w .depth) (w .visiting) (omega arith)
 
   pub deep : w .depth ≤ g .units
-  deep = omega (arith, stack-length, pigeons (g .units) (visitingOf w) (R .on .once) (R .on .below))
+  deep = omega (arith, stack-length, pigeonhole (g .units) (visitingOf w) (R .on .once) (R .on .below))
 
   pub u-small : u < unit-limit
   u-small = let S = R .sound in let b = R .below in omega arith
@@ -138,7 +138,7 @@ module _ (g : Graph) (w : Search) (u : ℕ) (R : Ready g w u) where
       off-walk : w .depth < g .units
       off-walk =
           let q = stack-length in
-          omega (arith, length-append (visitingOf w) (u ∷ []), pigeons (g .units) (visitingOf w ++ (u ∷ [])) (on' .once) (on' .below))
+          omega (arith, length-append (visitingOf w) (u ∷ []), pigeonhole (g .units) (visitingOf w ++ (u ∷ [])) (on' .once) (on' .below))
 
       pub room : w .depth < unit-limit
       room = let S = R .sound in let h = off-walk in omega arith
@@ -296,7 +296,7 @@ module _ (g : Graph) (w : Search) (u : ℕ) (R : Ready g w u) where
               arith,
               order-length,
               length-append (orderOf x) (u ∷ []),
-              pigeons (g .units) (orderOf x ++ (u ∷ [])) (once-snoc (done-once (depsOf g) (T .done)) fresh)
+              pigeonhole (g .units) (orderOf x ++ (u ∷ [])) (once-snoc (done-once (depsOf g) (T .done)) fresh)
                   (λ y m. ⊎-elim (λ k. path-below (depsOf g) (g .units) (R .sound .within .lists) (done-reach (depsOf g) (T .done) y k) (R .sound .within .some)) (λ q. subst (λ (z : ℕ). z < g .units) (sym q) (R .below)) (mem-snoc (orderOf x) m)),
             )
 
