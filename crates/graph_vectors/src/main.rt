@@ -30,30 +30,6 @@ struct Number {
     next: usize,
 }
 
-// Where the first byte `stop` from `at` on is, or the end.
-fn end_of(s: &[u8], at: usize, stop: u8) -> usize
-    ensures { λ r. ⌜ at ≤ r ⌝ }
-{
-    let mut e = at;
-    while e < s.len() {
-        if s[e] == stop {
-            return e;
-        }
-        e += 1;
-    }
-    e
-}
-
-// The bytes from a to e, or none where these are no such places.
-fn part(s: &[u8], a: usize, e: usize) -> &[u8] {
-    if e <= s.len() {
-        if a <= e {
-            return &s[a..e];
-        }
-    }
-    &s[..0]
-}
-
 // The number in decimal at `at`, 65,535 if it is larger; the byte after it is passed.
 fn read_number(s: &[u8], at: usize) -> Number
     requires { do ⌜ at < (← ⟦s.len()⟧) ⌝ }
@@ -162,12 +138,12 @@ fn tell_ids(ids: [u16; UNITS], count: usize) {
 
 // Answers one line.
 fn line(s: &[u8]) {
-    let e = end_of(s, 0, 32);
-    let lists = part(s, 0, e);
+    let e = lines::end_of(s, 0, 32);
+    let lists = lines::part(s, 0, e);
     if s.len() <= e {
         return;
     }
-    let ids = part(s, e + 1, s.len());
+    let ids = lines::part(s, e + 1, s.len());
     let none = [0u16; UNITS];
     let no_ids = [0u16; IDS];
     let mut g = Graph {
@@ -199,8 +175,8 @@ fn line(s: &[u8]) {
 fn answer_all(s: &[u8]) {
     let mut at = 0;
     while at < s.len() {
-        let e = end_of(s, at, 10);
-        line(part(s, at, e));
+        let e = lines::end_of(s, at, 10);
+        line(lines::part(s, at, e));
         if s.len() <= e {
             return;
         }
