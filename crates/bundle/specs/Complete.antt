@@ -1,24 +1,24 @@
 -- What the encoder writes of a field in form is read, and gives the field back. Assumes nothing.
-use Prim.Native.Nat.{ℕ, zero, suc, _+_, _-_, _*_, _/_, _%_, _≤_, _<_}
+use Prim.Native.Nat.{ℕ, suc, _+_, _-_, _≤_, _<_}
 use native.Mathlib.Omega.{arith}
-use mathlib.Core.Bool.{Bool, true, false, cond, _&&_, _||_}
+use mathlib.Core.Bool.{Bool, true, false, _||_}
 use mathlib.Core.Path.{_≡_, refl, sym, ap, _∙_}
 use mathlib.Core.List.{List, [], _∷_, _++_, append-assoc}
-use lib.Dec.{eqb, ltb, leb}
-use lib.ListN.{length, take, drop, length-append}
+use lib.Dec.{eqb}
+use lib.ListN.{length, drop, length-append}
 use lib.Seq.{take-at}
 use borrow.Author.Tests.{lt-ltb, le-leb, eq-eqb, ne-eqb, eqb-true, eqb-false}
 use Rattle.names.specs.Path.{isPath}
 use Rattle.names.specs.Identifier.{isIdentifier}
-use Rattle.bundle.specs.Bundle.{Text, Element, Remapping}
+use Rattle.bundle.specs.Bundle.{Text}
 use Rattle.bundle.specs.Encode.{string, joined, element, remapping}
 use Rattle.bundle.specs.Encode.{counted as count-list}
-use Rattle.bundle.specs.Scan.{byte, text, andThen, times, scanString, scanFormed, scanPath, scanName, scanAlias, scanField, scanCount}
+use Rattle.bundle.specs.Scan.{byte, text, andThen, times, scanString, scanFormed, scanAlias, scanField, scanCount}
 use Rattle.bundle.specs.Decode.{each, far, counted, after, afterElement, afterRemapping, afterList, elementAt, remappingAt}
-use Rattle.bundle.specs.Form.{Every, IsPath, IsName, IsAlias, Short, FormedElement, FormedRemapping}
+use Rattle.bundle.specs.Form.{Every, IsAlias, Short, FormedElement, FormedRemapping}
 use Rattle.bundle.specs.Stand.{at-byte, at-append}
 use Rattle.bundle.specs.declared.Scan.{Scan}
-use Rattle.bundle.specs.declared.Scan.the-variants.{Next, Bad}
+use Rattle.bundle.specs.declared.Scan.the-variants.{Next}
 use Rattle.bundle.specs.declared.Field.the-variants.{Element as ElementField, Remapping as RemappingField}
 
 -- the field x, written at `at`, is read

@@ -1,28 +1,26 @@
 -- What the encoder writes of a bundle in form passes 1 to 6, and gives the bundle back. Assumes nothing.
-use Prim.Native.Nat.{ℕ, zero, suc, _+_, _-_, _*_, _/_, _%_, _≤_, _<_}
+use Prim.Native.Nat.{ℕ, suc, _+_, _-_, _/_, _%_, _≤_}
 use native.Mathlib.Omega.{arith}
-use mathlib.Core.Bool.{Bool, true, false, cond}
 use mathlib.Core.Path.{_≡_, refl, sym, ap, _∙_}
 use mathlib.Core.List.{List, [], _∷_, _++_, append-nil, append-assoc}
-use lib.Dec.{eqb, ltb, leb}
 use lib.ListN.{length, drop, length-append}
-use borrow.Author.Tests.{lt-ltb, le-ltb, le-leb, eq-eqb}
+use borrow.Author.Tests.{le-ltb, le-leb, eq-eqb}
 use Rattle.names.specs.Path.{isPath}
-use Rattle.bundle.specs.Bundle.{Text, Items, Remapping, File, Bundle}
+use Rattle.bundle.specs.Bundle.{File, Bundle}
 use Rattle.bundle.specs.Limits.{version, header, folder-limit, remapping-limit, file-limit, item-limit, use-limit, depth-limit}
 use Rattle.bundle.specs.Encode.{two, string, joined, sized, items, remapping, file, fields, encode}
 use Rattle.bundle.specs.Encode.{counted as count-list}
-use Rattle.bundle.specs.Scan.{byte, word, text, scanPath, scanField, scanCount, scanList, scanLength, scanEnd, scanFile, scanFiles, scanHeader}
-use Rattle.bundle.specs.Decode.{each, far, counted, after, afterRemapping, afterLength, afterFile, afterList, remappingAt, fileAt, itemsAt, foldersAt, remappingsAt, filesAt, decode}
-use Rattle.bundle.specs.Form.{Every, IsPath, FormedRemapping, FormedFile, Formed, Marked, MarkedFiles, itemCount, useCount, fileItems, fileUses, firstFile, InForm}
+use Rattle.bundle.specs.Scan.{byte, word, text, scanPath, scanField, scanList, scanLength, scanEnd, scanFile, scanFiles, scanHeader}
+use Rattle.bundle.specs.Decode.{each, after, afterRemapping, afterLength, afterFile, remappingAt, fileAt, decode}
+use Rattle.bundle.specs.Form.{Every, IsPath, FormedRemapping, FormedFile, Marked, MarkedFiles, itemCount, useCount, fileItems, fileUses, InForm}
 use Rattle.bundle.specs.Stand.{at-byte, at-append, sized-length}
-use Rattle.bundle.specs.Complete.{Writ, CountWrit, formed-writ, remapping-writ, count-byte, count-writ}
-use Rattle.bundle.specs.CompleteItems.{ItemsWrit, items-writ}
+use Rattle.bundle.specs.Complete.{formed-writ, remapping-writ, count-byte, count-writ}
+use Rattle.bundle.specs.CompleteItems.{items-writ}
 use Rattle.bundle.specs.Read.{form, lists, files}
-use Rattle.bundle.specs.declared.Scan.the-variants.{Next, Bad}
-use Rattle.bundle.specs.declared.Walk.the-variants.{Past, Fault}
-use Rattle.bundle.specs.declared.Field.the-variants.{Path, Remapping as RemappingField}
-use Rattle.bundle.specs.declared.Checked.the-variants.{Ok, Refused}
+use Rattle.bundle.specs.declared.Scan.the-variants.{Next}
+use Rattle.bundle.specs.declared.Walk.the-variants.{Past}
+use Rattle.bundle.specs.declared.Field.the-variants.{Remapping as RemappingField}
+use Rattle.bundle.specs.declared.Checked.the-variants.{Ok}
 
 module _ (s : List ℕ) where
   sized-writ : (body : List ℕ) (at : ℕ) (rest : List ℕ) → drop at s ≡ sized body ++ rest → (word s at ≡ length body) × (drop (at + 2) s ≡ body ++ rest)

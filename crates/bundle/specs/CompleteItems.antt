@@ -1,29 +1,25 @@
 -- What the encoder writes of items in form is read, and gives the items back. Assumes nothing.
-use Prim.Native.Nat.{ℕ, zero, suc, _+_, _-_, _*_, _/_, _%_, _≤_, _<_}
+use Prim.Native.Nat.{ℕ, zero, suc, _+_, _-_, _/_, _%_, _≤_, _<_}
 use native.Mathlib.Omega.{arith}
-use mathlib.Core.Bool.{Bool, true, false, cond, _&&_}
 use mathlib.Core.Path.{_≡_, refl, sym, ap, _∙_}
 use mathlib.Core.List.{List, [], _∷_, _++_, append-assoc}
-use lib.Dec.{eqb, ltb, leb}
-use lib.ListN.{length, take, drop, length-append}
-use borrow.Author.Tests.{lt-ltb, le-ltb, le-leb, eq-eqb, ne-eqb}
+use lib.ListN.{length, drop, length-append}
+use borrow.Author.Tests.{lt-ltb, le-leb, eq-eqb, ne-eqb}
 use Rattle.names.specs.Identifier.{isIdentifier}
 use Rattle.bundle.specs.Bundle.{Text, Element, Items, none, named, use-of, module-of, ignored}
 use Rattle.bundle.specs.Limits.{item-limit, use-limit, segment-limit, element-limit, use-kind, module-kind, ignored-kind}
 use Rattle.bundle.specs.Encode.{two, string, sized, element, items}
 use Rattle.bundle.specs.Encode.{counted as count-list}
-use Rattle.bundle.specs.Scan.{byte, word, text, andThen, scanName, scanField, scanList, scanUse, scanLength, scanMark, usesAfter, scanHead, scanBody, scanEnd, scanItem, scanItems, siblings}
+use Rattle.bundle.specs.Scan.{byte, word, text, andThen, scanName, scanField, scanList, scanUse, scanLength, scanMark, usesAfter, scanHead, scanBody, scanEnd, scanItem, scanItems}
 use Rattle.bundle.specs.Decode.{counted, after, afterElement, afterLength, afterList, elementAt, itemAt, itemsAt}
 use Rattle.bundle.specs.Walks.{goes, siblings-next, siblings-done, enters, leaf-past}
 use Rattle.bundle.specs.Access.{item-module, item-use, item-ignored, item-named, insideOf, items-end, items-step}
 use Rattle.bundle.specs.Form.{Every, IsName, FormedElement, Formed, Marked, itemCount, useCount}
 use Rattle.bundle.specs.Stand.{at-byte, at-append}
-use Rattle.bundle.specs.Complete.{Writ, CountWrit, formed-writ, element-writ, count-writ}
-use Rattle.bundle.specs.declared.Scan.{Scan}
-use Rattle.bundle.specs.declared.Scan.the-variants.{Next, Bad}
-use Rattle.bundle.specs.declared.Walk.{Walk}
-use Rattle.bundle.specs.declared.Walk.the-variants.{Past, Fault}
-use Rattle.bundle.specs.declared.Field.the-variants.{Name, Element as ElementField}
+use Rattle.bundle.specs.Complete.{formed-writ, element-writ, count-writ}
+use Rattle.bundle.specs.declared.Scan.the-variants.{Next}
+use Rattle.bundle.specs.declared.Walk.the-variants.{Past}
+use Rattle.bundle.specs.declared.Field.the-variants.{Element as ElementField}
 
 module _ (s : List ℕ) where
   -- an item's head, written at `at`, with X after its visibility; n is where the item ends

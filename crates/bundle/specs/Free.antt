@@ -1,19 +1,18 @@
 -- The tests 7 to 13 find nothing just where the value has no conflict. Assumes nothing.
 use Prim.Native.Nat.{ℕ, zero, suc, _+_}
 use native.Mathlib.Omega.{arith}
-use mathlib.Core.Bool.{Bool, true, false, cond, _&&_, _||_, not}
+use mathlib.Core.Bool.{Bool, true, false, cond, _&&_, not}
 use mathlib.Core.Path.{_≡_, refl, sym, ap, _∙_}
 use mathlib.Core.List.{List, [], _∷_, _++_, map}
-use Rattle.names.specs.Bytes.{same, member}
+use Rattle.names.specs.Bytes.{member}
 use Rattle.names.specs.Path.{root}
 use Rattle.names.specs.Prefix.{directlyIn}
 use Rattle.names.specs.Identifier.{isIdentifier}
 use Rattle.names.specs.Keywords.{isCrate, isKeyword}
-use Rattle.bundle.specs.Bundle.{Text, Remapping, File, Bundle}
-use Rattle.bundle.specs.Limits.{header}
+use Rattle.bundle.specs.Bundle.{Text, Remapping, File}
 use Rattle.bundle.specs.Scan.{byte, text}
-use Rattle.bundle.specs.Decode.{each, counted, after, afterRemapping, afterFile, remappingAt, fileAt, foldersAt, remappingsAt, filesAt, decode}
-use Rattle.bundle.specs.Conflicts.{Placed, PlacedRemapping, placedAt, placedRemappingAt, texts, orElse, any, listed, located, sameRemapping, remapped, conflicts, folders, files, remappings}
+use Rattle.bundle.specs.Decode.{each, after, afterRemapping, afterFile, remappingAt, fileAt, foldersAt, remappingsAt, filesAt, decode}
+use Rattle.bundle.specs.Conflicts.{Placed, PlacedRemapping, placedAt, placedRemappingAt, texts, orElse, any, listed, located, sameRemapping, remapped, conflicts, remappings}
 use Rattle.bundle.specs.Conflicts.{named as nameTold}
 use Rattle.bundle.specs.ListLaws.{texts-each}
 use Rattle.bundle.specs.Steps.{both}

@@ -1,14 +1,14 @@
 -- Every mark is the offset of its item in the bundle, and marks are different. Assumes nothing.
-use Prim.Native.Nat.{ℕ, zero, suc, _+_, _-_, _≤_, _<_}
+use Prim.Native.Nat.{ℕ, zero, suc, _+_, _≤_, _<_}
 use native.Mathlib.Omega.{arith}
-use mathlib.Core.Path.{_≡_, refl, sym, ap, _∙_}
-use mathlib.Core.List.{List, [], _∷_, _++_, append-assoc, append-nil}
+use mathlib.Core.Path.{_≡_, _∙_}
+use mathlib.Core.List.{List, [], _∷_, _++_, append-assoc}
 use lib.ListN.{length, getD, drop, length-append}
-use Rattle.bundle.specs.Bundle.{Text, Items, none, named, use-of, module-of, ignored, File, Bundle}
-use Rattle.bundle.specs.Limits.{header, version, use-kind, module-kind, ignored-kind}
-use Rattle.bundle.specs.Encode.{two, string, joined, sized, element, items, remapping, file, fields, encode}
+use Rattle.bundle.specs.Bundle.{Text, Items, none, named, use-of, module-of, ignored, File}
+use Rattle.bundle.specs.Limits.{use-kind, module-kind, ignored-kind}
+use Rattle.bundle.specs.Encode.{two, string, joined, sized, element, items, file}
 use Rattle.bundle.specs.Encode.{counted as count-list}
-use Rattle.bundle.specs.Form.{Marked, MarkedFiles, firstFile, InForm}
+use Rattle.bundle.specs.Form.{Marked, MarkedFiles}
 use Rattle.bundle.specs.Stand.{at-append, sized-length}
 
 -- the marks of items, each before those inside it

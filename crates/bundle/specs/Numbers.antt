@@ -1,8 +1,8 @@
 -- A refusal's number is one of 1 to 13. Assumes nothing.
-use Prim.Native.Nat.{ℕ, zero, suc, _+_, _-_, _≤_, _<_}
+use Prim.Native.Nat.{ℕ, zero, suc, _+_, _-_, _≤_}
 use native.Mathlib.Omega.{arith}
 use mathlib.Core.Bool.{Bool, true, false, cond, _&&_, not}
-use mathlib.Core.Path.{_≡_, refl, sym}
+use mathlib.Core.Path.{_≡_}
 use mathlib.Core.List.{List, [], _∷_, _++_}
 use lib.Dec.{eqb, ltb, leb}
 use lib.ListN.{length}
@@ -13,8 +13,7 @@ use Rattle.names.specs.Identifier.{isIdentifier}
 use Rattle.names.specs.Keywords.{isCrate, isKeyword}
 use Rattle.bundle.specs.Bundle.{Text}
 use Rattle.bundle.specs.Limits.{folder-limit, remapping-limit, file-limit, depth-limit, segment-limit, element-limit}
-use Rattle.bundle.specs.Scan.{byte, word, text, andThen, times, scanString, scanFormed, scanPath, scanName, scanAlias, scanField, scanCount, scanList, scanUse, scanLength, scanMark, usesAfter, scanHead, scanBody, scanEnd, walkOn, walkThen, scanItemWith, siblings, scanModule, scanItem, scanItems, scanFile, scanFiles, scanHeader}
-use Rattle.bundle.specs.Decode.{counted, after, afterRemapping, afterFile}
+use Rattle.bundle.specs.Scan.{byte, word, text, andThen, times, scanString, scanFormed, scanPath, scanName, scanAlias, scanField, scanCount, scanList, scanUse, scanLength, scanMark, usesAfter, scanHead, scanBody, scanEnd, walkOn, walkThen, scanItemWith, siblings, scanModule, scanItem, scanFile, scanFiles, scanHeader}
 use Rattle.bundle.specs.Conflicts.{Placed, PlacedRemapping, orElse, any, listed, located, sameRemapping, remapped, conflicts}
 use Rattle.bundle.specs.Conflicts.{named as nameTold}
 use Rattle.bundle.specs.Read.{afterWalk, files, lists, form, verdict}

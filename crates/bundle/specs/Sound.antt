@@ -1,31 +1,24 @@
 -- What is not refused by 1 to 6 is what the encoder writes, of a value in form. Assumes nothing.
-use Prim.Native.Nat.{ℕ, zero, suc, _+_, _-_, _*_, _≤_, _<_}
+use Prim.Native.Nat.{ℕ, zero, suc, _+_, _≤_, _<_}
 use native.Mathlib.Omega.{arith}
-use native.Mathlib.Numerals.{add-one}
 use mathlib.Core.Bool.{Bool, true, false, cond, _&&_, _||_}
 use mathlib.Core.Path.{_≡_, refl, sym, ap, _∙_}
-use mathlib.Core.List.{List, [], _∷_, _++_, append-assoc, append-nil}
-use lib.Dec.{eqb, ltb, leb}
-use lib.ListN.{length, getD, take, drop, length-append}
-use borrow.Author.Tests.{ltb-true, leb-true, eqb-true, eqb-false, eq-eqb, ne-eqb, lt-ltb, le-ltb}
+use mathlib.Core.List.{List, [], _∷_, _++_}
+use lib.Dec.{eqb, ltb}
+use lib.ListN.{length}
+use borrow.Author.Tests.{ltb-true, eqb-true, eq-eqb}
 use Rattle.names.specs.Path.{isPath}
 use Rattle.names.specs.Identifier.{isIdentifier}
-use Rattle.bundle.specs.Bundle.{Text, Element, Items, none, named, use-of, module-of, ignored, Remapping, File, Bundle}
-use Rattle.bundle.specs.Limits.{header, item-limit, use-limit, segment-limit, element-limit, depth-limit, use-kind, module-kind, ignored-kind}
-use Rattle.bundle.specs.Encode.{two, string, joined, sized, element, items, remapping, file}
+use Rattle.bundle.specs.Encode.{string, joined, element, remapping}
 use Rattle.bundle.specs.Encode.{counted as count-list}
-use Rattle.bundle.specs.Scan.{byte, word, text, andThen, times, scanString, scanFormed, scanPath, scanName, scanAlias, scanField, scanCount, scanList, scanUse, scanLength, usesAfter, scanHead, scanBody, scanEnd, walkOn, walkThen, scanItemWith, siblings, scanModule, scanItem, scanItems, scanFile, scanFiles}
-use Rattle.bundle.specs.Decode.{each, far, counted, after, afterElement, afterRemapping, afterLength, afterFile, afterList, elementAt, remappingAt, itemAt, itemsAt, fileAt}
-use Rattle.bundle.specs.Steps.{Head, head-next, string-next, formed-next, length-next, count-next, end-next, read-then, walked-on, walked-then, both}
-use Rattle.bundle.specs.Access.{item-module, item-use, item-ignored, item-named, insideOf, items-end, items-step}
-use Rattle.bundle.specs.Form.{Every, IsPath, IsName, IsAlias, Short, FormedElement, FormedRemapping, NamedKind, Formed, Marked, itemCount, useCount, FormedFile, MarkedFiles, fileItems, fileUses}
-use Rattle.bundle.specs.Stand.{Bytes, Stands, stands-then, stands-length, stands-byte, text-length, stands-string, stands-sized, sized-length}
+use Rattle.bundle.specs.Scan.{byte, text, andThen, times, scanString, scanFormed, scanPath, scanName, scanAlias, scanField, scanCount}
+use Rattle.bundle.specs.Decode.{each, far, counted, after, afterElement, afterRemapping, afterList, elementAt, remappingAt}
+use Rattle.bundle.specs.Steps.{string-next, formed-next, count-next, read-then, both}
+use Rattle.bundle.specs.Form.{Every, IsPath, IsName, IsAlias, Short, FormedElement, FormedRemapping}
+use Rattle.bundle.specs.Stand.{Bytes, Stands, stands-then, stands-byte, text-length, stands-string}
 use Rattle.bundle.specs.declared.Scan.{Scan}
-use Rattle.bundle.specs.declared.Scan.the-variants.{Next, Bad}
-use Rattle.bundle.specs.declared.Walk.{Walk}
-use Rattle.bundle.specs.declared.Walk.the-variants.{Past, Fault}
-use Rattle.bundle.specs.declared.Field.{Field}
-use Rattle.bundle.specs.declared.Field.the-variants.{Path, Name, Element as ElementField, Remapping as RemappingField}
+use Rattle.bundle.specs.declared.Scan.the-variants.{Next}
+use Rattle.bundle.specs.declared.Field.the-variants.{Element as ElementField, Remapping as RemappingField}
 
 -- a field that was read from at to n
 pub record Read {A : Type 0} (s : List ℕ) (end : ℕ) (P : A → Type 0) (enc : A → List ℕ) (skip : ℕ → ℕ) (get : ℕ → A) (at n : ℕ) : Type 0 where

@@ -1,23 +1,22 @@
 -- A bundle that is not refused by 1 to 6 is what the encoder writes of its value, and the value is in form. Assumes nothing.
-use Prim.Native.Nat.{ℕ, zero, suc, _+_, _-_, _*_, _≤_, _<_}
+use Prim.Native.Nat.{ℕ, zero, suc, _+_, _-_, _≤_, _<_}
 use native.Mathlib.Omega.{arith}
 use mathlib.Core.Bool.{Bool, true, false, cond}
 use mathlib.Core.Path.{_≡_, refl, sym, ap, _∙_}
 use mathlib.Core.List.{List, [], _∷_, _++_, append-nil}
 use lib.Dec.{eqb, ltb}
-use lib.ListN.{length, drop, length-append}
+use lib.ListN.{length}
 use lib.Seq.{drop-length}
-use borrow.Author.Tests.{ltb-true, ltb-false, eqb-true}
+use borrow.Author.Tests.{ltb-false, eqb-true}
 use Rattle.names.specs.Path.{isPath}
-use Rattle.bundle.specs.Bundle.{Text, Items, Remapping, File, Bundle}
 use Rattle.bundle.specs.Limits.{version, header, folder-limit, remapping-limit, file-limit, item-limit, use-limit, depth-limit}
 use Rattle.bundle.specs.Encode.{string, joined, sized, items, remapping, file, fields, encode}
 use Rattle.bundle.specs.Encode.{counted as count-list}
 use Rattle.bundle.specs.Scan.{byte, word, text, scanPath, scanField, scanCount, scanList, scanLength, scanEnd, scanFile, scanFiles, scanHeader}
-use Rattle.bundle.specs.Decode.{each, far, counted, after, afterRemapping, afterLength, afterFile, afterList, remappingAt, fileAt, itemsAt, foldersAt, remappingsAt, filesAt, decode}
-use Rattle.bundle.specs.Steps.{length-next, count-next, end-next, walked-on, walked-then, MidPast}
+use Rattle.bundle.specs.Decode.{each, far, counted, after, afterRemapping, afterLength, afterFile, remappingAt, fileAt, itemsAt, foldersAt, remappingsAt, filesAt, decode}
+use Rattle.bundle.specs.Steps.{length-next, count-next, end-next, walked-on, walked-then}
 use Rattle.bundle.specs.Walks.{file-goes}
-use Rattle.bundle.specs.Form.{Every, IsPath, FormedRemapping, FormedFile, Formed, Marked, MarkedFiles, itemCount, useCount, fileItems, fileUses, firstFile, InForm}
+use Rattle.bundle.specs.Form.{Every, IsPath, FormedRemapping, FormedFile, Marked, MarkedFiles, itemCount, useCount, fileItems, fileUses, InForm}
 use Rattle.bundle.specs.Stand.{Bytes, Stands, stands-then, stands-length, stands-byte, stands-sized}
 use Rattle.bundle.specs.Sound.{Read, CountRead, formed-read, remapping-read, count-read}
 use Rattle.bundle.specs.SoundItems.{ItemsAre, items-are-read}

@@ -1,27 +1,25 @@
 -- Items that are not refused are what the encoder writes, of items in form with their offsets as marks. Assumes nothing.
-use Prim.Native.Nat.{ℕ, zero, suc, _+_, _-_, _*_, _≤_, _<_}
+use Prim.Native.Nat.{ℕ, zero, suc, _+_, _-_, _≤_, _<_}
 use native.Mathlib.Omega.{arith}
 use mathlib.Core.Bool.{Bool, true, false, cond}
 use mathlib.Core.Path.{_≡_, refl, sym, ap, _∙_}
-use mathlib.Core.List.{List, [], _∷_, _++_, append-nil}
-use lib.Dec.{eqb, ltb, leb}
-use lib.ListN.{length, drop, length-append}
-use borrow.Author.Tests.{ltb-true, ltb-false, eqb-true, eqb-false, eq-eqb, ne-eqb, lt-ltb, le-ltb}
+use mathlib.Core.List.{List, [], _∷_, _++_}
+use lib.Dec.{eqb, ltb}
+use lib.ListN.{length}
+use borrow.Author.Tests.{ltb-true, ltb-false, eqb-true, eqb-false, ne-eqb}
 use Rattle.names.specs.Identifier.{isIdentifier}
-use Rattle.bundle.specs.Bundle.{Text, Element, Items, none, named, use-of, module-of, ignored}
-use Rattle.bundle.specs.Limits.{item-limit, use-limit, segment-limit, element-limit, depth-limit, use-kind, module-kind, ignored-kind}
+use Rattle.bundle.specs.Bundle.{Text, Element, Items, named, use-of, module-of, ignored}
+use Rattle.bundle.specs.Limits.{segment-limit, element-limit, use-kind, module-kind, ignored-kind}
 use Rattle.bundle.specs.Encode.{string, sized, element, items}
 use Rattle.bundle.specs.Encode.{counted as count-list}
-use Rattle.bundle.specs.Scan.{byte, word, text, andThen, scanName, scanField, scanList, scanUse, usesAfter, scanHead, scanBody, scanEnd, walkOn, walkThen, scanItemWith, siblings, scanModule, scanItem, scanItems}
+use Rattle.bundle.specs.Scan.{byte, text, andThen, scanName, scanField, scanList, scanUse, usesAfter, scanHead, scanBody, scanEnd, walkOn, walkThen, scanItemWith, siblings, scanModule, scanItem, scanItems}
 use Rattle.bundle.specs.Decode.{counted, after, afterElement, afterLength, afterList, elementAt, itemAt, itemsAt}
 use Rattle.bundle.specs.Steps.{Head, head-next, end-next, read-then, walked-on, walked-then}
 use Rattle.bundle.specs.Access.{item-module, item-use, item-ignored, item-named, insideOf, items-end, items-step}
-use Rattle.bundle.specs.Form.{Every, IsName, FormedElement, NamedKind, Formed, Marked, itemCount, useCount}
+use Rattle.bundle.specs.Form.{Every, IsName, FormedElement, Formed, Marked, itemCount, useCount}
 use Rattle.bundle.specs.Stand.{Bytes, Stands, stands-then, stands-length, stands-byte, stands-sized}
-use Rattle.bundle.specs.Sound.{Read, Reads, CountRead, formed-read, element-read, count-read}
-use Rattle.bundle.specs.declared.Scan.{Scan}
-use Rattle.bundle.specs.declared.Scan.the-variants.{Next, Bad}
-use Rattle.bundle.specs.declared.Walk.{Walk}
+use Rattle.bundle.specs.Sound.{Read, CountRead, formed-read, element-read, count-read}
+use Rattle.bundle.specs.declared.Scan.the-variants.{Next}
 use Rattle.bundle.specs.declared.Walk.the-variants.{Past, Fault}
 use Rattle.bundle.specs.declared.Field.the-variants.{Name, Element as ElementField}
 

@@ -1,11 +1,11 @@
 -- Bytes that stand in a bundle from one offset to another. Assumes nothing.
-use Prim.Native.Nat.{ℕ, zero, suc, _+_, _-_, _*_, _/_, _%_, _≤_, _<_, min}
+use Prim.Native.Nat.{ℕ, _+_, _-_, _/_, _%_, _≤_, _<_}
 use native.Mathlib.Omega.{arith}
 use native.Mathlib.Numerals.{add-one}
 use mathlib.Core.Path.{_≡_, refl, sym, ap, _∙_}
-use mathlib.Core.List.{List, [], _∷_, _++_, append-assoc, append-nil}
-use lib.ListN.{length, getD, take, drop, length-append, length-take, length-drop, take-append-drop}
-use lib.Seq.{drop-cons, drop-drop, drop-at, take-at, getD-drop, length-take-le}
+use mathlib.Core.List.{List, [], _∷_, _++_, append-assoc}
+use lib.ListN.{length, getD, drop, length-append, length-drop, take-append-drop}
+use lib.Seq.{drop-cons, drop-drop, drop-at, getD-drop, length-take-le}
 use Rattle.bundle.specs.Scan.{byte, word, text}
 use Rattle.bundle.specs.Decode.{after, afterLength}
 use Rattle.bundle.specs.Encode.{two, string, sized}

@@ -1,23 +1,23 @@
 -- WHAT HOLDS OF EVERY BUNDLE. Bytes are a value exactly where they are its encoding and it is well-formed; two values never
 -- share bytes; refusal and acceptance exclude each other; marks are offsets, and different. Assumes nothing.
-use Prim.Native.Nat.{ℕ, suc, _+_, _≤_, _<_}
+use Prim.Native.Nat.{ℕ, _+_, _<_}
 use native.Mathlib.Omega.{arith}
 use mathlib.Core.Path.{_≡_, refl, sym, ap, _∙_}
 use mathlib.Core.List.{List, [], _∷_, _++_, append-nil, append-assoc}
-use lib.ListN.{length, getD, drop, length-append}
+use lib.ListN.{length, getD, drop}
 use Rattle.bundle.specs.Bundle.{Bundle, File}
-use Rattle.bundle.specs.Limits.{header, version}
+use Rattle.bundle.specs.Limits.{header}
 use Rattle.bundle.specs.Encode.{string, joined, sized, remapping, file, fields, encode}
 use Rattle.bundle.specs.Encode.{counted as count-list}
 use Rattle.bundle.specs.Decode.{decode}
 use Rattle.bundle.specs.Conflicts.{orElse, conflicts}
-use Rattle.bundle.specs.Form.{InForm, Unconflicted, WellFormed, MarkedFiles, firstFile}
+use Rattle.bundle.specs.Form.{Unconflicted, WellFormed, firstFile}
 use Rattle.bundle.specs.Stand.{Bytes, at-append}
-use Rattle.bundle.specs.SoundBundle.{Sound, form-sound}
-use Rattle.bundle.specs.CompleteBundle.{Complete, form-complete}
+use Rattle.bundle.specs.SoundBundle.{form-sound}
+use Rattle.bundle.specs.CompleteBundle.{form-complete}
 use Rattle.bundle.specs.Free.{conflicts-free, free-conflicts}
-use Rattle.bundle.specs.Marks.{marksOf, fileMarks, Rising, rising-less, files-rising, FoundFiles, files-found, behind-length}
-use Rattle.bundle.specs.Read.{form, verdict, Reading, value, refused, reading, read}
+use Rattle.bundle.specs.Marks.{fileMarks, rising-less, files-rising, FoundFiles, files-found, behind-length}
+use Rattle.bundle.specs.Read.{form, verdict, value, refused, reading, read}
 use Rattle.bundle.specs.declared.Checked.{Checked}
 use Rattle.bundle.specs.declared.Checked.the-variants.{Ok, Refused}
 

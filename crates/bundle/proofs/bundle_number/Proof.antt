@@ -1,6 +1,7 @@
+-- `bundle::bundle_number` meets its contract, way by way. Assumes nothing.
 use borrow.Author.Needs.{needs}
-use mathlib.Core.Path.{_≡_, refl, sym, ap, _∙_}
-use Rattle.bundle.specs.Read.{numberOf, placeOf}
+use mathlib.Core.Path.{sym, _∙_}
+use Rattle.bundle.specs.Read.{numberOf}
 use Rattle.bundle.proofs.bundle_number.Statement.{statement}
 use Rattle.bundle.proofs.bundle_number.Tie as tie
 
@@ -15,11 +16,11 @@ enum-known-told c = search needs
 
 returns : tie.Need-returns
 unfolding numberOf
-returns c = rw (sym ((c .before .before .check) .ensures) ∙ (c .enum-told) .given .1)
+returns c = rw (sym (c .before .before .check .ensures) ∙ c .enum-told .given .1)
 
 returns-2 : tie.Need-returns-2
 unfolding numberOf
-returns-2 c = rw (sym ((c .before .before .before .check) .ensures) ∙ (c .before .told) .given .1)
+returns-2 c = rw (sym (c .before .before .before .check .ensures) ∙ c .before .told .given .1)
 
 pub bundle-number-spec : {M : Type 1} → statement M
 bundle-number-spec =
