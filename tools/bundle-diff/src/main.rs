@@ -184,7 +184,8 @@ fn large() -> Vec<u8> {
     fields.push(32);
     for i in 0..32 {
         string(&mut fields, folder(63).as_bytes());
-        string(&mut fields, format!("library_{i}").as_bytes());
+        let filler = if i == 31 { "_to_fill_the_bytes" } else { "" };
+        string(&mut fields, format!("library_{i}{filler}").as_bytes());
         string(&mut fields, folder(62).as_bytes());
     }
     fields.push(64);
@@ -199,7 +200,7 @@ fn large() -> Vec<u8> {
             for segment in ["crate", "folder_with_a_long_name_0000000", "a_module_name"] {
                 string(&mut body, segment.as_bytes());
             }
-            let elements = 3 + usize::from(i * 4 + j < 255);
+            let elements = 3 + usize::from(i * 4 + j < 146);
             body.push(elements as u8);
             for k in 0..elements {
                 string(
