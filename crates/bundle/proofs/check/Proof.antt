@@ -1,7 +1,6 @@
+-- `bundle::check` meets its contract, way by way. Assumes nothing.
 use borrow.Author.Needs.{needs}
 use mathlib.Core.Path.{sym, _∙_}
-use Rattle.bundle.specs.Conflicts.{conflicts}
-use Rattle.bundle.specs.Lists.{before}
 use Rattle.bundle.specs.Read.{verdict}
 use Rattle.bundle.proofs.check.Statement.{statement}
 use Rattle.bundle.proofs.check.Tie as tie
@@ -20,11 +19,11 @@ conflicts-requires c κs = search needs
 
 returns : tie.Need-returns
 unfolding verdict
-returns c = rw (sym ((c .before .before .before .form) .ensures) ∙ (c .before .formed) .given .1)
+returns c = rw (sym (c .before .before .before .form .ensures) ∙ c .before .formed .given .1)
 
 returns-2 : tie.Need-returns-2
 unfolding verdict
-returns-2 c = rw (sym ((c .before .before .before .form) .ensures) ∙ (c .before .enum-told) .given .1) ((c .conflicts) .ensures)
+returns-2 c = rw (sym (c .before .before .before .form .ensures) ∙ c .before .enum-told .given .1) (c .conflicts .ensures)
 
 pub check-spec : {M : Type 1} → statement M
 check-spec =

@@ -1,3 +1,4 @@
+-- `bundle::access::file_items` meets its contract, way by way. Assumes nothing.
 use borrow.Author.Needs.{needs}
 use native.Mathlib.Omega.{arith}
 use Rattle.bundle.specs.Decode.{fileAt}
@@ -15,7 +16,7 @@ add-t5 c = search needs
 
 returns : tie.Need-returns
 unfolding fileAt
-returns c = (rw ((c .after-length) .ensures .0, (c .before .after-string) .ensures .0), omega arith)
+returns c = (rw (c .after-length .ensures .0, c .before .after-string .ensures .0), omega arith)
 
 pub file-items-spec : {M : Type 1} → statement M
 file-items-spec = tie.close (tie.spec after-string-requires after-length-requires add-t5 returns)

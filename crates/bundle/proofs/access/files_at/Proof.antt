@@ -1,3 +1,4 @@
+-- `bundle::access::files_at` meets its contract, way by way. Assumes nothing.
 use borrow.Author.Needs.{needs}
 use mathlib.Core.Path.{_∙_}
 use native.Mathlib.Omega.{arith}
@@ -21,7 +22,11 @@ after-strings-requires : tie.Need-after-strings-requires
 after-strings-requires c κs = search needs
 
 returns : tie.Need-returns
-returns c = ((c .after-strings) .ensures .0 ∙ far-thrice ((c .before .before .before .before) .args .s .now) _ _ ∙ rw ((c .before .byte-at) .ensures .0, (c .before .before .remappings-at) .ensures .0), omega arith)
+returns c =
+    let start' = c .before .before .before .before in
+    let remappings-at' = c .before .before .remappings-at in
+    let byte-at' = c .before .byte-at in
+    (c .after-strings .ensures .0 ∙ far-thrice (start' .args .s .now) _ _ ∙ rw (byte-at' .ensures .0, remappings-at' .ensures .0), omega arith)
 
 pub files-at-spec : {M : Type 1} → statement M
 files-at-spec =

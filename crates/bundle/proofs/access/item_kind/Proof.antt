@@ -1,3 +1,4 @@
+-- `bundle::access::item_kind` meets its contract, way by way. Assumes nothing.
 use borrow.Author.Needs.{needs}
 use mathlib.Core.Path.{sym, _∙_}
 use Rattle.bundle.specs.Access.{first-kind}
@@ -11,7 +12,7 @@ byte-at-requires : tie.Need-byte-at-requires
 byte-at-requires c κs = search needs
 
 returns : tie.Need-returns
-returns c = λ depth end h. (c .byte-at) .ensures .0 ∙ sym (first-kind depth ((c .before .before) .args .s .now) end ((c .before .before) .args .at) h)
+returns c = λ depth end h. c .byte-at .ensures .0 ∙ sym (first-kind depth (c .before .before .args .s .now) end (c .before .before .args .at) h)
 
 pub item-kind-spec : {M : Type 1} → statement M
 item-kind-spec = tie.close (tie.spec add-byte-at byte-at-requires returns)

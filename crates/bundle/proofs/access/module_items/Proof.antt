@@ -1,3 +1,4 @@
+-- `bundle::access::module_items` meets its contract, way by way. Assumes nothing.
 use borrow.Author.Needs.{needs}
 use native.Mathlib.Omega.{arith}
 use Rattle.bundle.specs.Access.{first-inner}
@@ -14,7 +15,10 @@ after-length-requires : tie.Need-after-length-requires
 after-length-requires c κs = search needs
 
 returns : tie.Need-returns
-returns c = (λ depth end h k. rw (first-inner depth ((c .before .before .before) .args .s .now) end ((c .before .before .before) .args .at) h k) (rw ((c .before .after-string) .ensures .0, (c .after-length) .ensures .0)), (omega (arith, (c .before .after-string) .ensures .0), omega arith))
+returns c =
+    let start' = c .before .before .before in
+    let after-string' = c .before .after-string in
+    (λ depth end h k. rw (first-inner depth (start' .args .s .now) end (start' .args .at) h k) (rw (after-string' .ensures .0, c .after-length .ensures .0)), (omega (arith, after-string' .ensures .0), omega arith))
 
 pub module-items-spec : {M : Type 1} → statement M
 module-items-spec =

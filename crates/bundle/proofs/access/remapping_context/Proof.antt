@@ -1,3 +1,4 @@
+-- `bundle::access::remapping_context` meets its contract, way by way. Assumes nothing.
 use borrow.Author.Needs.{needs}
 use Rattle.bundle.specs.Decode.{remappingAt}
 use Rattle.bundle.proofs.access.remapping_context.Statement.{statement}
@@ -8,7 +9,7 @@ text-at-requires c κs = search needs
 
 returns : tie.Need-returns
 unfolding remappingAt
-returns c = (c .text-at) .ensures
+returns c = c .text-at .ensures
 
 pub remapping-context-spec : {M : Type 1} → statement M
 remapping-context-spec = tie.close (tie.spec text-at-requires returns)

@@ -1,3 +1,4 @@
+-- `bundle::access::remapping_name` meets its contract, way by way. Assumes nothing.
 use borrow.Author.Needs.{needs}
 use mathlib.Core.Path.{_∙_}
 use Rattle.bundle.specs.Decode.{remappingAt}
@@ -12,7 +13,7 @@ text-at-requires c κs = search needs
 
 returns : tie.Need-returns
 unfolding remappingAt
-returns c = (c .text-at) .ensures ∙ rw ((c .before .after-string) .ensures .0)
+returns c = c .text-at .ensures ∙ rw (c .before .after-string .ensures .0)
 
 pub remapping-name-spec : {M : Type 1} → statement M
 remapping-name-spec = tie.close (tie.spec after-string-requires text-at-requires returns)

@@ -1,3 +1,4 @@
+-- `bundle::access::remapping_target` meets its contract, way by way. Assumes nothing.
 use borrow.Author.Needs.{needs}
 use mathlib.Core.Path.{_∙_}
 use Rattle.bundle.specs.Decode.{remappingAt}
@@ -15,7 +16,7 @@ text-at-requires c κs = search needs
 
 returns : tie.Need-returns
 unfolding remappingAt
-returns c = (c .text-at) .ensures ∙ rw ((c .before .after-string2) .ensures .0, (c .before .before .after-string) .ensures .0)
+returns c = c .text-at .ensures ∙ rw (c .before .after-string2 .ensures .0, c .before .before .after-string .ensures .0)
 
 pub remapping-target-spec : {M : Type 1} → statement M
 remapping-target-spec =

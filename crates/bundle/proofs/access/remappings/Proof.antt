@@ -1,3 +1,4 @@
+-- `bundle::access::remappings` meets its contract, way by way. Assumes nothing.
 use borrow.Author.Needs.{needs}
 use native.Mathlib.Omega.{arith}
 use Rattle.bundle.specs.Decode.{decode}
@@ -15,7 +16,7 @@ add-t4 c = search needs
 
 returns : tie.Need-returns
 unfolding decode
-returns c = (rw ((c .byte-at) .ensures .0, (c .before .remappings-at) .ensures .0), omega arith)
+returns c = (rw (c .byte-at .ensures .0, c .before .remappings-at .ensures .0), omega arith)
 
 pub remappings-spec : {M : Type 1} → statement M
 remappings-spec = tie.close (tie.spec remappings-at-requires byte-at-requires add-t4 returns)

@@ -1,3 +1,4 @@
+-- `bundle::access::remappings_at` meets its contract, way by way. Assumes nothing.
 use borrow.Author.Needs.{needs}
 use mathlib.Core.Path.{_∙_}
 use native.Mathlib.Omega.{arith}
@@ -17,7 +18,7 @@ after-strings-requires : tie.Need-after-strings-requires
 after-strings-requires c κs = search needs
 
 returns : tie.Need-returns
-returns c = ((c .after-strings) .ensures .0 ∙ rw ((c .before .byte-at) .ensures .0, (c .before .before .folders-at) .ensures .0), omega arith)
+returns c = (c .after-strings .ensures .0 ∙ rw (c .before .byte-at .ensures .0, c .before .before .folders-at .ensures .0), omega arith)
 
 pub remappings-at-spec : {M : Type 1} → statement M
 remappings-at-spec =

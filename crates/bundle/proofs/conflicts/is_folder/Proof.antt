@@ -1,7 +1,7 @@
+-- `bundle::conflicts::is_folder` meets its contract, way by way. Assumes nothing.
 use borrow.Author.Needs.{needs}
 use mathlib.Core.Path.{sym, _∙_}
 use Rattle.names.specs.Bytes.{member}
-use Rattle.bundle.specs.Lists.{before}
 use Rattle.bundle.proofs.conflicts.is_folder.Statement.{statement}
 use Rattle.bundle.proofs.conflicts.is_folder.Tie as tie
 
@@ -13,7 +13,7 @@ same-bytes-requires c κs = search needs
 
 returns : tie.Need-returns
 unfolding member
-returns c = rw (sym ((c .before .same-bytes) .ensures) ∙ (c .if1) .taken)
+returns c = rw (sym (c .before .same-bytes .ensures) ∙ c .if1 .taken)
 
 add-among : tie.Need-add-among
 add-among c = search needs
@@ -26,7 +26,7 @@ among-requires c κs = search needs
 
 returns-2 : tie.Need-returns-2
 unfolding member
-returns-2 c = rw (sym ((c .before .before .before .same-bytes) .ensures) ∙ (c .before .before .if1) .left, ← (c .before .byte-at) .ensures .0) ((c .among) .ensures)
+returns-2 c = rw (sym (c .before .before .before .same-bytes .ensures) ∙ c .before .before .if1 .left, ← c .before .byte-at .ensures .0) (c .among .ensures)
 
 pub is-folder-spec : {M : Type 1} → statement M
 is-folder-spec =

@@ -1,7 +1,7 @@
+-- `bundle::conflicts::next_remapping` meets its contract, way by way. Assumes nothing.
 use borrow.Author.Needs.{needs}
 use mathlib.Core.Path.{_∙_}
 use native.Mathlib.Omega.{arith}
-use Rattle.bundle.specs.Lists.{before}
 use Rattle.bundle.proofs.conflicts.next_remapping.Statement.{statement}
 use Rattle.bundle.proofs.conflicts.next_remapping.Tie as tie
 
@@ -15,7 +15,7 @@ after-string-requires-3 : tie.Need-after-string-requires-3
 after-string-requires-3 c κs = search needs
 
 returns : tie.Need-returns
-returns c = ((c .after-string3) .ensures .0 ∙ rw ((c .before .after-string2) .ensures .0, (c .before .before .after-string) .ensures .0), omega arith)
+returns c = (c .after-string3 .ensures .0 ∙ rw (c .before .after-string2 .ensures .0, c .before .before .after-string .ensures .0), omega arith)
 
 pub next-remapping-spec : {M : Type 1} → statement M
 next-remapping-spec =

@@ -1,6 +1,6 @@
+-- `bundle::conflicts::place_verdict` meets its contract, way by way. Assumes nothing.
 use borrow.Author.Needs.{needs}
 use Rattle.bundle.specs.Conflicts.{located, placedAt}
-use Rattle.bundle.specs.Lists.{before}
 use Rattle.bundle.proofs.conflicts.place_verdict.Statement.{statement}
 use Rattle.bundle.proofs.conflicts.place_verdict.Tie as tie
 
@@ -12,7 +12,7 @@ is-folder-requires c κs = search needs
 
 returns : tie.Need-returns
 unfolding located placedAt
-returns c = simp (← (c .before .before .text-at) .ensures, ← (c .before .is-folder) .ensures, (c .if1) .taken)
+returns c = simp (← c .before .before .text-at .ensures, ← c .before .is-folder .ensures, c .if1 .taken)
 
 add-among : tie.Need-add-among
 add-among c = search needs
@@ -25,11 +25,23 @@ among-requires c κs = search needs
 
 returns-2 : tie.Need-returns-2
 unfolding located placedAt
-returns-2 c = simp (← (c .before .before .before .before .before .text-at) .ensures, ← (c .before .before .before .before .is-folder) .ensures, (c .before .before .before .if1) .left, ← (c .before .before .byte-at) .ensures .0, ← (c .before .among) .ensures, (c .if2) .taken)
+returns-2 c =
+    let text-at' = c .before .before .before .before .before .text-at in
+    let is-folder' = c .before .before .before .before .is-folder in
+    let if1' = c .before .before .before .if1 in
+    let byte-at' = c .before .before .byte-at in
+    let among' = c .before .among in
+    simp (← text-at' .ensures, ← is-folder' .ensures, if1' .left, ← byte-at' .ensures .0, ← among' .ensures, c .if2 .taken)
 
 returns-3 : tie.Need-returns-3
 unfolding located placedAt
-returns-3 c = simp (← (c .before .before .before .before .before .text-at) .ensures, ← (c .before .before .before .before .is-folder) .ensures, (c .before .before .before .if1) .left, ← (c .before .before .byte-at) .ensures .0, ← (c .before .among) .ensures, (c .if2) .left)
+returns-3 c =
+    let text-at' = c .before .before .before .before .before .text-at in
+    let is-folder' = c .before .before .before .before .is-folder in
+    let if1' = c .before .before .before .if1 in
+    let byte-at' = c .before .before .byte-at in
+    let among' = c .before .among in
+    simp (← text-at' .ensures, ← is-folder' .ensures, if1' .left, ← byte-at' .ensures .0, ← among' .ensures, c .if2 .left)
 
 pub place-verdict-spec : {M : Type 1} → statement M
 place-verdict-spec =

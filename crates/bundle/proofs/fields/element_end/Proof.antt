@@ -1,3 +1,4 @@
+-- `bundle::fields::element_end` meets its contract, way by way. Assumes nothing.
 use borrow.Author.Needs.{needs}
 use mathlib.Core.Path.{sym, _∙_}
 use Rattle.bundle.specs.Scan.{scanField}
@@ -18,11 +19,11 @@ alias-end-requires c κs = search needs
 
 returns : tie.Need-returns
 unfolding scanField
-returns c = rw (sym ((c .before .before .before .name-end) .ensures) ∙ (c .before .name) .given .1)
+returns c = rw (sym (c .before .before .before .name-end .ensures) ∙ c .before .name .given .1)
 
 returns-2 : tie.Need-returns-2
 unfolding scanField
-returns-2 c = rw (sym ((c .before .before .before .before .name-end) .ensures) ∙ (c .before .before .name2) .given .1) ((c .alias-end) .ensures)
+returns-2 c = rw (sym (c .before .before .before .before .name-end .ensures) ∙ c .before .before .name2 .given .1) (c .alias-end .ensures)
 
 pub element-end-spec : {M : Type 1} → statement M
 element-end-spec =

@@ -1,3 +1,4 @@
+-- `bundle::fields::string_end` meets its contract, way by way. Assumes nothing.
 use borrow.Author.Needs.{needs}
 use borrow.Author.Tests.{lt-ltb, le-ltb, le-leb, lt-leb}
 use Rattle.bundle.specs.Scan.{scanString}
@@ -6,7 +7,7 @@ use Rattle.bundle.proofs.fields.string_end.Tie as tie
 
 returns : tie.Need-returns
 unfolding scanString
-returns c = simp (le-ltb _ _ ((c .if1) .taken))
+returns c = simp (le-ltb _ _ (c .if1 .taken))
 
 byte-at-requires : tie.Need-byte-at-requires
 byte-at-requires c κs = search needs
@@ -25,11 +26,11 @@ add-t10 c = search needs
 
 returns-2 : tie.Need-returns-2
 unfolding scanString
-returns-2 c = simp (lt-ltb _ _ ((c .before .before .if1) .left), ← (c .before .byte-at) .ensures .0, le-leb _ _ ((c .if2) .taken))
+returns-2 c = simp (lt-ltb _ _ (c .before .before .if1 .left), ← c .before .byte-at .ensures .0, le-leb _ _ (c .if2 .taken))
 
 returns-3 : tie.Need-returns-3
 unfolding scanString
-returns-3 c = simp (lt-ltb _ _ ((c .before .before .if1) .left), ← (c .before .byte-at) .ensures .0, lt-leb _ _ ((c .if2) .left))
+returns-3 c = simp (lt-ltb _ _ (c .before .before .if1 .left), ← c .before .byte-at .ensures .0, lt-leb _ _ (c .if2 .left))
 
 pub string-end-spec : {M : Type 1} → statement M
 string-end-spec =

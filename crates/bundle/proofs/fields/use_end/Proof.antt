@@ -1,3 +1,4 @@
+-- `bundle::fields::use_end` meets its contract, way by way. Assumes nothing.
 use borrow.Author.Needs.{needs}
 use mathlib.Core.Path.{sym, _∙_}
 use Rattle.bundle.specs.Scan.{scanUse}
@@ -18,11 +19,11 @@ list-end-requires-2 c κs = search needs
 
 returns : tie.Need-returns
 unfolding scanUse
-returns c = rw (sym ((c .before .before .before .list-end) .ensures) ∙ (c .before .segments) .given .1)
+returns c = rw (sym (c .before .before .before .list-end .ensures) ∙ c .before .segments .given .1)
 
 returns-2 : tie.Need-returns-2
 unfolding scanUse
-returns-2 c = rw (sym ((c .before .before .before .before .list-end) .ensures) ∙ (c .before .before .segments2) .given .1) ((c .list-end2) .ensures)
+returns-2 c = rw (sym (c .before .before .before .before .list-end .ensures) ∙ c .before .before .segments2 .given .1) (c .list-end2 .ensures)
 
 pub use-end-spec : {M : Type 1} → statement M
 use-end-spec =

@@ -1,3 +1,4 @@
+-- `bundle::form::form` meets its contract, way by way. Assumes nothing.
 use borrow.Author.Needs.{needs}
 use mathlib.Core.Path.{sym, _∙_}
 use Rattle.bundle.specs.Read.{form}
@@ -27,15 +28,25 @@ lists-form-requires c κs = search needs
 
 returns : tie.Need-returns
 unfolding form
-returns c = rw (sym ((c .before .before .before .header-end) .ensures) ∙ (c .before .header) .given .1)
+returns c = rw (sym (c .before .before .before .header-end .ensures) ∙ c .before .header .given .1)
 
 returns-2 : tie.Need-returns-2
 unfolding form
-returns-2 c = rw (sym ((c .before .before .before .before .before .before .before .header-end) .ensures) ∙ (c .before .before .before .before .before .header2) .given .1, sym ((c .before .before .before .path-end) .ensures) ∙ (c .before .path) .given .1)
+returns-2 c =
+    let header-end' = c .before .before .before .before .before .before .before .header-end in
+    let header2' = c .before .before .before .before .before .header2 in
+    let path-end' = c .before .before .before .path-end in
+    let path' = c .before .path in
+    rw (sym (header-end' .ensures) ∙ header2' .given .1, sym (path-end' .ensures) ∙ path' .given .1)
 
 returns-3 : tie.Need-returns-3
 unfolding form
-returns-3 c = rw (sym ((c .before .before .before .before .before .before .before .before .header-end) .ensures) ∙ (c .before .before .before .before .before .before .header2) .given .1, sym ((c .before .before .before .before .path-end) .ensures) ∙ (c .before .before .path2) .given .1) ((c .lists-form) .ensures)
+returns-3 c =
+    let header-end' = c .before .before .before .before .before .before .before .before .header-end in
+    let header2' = c .before .before .before .before .before .before .header2 in
+    let path-end' = c .before .before .before .before .path-end in
+    let path2' = c .before .before .path2 in
+    rw (sym (header-end' .ensures) ∙ header2' .given .1, sym (path-end' .ensures) ∙ path2' .given .1) (c .lists-form .ensures)
 
 pub form-spec : {M : Type 1} → statement M
 form-spec =

@@ -1,3 +1,4 @@
+-- `bundle::items::body_end` meets its contract, way by way. Assumes nothing.
 use borrow.Author.Needs.{needs}
 use borrow.Author.Tests.{eq-eqb, ne-eqb}
 use Rattle.bundle.specs.Scan.{scanBody}
@@ -15,7 +16,7 @@ add-t7 c = search needs
 
 returns : tie.Need-returns
 unfolding scanBody
-returns c = simp (← (c .before .byte-at) .ensures .0, eq-eqb _ _ ((c .if1) .taken))
+returns c = simp (← c .before .byte-at .ensures .0, eq-eqb _ _ (c .if1 .taken))
 
 add-use-end : tie.Need-add-use-end
 add-use-end c = search needs
@@ -25,7 +26,11 @@ use-end-requires c κs = search needs
 
 returns-2 : tie.Need-returns-2
 unfolding scanBody
-returns-2 c = simp (← (c .before .before .before .byte-at) .ensures .0, ne-eqb _ _ ((c .before .before .if1) .left), eq-eqb _ _ ((c .before .if2) .taken)) ((c .use-end) .ensures)
+returns-2 c =
+    let byte-at' = c .before .before .before .byte-at in
+    let if1' = c .before .before .if1 in
+    let if2' = c .before .if2 in
+    simp (← byte-at' .ensures .0, ne-eqb _ _ (if1' .left), eq-eqb _ _ (if2' .taken)) (c .use-end .ensures)
 
 add-name-end : tie.Need-add-name-end
 add-name-end c = search needs
@@ -35,7 +40,11 @@ name-end-requires c κs = search needs
 
 returns-3 : tie.Need-returns-3
 unfolding scanBody
-returns-3 c = simp (← (c .before .before .before .byte-at) .ensures .0, ne-eqb _ _ ((c .before .before .if1) .left), ne-eqb _ _ ((c .before .if2) .left)) ((c .name-end) .ensures)
+returns-3 c =
+    let byte-at' = c .before .before .before .byte-at in
+    let if1' = c .before .before .if1 in
+    let if2' = c .before .if2 in
+    simp (← byte-at' .ensures .0, ne-eqb _ _ (if1' .left), ne-eqb _ _ (if2' .left)) (c .name-end .ensures)
 
 pub body-end-spec : {M : Type 1} → statement M
 body-end-spec =

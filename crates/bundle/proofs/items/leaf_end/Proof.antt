@@ -1,3 +1,4 @@
+-- `bundle::items::leaf_end` meets its contract, way by way. Assumes nothing.
 use borrow.Author.Needs.{needs}
 use mathlib.Core.Path.{sym, _∙_}
 use Rattle.bundle.proofs.items.leaf_end.Statement.{statement}
@@ -16,10 +17,10 @@ nothing-left-requires : tie.Need-nothing-left-requires
 nothing-left-requires c κs = search needs
 
 returns : tie.Need-returns
-returns c = rw (sym ((c .before .before .before .body-end) .ensures) ∙ (c .before .body) .given .1)
+returns c = rw (sym (c .before .before .before .body-end .ensures) ∙ c .before .body .given .1)
 
 returns-2 : tie.Need-returns-2
-returns-2 c = rw (sym ((c .before .before .before .before .body-end) .ensures) ∙ (c .before .before .body2) .given .1) ((c .nothing-left) .ensures)
+returns-2 c = rw (sym (c .before .before .before .before .body-end .ensures) ∙ c .before .before .body2 .given .1) (c .nothing-left .ensures)
 
 pub leaf-end-spec : {M : Type 1} → statement M
 leaf-end-spec =

@@ -1,3 +1,4 @@
+-- `bundle::items::uses_after` meets its contract, way by way. Assumes nothing.
 use borrow.Author.Needs.{needs}
 use borrow.Author.Tests.{eq-eqb, ne-eqb}
 use Rattle.bundle.proofs.items.uses_after.Statement.{statement}
@@ -13,10 +14,10 @@ add-result : tie.Need-add-result
 add-result c = search needs
 
 returns : tie.Need-returns
-returns c = simp (← (c .before .byte-at) .ensures .0, eq-eqb _ _ ((c .if1) .taken))
+returns c = simp (← c .before .byte-at .ensures .0, eq-eqb _ _ (c .if1 .taken))
 
 returns-2 : tie.Need-returns-2
-returns-2 c = simp (← (c .before .byte-at) .ensures .0, ne-eqb _ _ ((c .if1) .left))
+returns-2 c = simp (← c .before .byte-at .ensures .0, ne-eqb _ _ (c .if1 .left))
 
 pub uses-after-spec : {M : Type 1} → statement M
 uses-after-spec = tie.close (tie.spec add-byte-at byte-at-requires add-result returns returns-2)
