@@ -1,4 +1,5 @@
--- A name's bytes packed into four words: big-endian, zero past the end. Two names without a zero byte, of at most 32 bytes, have the same words only where they are the same.
+-- A name as a value: its bytes packed into four words, big-endian, zero past the end. Two names without a zero byte, of at
+-- most 32 bytes, have the same words only where they are the same. Assumes nothing.
 use Prim.Native.Nat.{ℕ, zero, suc, _+_, _*_, _-_, _^_, _≤_, _<_}
 use native.Mathlib.Nat.{not-suc-le-zero, add-zero, le-refl}
 use native.Mathlib.Omega.{arith}
@@ -6,7 +7,8 @@ use native.Mathlib.Numerals.{add-one}
 use native.Mathlib.Decide.{decLt, decLe}
 use mathlib.Core.Path.{_≡_, refl, ap, sym, _∙_}
 use mathlib.Core.List.{List, [], _∷_}
-use lib.Dec.{lit≤, lit<}
+use mathlib.Core.Bool.{Bool, _&&_}
+use lib.Dec.{lit≤, lit<, eqb}
 use lib.ListN.{getD, length, List·getD-eq-default}
 use lib.Seq.{ext-getD}
 use Rattle.names.specs.declared.Name.{Name}
@@ -18,6 +20,10 @@ word l k (suc n) = word l k n * 256 + getD l (k + n) 0
 
 unfoldable pub packed : List ℕ → Name
 packed l = record { w0 = word l 0 8; w1 = word l 8 8; w2 = word l 16 8; w3 = word l 24 8 }
+
+-- whether two names are equal
+unfoldable pub sameName : Name → Name → Bool
+sameName a b = eqb (a .w0) (b .w0) && (eqb (a .w1) (b .w1) && (eqb (a .w2) (b .w2) && eqb (a .w3) (b .w3)))
 
 abbrev pub Bytes : List ℕ → Type 0
 Bytes l = (i : ℕ) → getD l i 0 < 256
