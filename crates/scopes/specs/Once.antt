@@ -8,7 +8,8 @@ use lib.Dec.{eqb}
 use lib.ListN.{length}
 use borrow.Author.Tests.{eqb-true, eq-eqb}
 use Rattle.names.specs.declared.Name.{Name}
-use Rattle.scopes.specs.Step.{same, same-refl, Came, declared, used, Head, Call, Answer, Found, missing, got, is-got, held, Model, run}
+use Rattle.names.specs.Packed.{sameName}
+use Rattle.scopes.specs.Step.{same-refl, Came, declared, used, Head, Call, Answer, Found, missing, got, is-got, held, Model, run}
 use Rattle.scopes.specs.Register.{Scope, end, node, append, is, find, Opened, Register, shut, whole, names, leave, register, first-register, registered, tree-of}
 use Rattle.scopes.specs.Sim.{Origin, SameFound, no-one, both, Simulation, run-ok}
 
@@ -21,7 +22,8 @@ and-both : (a b : Bool) → a && b ≡ true → (a ≡ true) × (b ≡ true)
 and-both true b e = (refl, e)
 and-both false b e = let z : _≡_ {A = ℕ} 0 1 = cc in absurd (omega arith)
 
-same-true : (a b : Name) → same a b ≡ true → a ≡ b
+same-true : (a b : Name) → sameName a b ≡ true → a ≡ b
+unfolding sameName
 same-true a b e =
     let p = and-both _ _ e in
     let q = and-both _ _ (p .1) in

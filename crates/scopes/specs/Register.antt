@@ -4,7 +4,8 @@ use mathlib.Core.Bool.{Bool, true, false, cond, _&&_}
 use mathlib.Core.List.{List, [], _∷_, _++_}
 use lib.Dec.{eqb}
 use Rattle.names.specs.declared.Name.{Name}
-use Rattle.scopes.specs.Step.{same, Head, Call, Answer, Found, missing, got, Model, run}
+use Rattle.names.specs.Packed.{sameName}
+use Rattle.scopes.specs.Step.{Head, Call, Answer, Found, missing, got, Model, run}
 
 -- what a module holds, first entry first: an entry's number, what it shows, what is inside it, and the entries after it
 pub data Scope : Type 0 where
@@ -16,7 +17,7 @@ append end g = g
 append (node i h b f) g = node i h b (append f g)
 
 abbrev pub is : ℕ → Name → Head → Bool
-is k n h = eqb (h .kind) k && same (h .name) n
+is k n h = eqb (h .kind) k && sameName (h .name) n
 
 unfoldable pub find : Scope → ℕ → Name → Found Scope
 find end k n = missing

@@ -12,36 +12,37 @@ use lib.ListN.{length, take, drop, getD, set, length-append, length-take, List·
 use lib.Seq.{drop-cons, take-at, getD-at, getD-set-same, getD-set-other, take-all}
 use borrow.Author.Tests.{eq-eqb, ne-eqb, lt-ltb, le-ltb, eqb-true}
 use Rattle.names.specs.declared.Name.{Name}
+use Rattle.names.specs.Packed.{sameName}
 use Rattle.scopes.specs.declared.look.Spot.{Spot}
 use Rattle.scopes.specs.declared.look.Spot.the-variants.{At, Nothing}
 use Rattle.scopes.specs.declared.look.Place.{Place as Site}
-use Rattle.scopes.specs.Step.{same, Came, declared, used, Head, head, Found, missing, got, Model}
+use Rattle.scopes.specs.Step.{Came, declared, used, Head, head, Found, missing, got, Model}
 use Rattle.scopes.specs.Register.{is}
 use Rattle.scopes.specs.Flat.{Body, own, copy, Entry, none, Flat, Place, inside, look, flat}
 
 -- TABLES
 
 -- f 0, f 1, .., f (n - 1)
-unfoldable pub tab : (ℕ → Entry) → ℕ → List Entry
+unfoldable pub tab : {A : Type 0} → (ℕ → A) → ℕ → List A
 tab f zero = []
 tab f (suc n) = tab f n ++ (f n ∷ [])
 
-pub length-tab : (f : ℕ → Entry) (n : ℕ) → length (tab f n) ≡ n
+pub length-tab : {A : Type 0} (f : ℕ → A) (n : ℕ) → length (tab f n) ≡ n
 unfolding tab
 length-tab f zero = refl
 length-tab f (suc n) = length-append (tab f n) (f n ∷ []) ∙ add-one _ ∙ ap suc (length-tab f n)
 
-tab-add : (f : ℕ → Entry) (n m : ℕ) → tab f (n + m) ≡ tab f n ++ tab (λ k. f (n + k)) m
+tab-add : {A : Type 0} (f : ℕ → A) (n m : ℕ) → tab f (n + m) ≡ tab f n ++ tab (λ k. f (n + k)) m
 unfolding tab
 tab-add f n zero = rw (add-zero, append-nil)
 tab-add f n (suc m) = rw (add-suc, tab-add f n m, append-assoc)
 
-pub take-tab : (f : ℕ → Entry) (n m : ℕ) → m ≤ n → take m (tab f n) ≡ tab f m
+pub take-tab : {A : Type 0} (f : ℕ → A) (n m : ℕ) → m ≤ n → take m (tab f n) ≡ tab f m
 take-tab f n m h =
     let e : n ≡ m + (n - m) = omega arith in
     rw (e, tab-add) (take-at (tab f m) _ m (length-tab f m))
 
-pub getD-tab : (f : ℕ → Entry) (n k : ℕ) (d : Entry) → k < n → getD (tab f n) k d ≡ f k
+pub getD-tab : {A : Type 0} (f : ℕ → A) (n k : ℕ) (d : A) → k < n → getD (tab f n) k d ≡ f k
 unfolding tab
 getD-tab f zero k d h = absurd (not-suc-le-zero h)
 getD-tab f (suc n) k d h = go (decLt k n) (λ l. getD-tab f n k d l)
@@ -50,7 +51,7 @@ getD-tab f (suc n) k d h = go (decLt k n) (λ l. getD-tab f n k d l)
     go (yes l) ih = rw (List·getD-append (tab f n) (f n ∷ []) d k (rw length-tab l)) (ih l)
     go (no l) ih = let e : k ≡ n = omega arith in rw e (getD-at (tab f n) (f n) [] d n (length-tab f n))
 
-pub tab-agree : (f g : ℕ → Entry) (n : ℕ) → ((k : ℕ) → k < n → f k ≡ g k) → tab f n ≡ tab g n
+pub tab-agree : {A : Type 0} (f g : ℕ → A) (n : ℕ) → ((k : ℕ) → k < n → f k ≡ g k) → tab f n ≡ tab g n
 unfolding tab
 tab-agree f g zero h = refl
 tab-agree f g (suc n) h = rw (tab-agree f g n (λ k l. h k (omega arith)), h n (omega arith))
@@ -103,7 +104,7 @@ row-at A i =
 
 -- whether a row of that scope, kind and name is the one looked for
 unfoldable pub isRow : ℕ → ℕ → Name → ℕ → ℕ → Name → Bool
-isRow es ek en s k n = eqb es s && (eqb ek k && same en n)
+isRow es ek en s k n = eqb es s && (eqb ek k && sameName en n)
 
 -- the first i, i + 1, .. of n numbers of which p holds
 unfoldable pub first-from : (ℕ → Bool) → ℕ → ℕ → Spot

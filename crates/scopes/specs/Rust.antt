@@ -8,6 +8,7 @@ use lib.Dec.{eqb}
 use lib.ListN.{length}
 use borrow.Author.Tests.{eq-eqb}
 use Rattle.names.specs.declared.Name.{Name}
+use Rattle.names.specs.Packed.{sameName}
 use Rattle.scopes.specs.Step.{same-refl, Came, declared, used, Head, Call, Answer, Found, missing, got, is-got, held, Model, run}
 use Rattle.scopes.specs.Register.{Scope, end, node, append, is, find, Opened, Register, shut, whole, names, leave, register, first-register, registered, tree-of}
 use Rattle.scopes.specs.Flat.{flattened, write}

@@ -7,16 +7,15 @@ use lib.Dec.{eqb, ltb}
 use lib.ListN.{length}
 use borrow.Author.Tests.{eq-eqb}
 use Rattle.names.specs.declared.Name.{Name}
+use Rattle.names.specs.Packed.{sameName}
 
 -- where an entry came from: a declaration, or a use that copied the entry of that number
 pub data Came : Type 0 where
   declared : Came
   used : ℕ → Came
 
-abbrev pub same : Name → Name → Bool
-same a b = eqb (a .w0) (b .w0) && (eqb (a .w1) (b .w1) && (eqb (a .w2) (b .w2) && eqb (a .w3) (b .w3)))
-
-pub same-refl : (a : Name) → same a a ≡ true
+pub same-refl : (a : Name) → sameName a a ≡ true
+unfolding sameName
 same-refl a = rw (eq-eqb (a .w0) (a .w0) refl, eq-eqb (a .w1) (a .w1) refl, eq-eqb (a .w2) (a .w2) refl, eq-eqb (a .w3) (a .w3) refl)
 
 -- what an entry shows. Kinds: 1 type, 2 function, 3 module
@@ -90,7 +89,7 @@ unfoldable pub shared : List Name → List Name → ℕ
 shared [] [] = 0
 shared [] (b ∷ bs) = 0
 shared (a ∷ as′) [] = 0
-shared (a ∷ as′) (b ∷ bs) = cond (same a b) (suc (shared as′ bs)) 0
+shared (a ∷ as′) (b ∷ bs) = cond (sameName a b) (suc (shared as′ bs)) 0
 
 unfoldable pub any-main : List Elem → Bool
 any-main [] = false

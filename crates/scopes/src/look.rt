@@ -1,10 +1,11 @@
 // Lookups: in a scope at a time, and along a path. Nothing here changes a tree.
 ghost use mathlib.Core.Path.{_≡_};
-ghost use Prim.Native.Nat.{_+_, _<_, _≤_};
+ghost use Prim.Native.Nat.{_+_, _*_, _<_, _≤_};
 ghost use lib.ListN.{getD};
 ghost use Rattle.scopes.specs.Rows.{isRow, isOwn, first-in, looked, site};
-use crate::form::{name_at, next, same_name};
-use names::Name;
+ghost use Rattle.scopes.specs.Nav.{barred, leads-on, wayed, current-of, Arrived};
+use crate::form::{name_at, next};
+use names::{Name, same_name};
 
 pub enum Spot {
     At(usize),
@@ -95,6 +96,36 @@ pub fn inside(i: usize, kind: u8, origin: u16, target: u16, moment: u16, time: u
     }
 }
 
+// A private module off the open path.
+fn is_barred(visible: u8, led: bool) -> bool
+    ensures { λ r. ⌜ r ≡ barred visible led ⌝ }
+{
+    if visible == 1 {
+        return false;
+    }
+    if led {
+        return false;
+    }
+    true
+}
+
+fn wide(x: u16) -> usize
+    ensures { λ r. ⌜ r ≡ x ⌝ }
+{
+    x as usize
+}
+
+// The scope of the innermost open module.
+pub fn current<'a>(stack: &'a [u16; 9], depth: usize) -> u16
+    requires { ⌜ depth ≤ 9 ⌝ }
+    ensures { λ r. ⌜ r ≡ current-of (now (stack .entry)) depth ⌝ }
+{
+    if depth == 0 {
+        return 0;
+    }
+    stack[depth - 1]
+}
+
 // Whether the path still leads the open path after this segment.
 fn leads<'a>(
     n0: &'a [u64; 1024],
@@ -106,14 +137,18 @@ fn leads<'a>(
     led: bool,
     index: usize,
     name: Name,
-) -> bool {
-    if !led {
+) -> bool
+    requires { ⌜ depth ≤ 9 ⌝ }
+    ensures { λ r. ⌜ r ≡ leads-on (now (n0 .entry)) (now (n1 .entry)) (now (n2 .entry)) (now (n3 .entry)) (now (stack .entry)) depth led index name ⌝ }
+{
+    if led {
+    } else {
         return false;
     }
     if depth <= index {
         return false;
     }
-    let s = stack[index] as usize;
+    let s = wide(stack[index]);
     if s == 0 {
         return false;
     }
@@ -138,7 +173,9 @@ pub struct Way {
     pub next: usize,
 }
 
-fn no_way(number: u8) -> Way {
+fn no_way(number: u8) -> Way
+    ensures { λ r. ⌜ r ≡ wayed number 0 0 0 ⌝ }
+{
     Way {
         number: number,
         scope: 0,
@@ -165,7 +202,10 @@ pub fn navigate<'a>(
     decl: &'a [u8],
     at: usize,
     count: usize,
-) -> Way {
+) -> Way
+    requires { ⌜ (total ≤ 1024) × ((depth ≤ 9) × (at + 256 * count < 16384)) ⌝ }
+    ensures { λ r. ⌜ Arrived (now (kinds .entry)) (now (visible .entry)) (now (scopes .entry)) (now (n0 .entry)) (now (n1 .entry)) (now (n2 .entry)) (now (n3 .entry)) (now (origins .entry)) (now (targets .entry)) (now (times .entry)) total (now (stack .entry)) depth (now (decl .entry)) at count r ⌝ }
+{
     let mut scope: u16 = 0;
     let mut time = total;
     let mut p = at;
@@ -177,10 +217,8 @@ pub fn navigate<'a>(
         let Spot::At(e) = found else {
             return no_way(41);
         };
-        if visible[e] != 1 {
-            if !led {
-                return no_way(42);
-            }
+        if is_barred(visible[e], led) {
+            return no_way(42);
         }
         let to = inside(e, kinds[e], origins[e], targets[e], times[e], time);
         scope = to.scope;

@@ -1,7 +1,7 @@
 // A use's entries before they are committed: each is found, public and free, or the use is refused.
-use crate::form::{local_at, name_at, next, same_name};
+use crate::form::{local_at, name_at, next};
 use crate::look::{Spot, find_in, inside};
-use names::Name;
+use names::{Name, same_name};
 
 // Entries that a use adds, all in one scope and of one visibility; or a number.
 pub struct Staged {

@@ -1,3 +1,4 @@
+use Rattle.names.specs.Packed.{sameName}
 use mathlib.Core.Path.{_≡_}
 use borrow.Author.Needs.{needs}
 use borrow.Author.Tests.{eq-eqb, ne-eqb}
@@ -5,12 +6,10 @@ use Prim.Native.Nat.{ℕ}
 use mathlib.Core.Bool.{Bool, true, false}
 use Rattle.names.specs.declared.Name.{Name}
 use Rattle.scopes.specs.Rows.{isRow}
-use Rattle.scopes.specs.Step.{same}
 use Rattle.scopes.proofs.look.is_row.Statement.{statement}
 use Rattle.scopes.proofs.look.is_row.Tie as tie
 use Rattle.scopes.proofs.look.is_row.Reads as reads
 use Rattle.scopes.proofs.look.is_row.Lts as lts
-use Rattle.scopes.proofs.form.same_name.Reads as same-name-reads
 
 module _ (es ek s k : ℕ) (en n : Name) where
   d0 : (es ≡ s → ⊥) → false ≡ isRow es ek en s k n
@@ -21,7 +20,7 @@ module _ (es ek s k : ℕ) (en n : Name) where
   unfolding isRow
   d1 h h′ = simp (eq-eqb _ _ h, ne-eqb _ _ h′)
 
-  d2 : {r : Bool} → es ≡ s → ek ≡ k → r ≡ same en n → r ≡ isRow es ek en s k n
+  d2 : {r : Bool} → es ≡ s → ek ≡ k → r ≡ sameName en n → r ≡ isRow es ek en s k n
   unfolding isRow
   d2 h h′ q = simp (eq-eqb _ _ h, eq-eqb _ _ h′) q
 
