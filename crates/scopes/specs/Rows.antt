@@ -225,3 +225,6 @@ site-time i k o a u t = go (isOwn k o) (ltb u t) refl
     go true c q = omega arith
     go false true q = omega (arith, borrow.Author.Tests.ltb-true u t q)
     go false false q = omega arith
+
+pub site-le : (g : Site) (i k o a u t : ℕ) → g ≡ site i k o a u t → g .time ≤ t
+site-le g i k o a u t q = rw q (site-time i k o a u t)

@@ -3,6 +3,7 @@ ghost use mathlib.Core.Path.{_≡_};
 ghost use Prim.Native.Nat.{_+_, _*_, _<_, _≤_};
 ghost use lib.ListN.{getD};
 ghost use Rattle.scopes.specs.Rows.{isRow, isOwn, first-in, looked, site};
+ghost use Rattle.scopes.specs.Staging.{is-at};
 ghost use Rattle.scopes.specs.Nav.{barred, leads-on, wayed, current-of, Arrived};
 use crate::form::{name_at, next};
 use names::{Name, same_name};
@@ -54,6 +55,29 @@ pub fn find_in<'a>(
         i += 1;
     }
     Spot::Nothing
+}
+
+// Whether a scope holds a kind and a name, among the first `time` entries.
+pub fn is_held<'a>(
+    scopes: &'a [u16; 1024],
+    kinds: &'a [u8; 1024],
+    n0: &'a [u64; 1024],
+    n1: &'a [u64; 1024],
+    n2: &'a [u64; 1024],
+    n3: &'a [u64; 1024],
+    scope: u16,
+    time: usize,
+    kind: u8,
+    name: Name,
+) -> bool
+    requires { ⌜ time ≤ 1024 ⌝ }
+    ensures { λ r. ⌜ r ≡ is-at (first-in (looked (now (scopes .entry)) (now (kinds .entry)) (now (n0 .entry)) (now (n1 .entry)) (now (n2 .entry)) (now (n3 .entry)) scope kind name) scope time) ⌝ }
+{
+    let found = find_in(scopes, kinds, n0, n1, n2, n3, scope, time, kind, name);
+    if let Spot::At(_) = found {
+        return true;
+    }
+    false
 }
 
 // What is inside an entry: a scope among the first `time` entries.

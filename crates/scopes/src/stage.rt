@@ -1,7 +1,11 @@
 // A use's entries before they are committed: each is found, public and free, or the use is refused.
+ghost use mathlib.Core.Path.{_≡_};
+ghost use Prim.Native.Nat.{_+_, _*_, _<_, _≤_};
+ghost use Rattle.scopes.specs.Rows.{arrays};
+ghost use Rattle.scopes.specs.Staging.{refusal, any-to, staged-test, no-choice, choice-of, with-choice, verdict-of, staged-element, staged-all};
 use crate::form::{local_at, name_at, next};
-use crate::look::{Spot, find_in, inside};
-use names::{Name, same_name};
+use crate::look::{Spot, find_in, inside, is_held, is_row};
+use names::Name;
 
 // Entries that a use adds, all in one scope and of one visibility; or a number.
 pub struct Staged {
@@ -18,7 +22,9 @@ pub struct Staged {
     pub times: [u16; 96],
 }
 
-pub fn refused(number: u8) -> Staged {
+pub fn refused(number: u8) -> Staged
+    ensures { λ r. ⌜ r ≡ refusal number ⌝ }
+{
     Staged {
         number: number,
         count: 0,
@@ -42,29 +48,52 @@ fn staged_has<'a>(
     n2: &'a [u64; 96],
     n3: &'a [u64; 96],
     count: usize,
+    here: u16,
     kind: u8,
     name: Name,
-) -> bool {
+) -> bool
+    requires { ⌜ count ≤ 96 ⌝ }
+    ensures { λ r. ⌜ r ≡ any-to (staged-test (now (kinds .entry)) (now (n0 .entry)) (now (n1 .entry)) (now (n2 .entry)) (now (n3 .entry)) here kind name) count ⌝ }
+{
     let mut i: usize = 0;
     while i < count {
-        if kinds[i] == kind {
-            let n = Name {
-                w0: n0[i],
-                w1: n1[i],
-                w2: n2[i],
-                w3: n3[i],
-            };
-            if same_name(n, name) {
-                return true;
-            }
+        let n = Name {
+            w0: n0[i],
+            w1: n1[i],
+            w2: n2[i],
+            w3: n3[i],
+        };
+        if is_row(here, kinds[i], n, here, kind, name) {
+            return true;
         }
         i += 1;
     }
     false
 }
 
-// One kind of one element: staged, or a number with what was staged before.
-fn item<'a>(
+// What an item copies: number 0 and the entry's mark, its number plus one, and what is inside it; or a number.
+pub struct Choice {
+    pub number: u8,
+    pub mark: u16,
+    pub origin: u16,
+    pub target: u16,
+    pub moment: u16,
+}
+
+fn no_choice(number: u8) -> Choice
+    ensures { λ r. ⌜ r ≡ no-choice number ⌝ }
+{
+    Choice {
+        number: number,
+        mark: 0,
+        origin: 0,
+        target: 0,
+        moment: 0,
+    }
+}
+
+// One kind of one element, looked up in the tree before the use.
+fn choose<'a>(
     kinds: &'a [u8; 1024],
     visible: &'a [u8; 1024],
     scopes: &'a [u16; 1024],
@@ -80,47 +109,66 @@ fn item<'a>(
     here: u16,
     scope: u16,
     time: usize,
-    staged: Staged,
     kind: u8,
     name: Name,
     local: Name,
-) -> Staged {
-    let mut s = staged;
+) -> Choice
+    requires { ⌜ (total ≤ 1024) × (time ≤ 1024) ⌝ }
+    ensures { λ r. ⌜ r ≡ choice-of (arrays (now (kinds .entry)) (now (visible .entry)) (now (scopes .entry)) (now (marks .entry)) (now (n0 .entry)) (now (n1 .entry)) (now (n2 .entry)) (now (n3 .entry)) (now (origins .entry)) (now (targets .entry)) (now (times .entry))) total here scope time kind name local ⌝ }
+{
     let found = find_in(scopes, kinds, n0, n1, n2, n3, scope, time, kind, name);
     let Spot::At(e) = found else {
-        s.number = 43;
-        return s;
+        return no_choice(43);
     };
     if visible[e] != 1 {
-        s.number = 44;
-        return s;
+        return no_choice(44);
     }
-    if let Spot::At(_) = find_in(scopes, kinds, n0, n1, n2, n3, here, total, kind, local) {
-        s.number = 45;
+    if is_held(scopes, kinds, n0, n1, n2, n3, here, total, kind, local) {
+        return no_choice(45);
+    }
+    let to = inside(e, kinds[e], origins[e], targets[e], times[e], time);
+    Choice {
+        number: 0,
+        mark: marks[e],
+        origin: (e + 1) as u16,
+        target: to.scope,
+        moment: to.time as u16,
+    }
+}
+
+// The item staged, or a number with what was staged before.
+fn item(staged: Staged, here: u16, kind: u8, local: Name, choice: Choice) -> Staged
+    requires { ⌜ staged .count < 96 ⌝ }
+    ensures { λ r. ⌜ r ≡ with-choice staged here kind local choice ⌝ }
+{
+    let mut s = staged;
+    if choice.number != 0 {
+        s.number = choice.number;
         return s;
     }
     let at = s.count;
-    if staged_has(&s.kinds, &s.n0, &s.n1, &s.n2, &s.n3, at, kind, local) {
+    if staged_has(&s.kinds, &s.n0, &s.n1, &s.n2, &s.n3, at, here, kind, local) {
         s.number = 45;
         return s;
     }
-    let to = inside(e, kinds[e], origins[e], targets[e], times[e], time);
     s.number = 0;
     s.kinds[at] = kind;
-    s.marks[at] = marks[e];
+    s.marks[at] = choice.mark;
     s.n0[at] = local.w0;
     s.n1[at] = local.w1;
     s.n2[at] = local.w2;
     s.n3[at] = local.w3;
-    s.origins[at] = (e + 1) as u16;
-    s.targets[at] = to.scope;
-    s.times[at] = to.time as u16;
+    s.origins[at] = choice.origin;
+    s.targets[at] = choice.target;
+    s.times[at] = choice.moment;
     s.count = at + 1;
     s
 }
 
 // The number of an element from those of its type, function and module: one success is enough, else the first that isn't 43.
-fn verdict(a: u8, b: u8, c: u8) -> u8 {
+fn verdict(a: u8, b: u8, c: u8) -> u8
+    ensures { λ r. ⌜ r ≡ verdict-of a b c ⌝ }
+{
     if a == 0 {
         return 0;
     }
@@ -159,10 +207,16 @@ fn element<'a>(
     staged: Staged,
     name: Name,
     local: Name,
-) -> Staged {
-    let a = item(kinds, visible, scopes, marks, n0, n1, n2, n3, origins, targets, times, total, here, scope, time, staged, 1, name, local);
-    let b = item(kinds, visible, scopes, marks, n0, n1, n2, n3, origins, targets, times, total, here, scope, time, a, 2, name, local);
-    let c = item(kinds, visible, scopes, marks, n0, n1, n2, n3, origins, targets, times, total, here, scope, time, b, 3, name, local);
+) -> Staged
+    requires { ⌜ (total ≤ 1024) × ((time ≤ 1024) × (staged .count + 3 ≤ 96)) ⌝ }
+    ensures { λ r. ⌜ r ≡ staged-element (arrays (now (kinds .entry)) (now (visible .entry)) (now (scopes .entry)) (now (marks .entry)) (now (n0 .entry)) (now (n1 .entry)) (now (n2 .entry)) (now (n3 .entry)) (now (origins .entry)) (now (targets .entry)) (now (times .entry))) total here scope time staged name local ⌝ }
+{
+    let x = choose(kinds, visible, scopes, marks, n0, n1, n2, n3, origins, targets, times, total, here, scope, time, 1, name, local);
+    let a = item(staged, here, 1, local, x);
+    let y = choose(kinds, visible, scopes, marks, n0, n1, n2, n3, origins, targets, times, total, here, scope, time, 2, name, local);
+    let b = item(a, here, 2, local, y);
+    let z = choose(kinds, visible, scopes, marks, n0, n1, n2, n3, origins, targets, times, total, here, scope, time, 3, name, local);
+    let c = item(b, here, 3, local, z);
     let mut r = c;
     r.number = verdict(a.number, b.number, c.number);
     r
@@ -188,7 +242,10 @@ pub fn stage<'a>(
     decl: &'a [u8],
     at: usize,
     count: usize,
-) -> Staged {
+) -> Staged
+    requires { ⌜ (total ≤ 1024) × ((time ≤ 1024) × ((count ≤ 32) × (at < 32768))) ⌝ }
+    ensures { λ r. ⌜ r ≡ staged-all (arrays (now (kinds .entry)) (now (visible .entry)) (now (scopes .entry)) (now (marks .entry)) (now (n0 .entry)) (now (n1 .entry)) (now (n2 .entry)) (now (n3 .entry)) (now (origins .entry)) (now (targets .entry)) (now (times .entry))) total here scope time (now (decl .entry)) count at (refusal 0) ⌝ }
+{
     let mut s = refused(0);
     let mut p = at;
     let mut i: usize = 0;
