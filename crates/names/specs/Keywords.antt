@@ -2,6 +2,8 @@
 use Prim.Native.Nat.{ℕ}
 use mathlib.Core.Bool.{Bool}
 use mathlib.Core.List.{List, [], _∷_}
+use mathlib.Core.Path.{_≡_, refl}
+use lib.ListN.{length}
 use Rattle.names.specs.Bytes.{ascii, member, same}
 
 -- document 01's `KEYWORDS`
@@ -20,3 +22,7 @@ isCrate s = same s (ascii "crate")
 -- the name of the entry function
 unfoldable pub isMain : List ℕ → Bool
 isMain s = same s (ascii "main")
+
+pub fourteen : length keywords ≡ 14
+unfolding keywords
+fourteen = refl

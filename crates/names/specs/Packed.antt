@@ -7,7 +7,9 @@ use native.Mathlib.Numerals.{add-one}
 use native.Mathlib.Decide.{decLt, decLe}
 use mathlib.Core.Path.{_≡_, refl, ap, sym, _∙_}
 use mathlib.Core.List.{List, [], _∷_}
-use mathlib.Core.Bool.{Bool, _&&_}
+use mathlib.Core.Bool.{Bool, true, false, _&&_, and-false}
+use borrow.Author.Tests.{eq-eqb, ne-eqb, eqb-true}
+use Rattle.names.specs.Bytes.{and-left, and-right}
 use lib.Dec.{lit≤, lit<, eqb}
 use lib.ListN.{getD, length, List·getD-eq-default}
 use lib.Seq.{ext-getD}
@@ -107,3 +109,31 @@ word-more l k n = rw add-one refl
 pub limit-more : (n : ℕ) → limit (n + 1) ≡ limit n * 256
 unfolding limit
 limit-more n = rw add-one refl
+
+-- EQUALITY OF NAMES, BOTH WAYS
+
+pub same-names : (a b : Name) → a ≡ b → sameName a b ≡ true
+unfolding sameName
+same-names a b e = rw (e, eq-eqb (b .w0) (b .w0) refl, eq-eqb (b .w1) (b .w1) refl, eq-eqb (b .w2) (b .w2) refl, eq-eqb (b .w3) (b .w3) refl)
+
+of : ℕ → ℕ → ℕ → ℕ → Name
+of a b c d = record { w0 = a; w1 = b; w2 = c; w3 = d }
+
+pub names-same : (a b : Name) → sameName a b ≡ true → a ≡ b
+unfolding sameName of
+names-same a b h =
+    let t₁ = eqb (a .w2) (b .w2) && eqb (a .w3) (b .w3) in
+    let t₀ = eqb (a .w1) (b .w1) && t₁ in
+    let h₁ = and-right (eqb (a .w0) (b .w0)) t₀ h in
+    let h₂ = and-right (eqb (a .w1) (b .w1)) t₁ h₁ in
+    let e₀ : a .w0 ≡ b .w0 = eqb-true _ _ (and-left (eqb (a .w0) (b .w0)) t₀ h) in
+    let e₁ : a .w1 ≡ b .w1 = eqb-true _ _ (and-left (eqb (a .w1) (b .w1)) t₁ h₁) in
+    let e₂ : a .w2 ≡ b .w2 = eqb-true _ _ (and-left (eqb (a .w2) (b .w2)) (eqb (a .w3) (b .w3)) h₂) in
+    let e₃ : a .w3 ≡ b .w3 = eqb-true _ _ (and-right (eqb (a .w2) (b .w2)) (eqb (a .w3) (b .w3)) h₂) in
+    let e : of (a .w0) (a .w1) (a .w2) (a .w3) ≡ of (b .w0) (b .w1) (b .w2) (b .w3) = cc in
+    e
+
+-- the first three words are equal
+pub last-word : (a b : Name) → a .w0 ≡ b .w0 → a .w1 ≡ b .w1 → a .w2 ≡ b .w2 → eqb (a .w3) (b .w3) ≡ sameName a b
+unfolding sameName
+last-word a b e₀ e₁ e₂ = rw (eq-eqb (a .w0) (b .w0) e₀, eq-eqb (a .w1) (b .w1) e₁, eq-eqb (a .w2) (b .w2) e₂)

@@ -34,9 +34,13 @@ init (c ∷ (d ∷ ds)) = c ∷ init (d ∷ ds)
 unfoldable pub parent : List ℕ → List ℕ
 parent s = render (init (components s))
 
+-- a folder's path as it stands before the slash of what it holds: nothing of `/`
+unfoldable pub stemOf : List ℕ → List ℕ
+stemOf d = cond (same d root) [] d
+
 -- the path of a name below a folder, of whatever length
 unfoldable pub child : List ℕ → List ℕ → List ℕ
-child d name = cond (same d root) [] d ++ (slash ∷ name)
+child d name = stemOf d ++ (slash ∷ name)
 
 -- the path of the file that a name below a folder stands for
 unfoldable pub childFile : List ℕ → List ℕ → List ℕ

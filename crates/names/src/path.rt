@@ -2,12 +2,14 @@
 ghost use mathlib.Core.Path.{_≡_};
 ghost use mathlib.Core.List.{_++_};
 ghost use Prim.Native.Nat.{_+_, _≤_};
-ghost use lib.ListN.{drop, length};
-ghost use Rattle.names.specs.Bytes.{same};
-ghost use Rattle.names.specs.Path.{isComponent, isPath, root, wellFormed};
+ghost use lib.ListN.{length};
+ghost use Rattle.names.specs.Bytes.{all, same};
+ghost use Rattle.names.specs.Path.{isComponent, isPath, printable, root, wellFormed};
 ghost use Rattle.names.specs.Path.{split as Path·split};
-ghost use Rattle.names.specs.Prefix.{begins, child, childFile, depth, directlyIn, parent, startsWith};
-ghost use Rattle.names.specs.Pieces.{firstSlash, allPrintable};
+ghost use Rattle.names.specs.Prefix.{begins, child, childFile, depth, directlyIn, parent, startsWith, stemOf};
+ghost use Rattle.names.specs.Pieces.{firstSlash};
+use crate::bytes::after;
+use crate::bytes::has_prefix;
 use crate::bytes::same_bytes;
 
 const SLASH: u8 = 47;
@@ -21,29 +23,26 @@ fn is_root(s: &[u8]) -> bool
     s[0] == SLASH
 }
 
-// All but the first byte.
-fn tail(s: &[u8]) -> &[u8]
-    ensures { λ r. ⌜ now r ≡ drop 1 (now (s .entry)) ⌝ }
+// Whether a byte may stand in a component.
+fn is_printable(b: u8) -> bool
+    ensures { λ r. ⌜ r ≡ printable b ⌝ }
 {
-    if s.len() == 0 {
-        return s;
+    if b < 0x21 {
+        return false;
     }
-    &s[1..]
+    if b > 0x7e {
+        return false;
+    }
+    b != SLASH
 }
 
 // Whether every byte may stand in a component.
 fn all_printable(c: &[u8]) -> bool
-    ensures { λ r. ⌜ r ≡ allPrintable (now (c .entry)) ⌝ }
+    ensures { λ r. ⌜ r ≡ all printable (now (c .entry)) ⌝ }
 {
     let mut i = 0;
     while i < c.len() {
-        if c[i] < 0x21 {
-            return false;
-        }
-        if c[i] > 0x7e {
-            return false;
-        }
-        if c[i] == SLASH {
+        if !is_printable(c[i]) {
             return false;
         }
         i += 1;
@@ -88,7 +87,7 @@ fn are_components(s: &[u8]) -> bool
     ensures { λ r. ⌜ r ≡ wellFormed (Path·split (now (s .entry))) ⌝ }
 {
     let mut at = 0;
-    let mut count = 0;
+    let mut count: usize = 0;
     while count < 16 {
         let rest = &s[at..];
         let n = first_slash(rest);
@@ -154,7 +153,7 @@ pub fn starts_with(f: &[u8], p: &[u8]) -> bool
     if is_root(f) {
         return false;
     }
-    pieces_begin(tail(f), tail(p))
+    pieces_begin(after(f, 1), after(p, 1))
 }
 
 // How many components a path has.
@@ -201,32 +200,33 @@ pub fn parent_len(s: &[u8]) -> usize
     1
 }
 
+// The bytes of a folder's path that stand before the slash of what it holds.
+fn stem(d: &[u8]) -> &[u8]
+    ensures { λ r. ⌜ now r ≡ stemOf (now (d .entry)) ⌝ }
+{
+    if is_root(d) {
+        return after(d, 1);
+    }
+    d
+}
+
 // Whether p is the path of the name below the folder d, with the ending after it.
 fn is_child_with(p: &[u8], d: &[u8], name: &[u8], ending: &[u8]) -> bool
     ensures { λ r. ⌜ r ≡ same (now (p .entry)) (child (now (d .entry)) (now (name .entry) ++ now (ending .entry))) ⌝ }
 {
-    let mut b = d.len();
-    if is_root(d) {
-        b = 0;
-    }
-    if p.len() <= b {
+    let base = stem(d);
+    if !has_prefix(p, base) {
         return false;
     }
-    if !same_bytes(&p[..b], &d[..b]) {
+    let rest = after(p, base.len());
+    if !has_prefix(rest, b"/") {
         return false;
     }
-    if p[b] != SLASH {
+    let last = after(rest, 1);
+    if !has_prefix(last, name) {
         return false;
     }
-    let rest = &p[b + 1..];
-    let n = name.len();
-    if rest.len() < n {
-        return false;
-    }
-    if !same_bytes(&rest[..n], name) {
-        return false;
-    }
-    same_bytes(&rest[n..], ending)
+    same_bytes(after(last, name.len()), ending)
 }
 
 // Whether p is the path of the name below the folder d. Ruled out: `true` of `//a` for `a` below `/`; `false` of `/r/a` for

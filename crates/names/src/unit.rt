@@ -20,7 +20,7 @@ fn width_of(n: u64) -> usize
 
 // `unit_` and the id in decimal. Ruled out: `unit_07` for 7; one name for 1 and 10.
 pub fn unit_name(id: u64) -> UnitName
-    ensures { λ r. ⌜ (take (r .len) (r .bytes) ≡ unitName id) × (r .len ≤ 25) ⌝ }
+    ensures { λ r. ⌜ (take (r .len) (r .bytes) ≡ unitName id) × (r .len ≤ 25) × (length (r .bytes) ≡ 25) ⌝ }
 {
     let mut bytes = [0u8; 25];
     bytes[0] = 117;

@@ -1,0 +1,37 @@
+//! A child module of the original's driver/mod.rs.
+
+use std::collections::HashMap;
+use std::path::Path;
+use std::sync::Arc;
+
+use super::{DependencyGraph, SourceMap, SourceModule, MAIN_MODULE};
+use crate::error::{Diagnostic, Error, Span};
+use crate::parse::Program;
+use crate::resolution::DependencyMapBuilder;
+use crate::source::{CanonPath, CanonSourceFile};
+
+impl DependencyGraph {
+    /// A graph of units without items, whose sources are named by their ids.
+    pub(crate) fn of_lists(lists: &[&[usize]]) -> Result<Self, Error> {
+        let source = |id: usize| {
+            let name = CanonPath::unverified(Path::new(&id.to_string()));
+            CanonSourceFile::new(name, Arc::from(""))
+        };
+        let module = |id: usize| SourceModule {
+            source: source(id),
+            program: Program::new(&[], Span::new(id, 0..0)),
+        };
+        let root = CanonPath::unverified(Path::new("/"));
+        Ok(DependencyGraph {
+            modules: (0..lists.len()).map(|id| (id, module(id))).collect(),
+            dependency_map: Arc::new(DependencyMapBuilder::new().build(root)?),
+            sources: SourceMap::with_source(source(MAIN_MODULE)),
+            use_cache: HashMap::new(),
+            dependencies: lists.iter().map(|list| list.to_vec()).enumerate().collect(),
+        })
+    }
+
+    pub(crate) fn linked_order(&self) -> Result<Vec<usize>, Diagnostic> {
+        self.linearize()
+    }
+}

@@ -1,0 +1,6 @@
+//! `KEYWORDS` and `is_keyword` of src/lexer.rs.
+
+use crate::driver::CRATE_STR;
+use crate::version::SIMC_STR;
+
+include!(concat!(env!("OUT_DIR"), "/lexer_items.rs"));

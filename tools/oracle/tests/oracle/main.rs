@@ -1,0 +1,5 @@
+#![cfg(original)]
+
+mod bundles;
+mod calls;
+mod common;
