@@ -160,8 +160,17 @@ added-of t s k twice v m deepest =
     (cond (ltb deepest (t .depth)) (no-entry 51 t) (no-entry 0 (declared-in t k v m (packed s))))))))
     (no-entry 5 t)
 
-unfoldable pub outcome-of : Added → Outcome
-outcome-of a = cond (eqb (a .number) 0) (accepting (a .tree)) (refusing (a .number) (a .tree))
+-- the answer, and the tree with its last step
+unfoldable pub ended : (Tree → Tree) → Added → Outcome
+ended fin a = cond (eqb (a .number) 0) (accepting (fin (a .tree))) (refusing (a .number) (a .tree))
+
+abbrev pub outcome-of : Added → Outcome
+outcome-of = ended (λ t. t)
+
+-- the last entry opened
+abbrev pub opened-last : Tree → Tree
+opened-last t =
+    record { count = t .count; kinds = t .kinds; visible = t .visible; scopes = t .scopes; marks = t .marks; n0 = t .n0; n1 = t .n1; n2 = t .n2; n3 = t .n3; origins = t .origins; targets = t .targets; times = t .times; depth = t .depth + 1; stack = set (t .stack) (t .depth) (t .count) }
 
 abbrev pub mark-at : Tree → Spot → Told
 mark-at t Nothing = Refused 43
@@ -207,13 +216,13 @@ commits t s h v (suc n) z l =
     }
 
 -- AS THE CODE HAS IT
-pub answered-no : (a : Added) → (a .number ≡ 0 → ⊥) → refusing (a .number) (a .tree) ≡ outcome-of a
-unfolding outcome-of
-answered-no a z = rw (borrow.Author.Tests.ne-eqb (a .number) 0 z)
+pub ended-no : (f : Tree → Tree) (a : Added) → (a .number ≡ 0 → ⊥) → refusing (a .number) (a .tree) ≡ ended f a
+unfolding ended
+ended-no f a z = rw (borrow.Author.Tests.ne-eqb (a .number) 0 z)
 
-pub answered-yes : (a : Added) → a .number ≡ 0 → accepting (a .tree) ≡ outcome-of a
-unfolding outcome-of
-answered-yes a z = rw (borrow.Author.Tests.eq-eqb (a .number) 0 z)
+pub ended-yes : (f : Tree → Tree) (a : Added) → a .number ≡ 0 → accepting (f (a .tree)) ≡ ended f a
+unfolding ended
+ended-yes f a z = rw (borrow.Author.Tests.eq-eqb (a .number) 0 z)
 
 abbrev spot-at : Tree → ℕ → ℕ → Name → Spot
 spot-at t h k n = first-in (looked (t .scopes) (t .kinds) (t .n0) (t .n1) (t .n2) (t .n3) h k n) h (t .count)

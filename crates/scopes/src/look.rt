@@ -5,8 +5,10 @@ ghost use lib.ListN.{getD};
 ghost use Rattle.scopes.specs.Rows.{isRow, isOwn, first-in, looked, site};
 ghost use Rattle.scopes.specs.Staging.{is-at};
 ghost use Rattle.scopes.specs.Nav.{barred, leads-on, wayed, current-of, Arrived};
-use crate::form::{name_at, next};
-use names::{Name, same_name};
+use crate::form::name_at;
+use crate::form::next;
+use names::Name;
+use names::same_name;
 
 pub enum Spot {
     At(usize),
@@ -165,8 +167,7 @@ fn leads<'a>(
     requires { ⌜ depth ≤ 9 ⌝ }
     ensures { λ r. ⌜ r ≡ leads-on (now (n0 .entry)) (now (n1 .entry)) (now (n2 .entry)) (now (n3 .entry)) (now (stack .entry)) depth led index name ⌝ }
 {
-    if led {
-    } else {
+    if led {} else {
         return false;
     }
     if depth <= index {

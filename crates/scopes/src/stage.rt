@@ -3,8 +3,14 @@ ghost use mathlib.Core.Path.{_≡_};
 ghost use Prim.Native.Nat.{_+_, _*_, _<_, _≤_};
 ghost use Rattle.scopes.specs.Rows.{arrays};
 ghost use Rattle.scopes.specs.Staging.{refusal, any-to, staged-test, no-choice, choice-of, with-choice, verdict-of, staged-element, staged-all};
-use crate::form::{local_at, name_at, next};
-use crate::look::{Spot, find_in, inside, is_held, is_row};
+use crate::form::local_at;
+use crate::form::name_at;
+use crate::form::next;
+use crate::look::Spot;
+use crate::look::find_in;
+use crate::look::inside;
+use crate::look::is_held;
+use crate::look::is_row;
 use names::Name;
 
 // Entries that a use adds, all in one scope and of one visibility; or a number.
@@ -211,11 +217,68 @@ fn element<'a>(
     requires { ⌜ (total ≤ 1024) × ((time ≤ 1024) × (staged .count + 3 ≤ 96)) ⌝ }
     ensures { λ r. ⌜ r ≡ staged-element (arrays (now (kinds .entry)) (now (visible .entry)) (now (scopes .entry)) (now (marks .entry)) (now (n0 .entry)) (now (n1 .entry)) (now (n2 .entry)) (now (n3 .entry)) (now (origins .entry)) (now (targets .entry)) (now (times .entry))) total here scope time staged name local ⌝ }
 {
-    let x = choose(kinds, visible, scopes, marks, n0, n1, n2, n3, origins, targets, times, total, here, scope, time, 1, name, local);
+    let x = choose(
+        kinds,
+        visible,
+        scopes,
+        marks,
+        n0,
+        n1,
+        n2,
+        n3,
+        origins,
+        targets,
+        times,
+        total,
+        here,
+        scope,
+        time,
+        1,
+        name,
+        local,
+    );
     let a = item(staged, here, 1, local, x);
-    let y = choose(kinds, visible, scopes, marks, n0, n1, n2, n3, origins, targets, times, total, here, scope, time, 2, name, local);
+    let y = choose(
+        kinds,
+        visible,
+        scopes,
+        marks,
+        n0,
+        n1,
+        n2,
+        n3,
+        origins,
+        targets,
+        times,
+        total,
+        here,
+        scope,
+        time,
+        2,
+        name,
+        local,
+    );
     let b = item(a, here, 2, local, y);
-    let z = choose(kinds, visible, scopes, marks, n0, n1, n2, n3, origins, targets, times, total, here, scope, time, 3, name, local);
+    let z = choose(
+        kinds,
+        visible,
+        scopes,
+        marks,
+        n0,
+        n1,
+        n2,
+        n3,
+        origins,
+        targets,
+        times,
+        total,
+        here,
+        scope,
+        time,
+        3,
+        name,
+        local,
+    );
     let c = item(b, here, 3, local, z);
     let mut r = c;
     r.number = verdict(a.number, b.number, c.number);
@@ -252,7 +315,26 @@ pub fn stage<'a>(
     while i < count {
         let name = name_at(decl, p);
         let local = local_at(decl, p);
-        s = element(kinds, visible, scopes, marks, n0, n1, n2, n3, origins, targets, times, total, here, scope, time, s, name, local);
+        s = element(
+            kinds,
+            visible,
+            scopes,
+            marks,
+            n0,
+            n1,
+            n2,
+            n3,
+            origins,
+            targets,
+            times,
+            total,
+            here,
+            scope,
+            time,
+            s,
+            name,
+            local,
+        );
         if s.number != 0 {
             return s;
         }
