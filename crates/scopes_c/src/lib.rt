@@ -4,6 +4,7 @@
 ghost use mathlib.Core.Path.{_≡_};
 ghost use Prim.Native.Nat.{_+_, _*_, _<_, _≤_};
 ghost use lib.ListN.{length};
+use names::Name;
 use scopes::Answer;
 use scopes::Outcome;
 use scopes::Tree;
@@ -143,23 +144,108 @@ fn packed(code: u8, value: u16) -> u32 {
     (code as u32) * 65536 + (value as u32)
 }
 
-// Replays the calls: for each its answer, code times 65,536 plus value, in `out`. Gives how many there were.
-#[no_mangle]
-pub extern "C" fn scopes_replay(s: &[u8], out: &mut [u32]) -> usize {
+// How many calls there were, and the tree that they left.
+struct Replay {
+    count: usize,
+    tree: Tree,
+}
+
+fn replayed(s: &[u8], out: &mut [u32]) -> Replay {
     let mut t = scopes::empty();
     let mut p: usize = 0;
     let mut i: usize = 0;
     while i < 16000000 {
         if s.len() <= p {
-            return i;
+            return Replay { count: i, tree: t };
         }
         if 16777216 <= p {
-            return i;
+            return Replay { count: i, tree: t };
         }
         let r = call_at(t, s, p);
         put(out, i, packed(r.code, r.value));
         t = r.tree;
         p = r.next;
+        i += 1;
+    }
+    Replay { count: i, tree: t }
+}
+
+// Replays the calls: for each its answer, code times 65,536 plus value, in `out`. Gives how many there were.
+#[no_mangle]
+pub extern "C" fn scopes_replay(s: &[u8], out: &mut [u32]) -> usize {
+    let r = replayed(s, out);
+    r.count
+}
+
+fn put_wide(out: &mut [u64], at: usize, v: u64) {
+    if at < out.len() {
+        out[at] = v;
+    }
+}
+
+fn put_name(out: &mut [u64], at: usize, n: Name)
+    requires { ⌜ at < 131072 ⌝ }
+{
+    put_wide(out, at, n.w0);
+    put_wide(out, at + 1, n.w1);
+    put_wide(out, at + 2, n.w2);
+    put_wide(out, at + 3, n.w3);
+}
+
+fn put_row(
+    out: &mut [u64],
+    at: usize,
+    kind: u8,
+    visible: u8,
+    scope: u16,
+    mark: u16,
+    origin: u16,
+    target: u16,
+    time: u16,
+    n: Name,
+)
+    requires { ⌜ at < 65536 ⌝ }
+{
+    put_wide(out, at, kind as u64);
+    put_wide(out, at + 1, visible as u64);
+    put_wide(out, at + 2, scope as u64);
+    put_wide(out, at + 3, mark as u64);
+    put_wide(out, at + 4, origin as u64);
+    put_wide(out, at + 5, target as u64);
+    put_wide(out, at + 6, time as u64);
+    put_name(out, at + 7, n);
+}
+
+// The tree that the calls leave, eleven numbers an entry: kind, visibility, scope, mark, origin, what a copy shows (a scope and a
+// time), and the name's four words. Gives how many entries there are.
+#[no_mangle]
+pub extern "C" fn scopes_rows(s: &[u8], out: &mut [u64]) -> usize {
+    let mut none = [0u32; 1];
+    let r = replayed(s, &mut none);
+    let t = r.tree;
+    let mut i: usize = 0;
+    while i < 1024 {
+        if t.count <= i {
+            return i;
+        }
+        let n = Name {
+            w0: t.n0[i],
+            w1: t.n1[i],
+            w2: t.n2[i],
+            w3: t.n3[i],
+        };
+        put_row(
+            out,
+            i * 11,
+            t.kinds[i],
+            t.visible[i],
+            t.scopes[i],
+            t.marks[i],
+            t.origins[i],
+            t.targets[i],
+            t.times[i],
+            n,
+        );
         i += 1;
     }
     i

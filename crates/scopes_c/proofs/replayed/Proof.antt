@@ -3,10 +3,10 @@ use native.Mathlib.Omega.{arith}
 use Prim.Native.Nat.{_≤_, _-_}
 use mathlib.Core.Path.{_≡_}
 use lib.ListN.{length}
-use Rattle.scopes_c.proofs.scopes_replay.Statement.{statement}
-use Rattle.scopes_c.proofs.scopes_replay.Tie as tie
-use Rattle.scopes_c.proofs.scopes_replay.Reads as reads
-use Rattle.scopes_c.proofs.scopes_replay.Lts as lts
+use Rattle.scopes_c.proofs.replayed.Statement.{statement}
+use Rattle.scopes_c.proofs.replayed.Tie as tie
+use Rattle.scopes_c.proofs.replayed.Reads as reads
+use Rattle.scopes_c.proofs.replayed.Lts as lts
 use Rattle.scopes.proofs.empty.Reads as empty-reads
 use Rattle.scopes_c.proofs.call_at.Reads as call-at-reads
 use Rattle.scopes_c.proofs.packed.Reads as packed-reads
@@ -60,8 +60,8 @@ same-length-3 c = search needs
 returns-3 : tie.Need-returns-3 Inv-loop μ-loop
 returns-3 c = search needs
 
-pub scopes-replay-spec : {M : Type 1} → statement M
-scopes-replay-spec =
+pub replayed-spec : {M : Type 1} → statement M
+replayed-spec =
     tie.close
     (tie.spec
     Inv-loop
