@@ -24,7 +24,9 @@ pub data In (i : ℕ) (h : Head) : Scope → Type 0 where
   inside : {j : ℕ} {g : Head} {b f : Scope} → In i h b → In i h (node j g b f)
   later : {j : ℕ} {g : Head} {b f : Scope} → In i h f → In i h (node j g b f)
 
--- a chain from the entry i: it is public, and a declaration; or a use brought it, from an entry of its kind and mark that has a chain
+-- a chain from the entry i: it is public, and a declaration; or a use brought it, from an entry of its kind and mark that has a chain.
+-- An entry brought along inside a module's copy is In the tree with its own number and origin, so its chain is its original's: "a chain
+-- goes from it to its original, not through the module that brought it"
 pub data Chain (T : Scope) : ℕ → Head → Type 0 where
   last : {i : ℕ} {h : Head} → In i h T → h .vis ≡ true → h .came ≡ declared → Chain T i h
   link : {i j : ℕ} {h g : Head} → In i h T → h .vis ≡ true → h .came ≡ used j → g .kind ≡ h .kind → g .mark ≡ h .mark → Chain T j g → Chain T i h

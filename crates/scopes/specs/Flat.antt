@@ -1,4 +1,5 @@
--- The tree as one list of entries that only grows, and how it is written out. Assumes nothing.
+-- The tree as one list of entries that only grows, and how it is written out. 01: "Cloned scopes become marks in one list of entries
+-- that only grows". Assumes nothing.
 use Prim.Native.Nat.{ℕ, zero, suc, _+_}
 use mathlib.Core.Bool.{Bool, true, false, cond, _&&_}
 use mathlib.Core.List.{List, [], _∷_, _++_}

@@ -27,19 +27,21 @@ module _ {X C : Type 0} (M : Model X C) where
   along [] c = c
   along (n ∷ p) c = along p (inner (M .find c 3 n))
 
-  -- a copy of a public entry, under the local name if free in that kind, with its mark and the use's visibility
+  -- 01: "under the local name if free in that kind, a copy of the public entry of the element's name in the module of the use's path, with
+  -- that entry's mark and the use's visibility"
   abbrev pub bring : Bool → Name → Found C → X → X
   bring v l missing x = x
   bring v l (got i h c) x = cond (h .vis && not (held M x (h .kind) l)) (M .add x (head (h .kind) l v (h .mark) (used i)) c) x
 
-  -- by element, then type, function, module
+  -- "A use adds there, by element, then type, function, module"
   unfoldable pub bring-all : C → Bool → List Elem → X → X
   bring-all c v [] x = x
   bring-all c v (e ∷ es) x =
       bring-all c v es
       (bring v (e .local) (M .find c 3 (e .name)) (bring v (e .local) (M .find c 2 (e .name)) (bring v (e .local) (M .find c 1 (e .name)) x)))
 
-  -- an accepted call
+  -- an accepted call: "Enter adds a module to the innermost open one and opens it; exit closes it. A type alias, enum (a type) or function
+  -- is added there"; "refused and get calls change nothing"
   abbrev pub noted : Call → X → X
   noted (enter n v m) x = M .opened x (head 3 n v m declared)
   noted exit x = M .closed x

@@ -1,4 +1,5 @@
--- The register of document 01: nested modules, an import written out. Assumes nothing.
+-- The register of document 01: nested modules, an import written out. "Its register starts as an empty open root"; "a module's copy
+-- brings along, in its order, what the module then held". Assumes nothing.
 use Prim.Native.Nat.{ℕ, zero, suc, _+_}
 use mathlib.Core.Bool.{Bool, true, false, cond, _&&_}
 use mathlib.Core.List.{List, [], _∷_, _++_}

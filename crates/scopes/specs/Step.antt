@@ -9,7 +9,7 @@ use borrow.Author.Tests.{eq-eqb}
 use Rattle.names.specs.declared.Name.{Name}
 use Rattle.names.specs.Packed.{sameName}
 
--- where an entry came from: a declaration, or a use that copied the entry of that number
+-- where an entry came from: a declaration, or a use that copied the entry of that number. 01: "a chain goes from it to its original"
 pub data Came : Type 0 where
   declared : Came
   used : ℕ → Came
@@ -18,7 +18,7 @@ pub same-refl : (a : Name) → sameName a a ≡ true
 unfolding sameName
 same-refl a = rw (eq-eqb (a .w0) (a .w0) refl, eq-eqb (a .w1) (a .w1) refl, eq-eqb (a .w2) (a .w2) refl, eq-eqb (a .w3) (a .w3) refl)
 
--- what an entry shows. Kinds: 1 type, 2 function, 3 module
+-- what an entry shows. Kinds as in 01's `has` lines: 1 type, 2 function, 3 module
 pub record Head : Type 0 where
   pub kind : ℕ
   pub name : Name
@@ -26,7 +26,7 @@ pub record Head : Type 0 where
   pub mark : ℕ
   pub came : Came
 
--- an element of a use: its name, the name it gets here, and whether it is written with `as main`
+-- an element of a use: its name, its local name, and whether it is written with `as main`. 46: "element renamed `main`"
 pub record Elem : Type 0 where
   pub name : Name
   pub local : Name
@@ -38,7 +38,7 @@ pub data Call : Type 0 where
   alias : Name → Bool → ℕ → Call
   enum : Name → Bool → ℕ → Call
   function : Name → Bool → ℕ → Call
-  -- whether the path is led by `crate`, the rest of it, visibility, elements
+  -- whether the path is led by `crate` (40), the rest of it, visibility, elements
   use′ : Bool → List Name → Bool → List Elem → Call
   get-alias : Name → Call
   get-function : Name → Call
@@ -84,7 +84,7 @@ abbrev pub told-mark : {C : Type 0} → Found C → Answer
 told-mark missing = refused 43
 told-mark (got i h c) = marked (h .mark)
 
--- how many names two paths have in common at their start
+-- how many names two paths have in common at their start: the Rust's shared_prefix_len
 unfoldable pub shared : List Name → List Name → ℕ
 shared [] [] = 0
 shared [] (b ∷ bs) = 0
@@ -108,7 +108,7 @@ abbrev pub after : {A : Type 0} → Tried A → A → A
 after (done a) x = a
 after (fail n) x = x
 
--- the first number that isn't 43
+-- 01: "In 43 to 45 the first that isn't 43, of type, function, module, is told"
 abbrev pub first-told : ℕ → ℕ → ℕ → ℕ
 first-told a b c = cond (eqb a 43) (cond (eqb b 43) c b) a
 
@@ -123,14 +123,15 @@ module _ {X C : Type 0} (M : Model X C) where
   abbrev pub held : X → ℕ → Name → Bool
   held x k n = is-got (M .find (M .here x) k n)
 
-  -- a tree limit is passed
+  -- 51: "the call, otherwise good, passes a tree limit": at most 1,024 entries, 9 open modules
   abbrev pub full : X → Bool
   full x = ltb 1024 (M .count x)
 
   abbrev pub deep : X → Bool
   deep x = ltb 9 (length (M .names x))
 
-  -- from the module c along the path. The segment at place `ind` may be private if those before it lead the open path.
+  -- from the module c along the path. 41 / 42: "segment missing / private, unless those before it lead the open path"; the Rust tests
+  -- shared_prefix_len < ind
   abbrev pub pass : ℕ → ℕ → Found C → (C → Tried C) → Tried C
   pass sh ind missing k = fail 41
   pass sh ind (got i h c) k = cond (not (h .vis) && ltb sh ind) (fail 42) (k c)
@@ -139,7 +140,8 @@ module _ {X C : Type 0} (M : Model X C) where
   nav sh ind [] c = done c
   nav sh ind (n ∷ p) c = pass sh ind (M .find c 3 n) (nav sh (suc ind) p)
 
-  -- one kind of one element: looked up in c, the tree before the use; a clash is with what x holds, earlier elements' entries too
+  -- one kind of one element: looked up in c, the tree before the use (43), then private (44), then held by the current module or an
+  -- earlier element "in that kind" (45). The entry takes "that entry's mark and the use's visibility"
   abbrev pub import : Bool → Name → X → Found C → Tried X
   import v l x missing = fail 43
   import v l x (got i h c) =
@@ -148,7 +150,7 @@ module _ {X C : Type 0} (M : Model X C) where
   abbrev pub attempt : C → Bool → Elem → ℕ → X → Tried X
   attempt c v e k x = import v (e .local) x (M .find c k (e .name))
 
-  -- type, function, module: one success is enough
+  -- C11: "of type, function and module under a name, one success is enough"
   abbrev pub judge : Tried X → Tried X → Tried X → X → Tried X
   judge a b d x = cond (is-done a || (is-done b || is-done d)) (done x) (fail (first-told (number a) (number b) (number d)))
 
@@ -165,18 +167,18 @@ module _ {X C : Type 0} (M : Model X C) where
   stage c v [] x = done x
   stage c v (e ∷ es) x = bind (element c v e x) (stage c v es)
 
-  -- the use as a whole: the tree after it, or a number
+  -- 01: "In a tree use 40 comes first, then 41 and 42 segment by segment, then 46, then 43 to 45 at the first element that fails"
   abbrev pub use-of : X → Bool → List Name → Bool → List Elem → Tried X
   use-of x led p v es =
       cond led
       (bind (nav (shared (M .names x) p) 0 p (M .root x)) (λ c. cond (any-main es) (fail 46) (stage c v es x)))
       (fail 40)
 
-  -- what a call other than get and exit makes of the tree, before the limits
+  -- 47 / 48 / 49: "name held"
   abbrev pub fresh : X → ℕ → Name → ℕ → X → Tried X
   fresh x k n num y = cond (held x k n) (fail num) (done y)
 
-  -- the limits come last, and a refusal leaves the tree as it was
+  -- the limits come last; "every refusal leaves image and tree untouched"
   abbrev pub settle : X → Tried X → X × Answer
   settle x (fail n) = (x, refused n)
   settle x (done y) = cond (full y || deep y) (x, refused 51) (y, ok)
@@ -196,7 +198,7 @@ module _ {X C : Type 0} (M : Model X C) where
   step x (get-function n) = (x, told-mark (M .find (M .here x) 2 n))
   step x (bad n) = (x, refused n)
 
-  -- the calls one after another, refused ones included: the tree that is left, and the answers
+  -- 01: "Demand 3's list of tree calls is one claim": the calls one after another, refused ones included: the tree left, and the answers
   unfoldable pub run : X → List Call → X × List Answer
   run x [] = (x, [])
   run x (c ∷ cs) =
