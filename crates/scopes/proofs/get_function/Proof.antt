@@ -1,0 +1,19 @@
+use native.Mathlib.Omega.{arith}
+use borrow.Author.Needs.{needs}
+use Rattle.scopes.proofs.get_function.Statement.{statement}
+use Rattle.scopes.proofs.get_function.Tie as tie
+use Rattle.scopes.proofs.get_function.Reads as reads
+use Rattle.scopes.proofs.get_function.Lts as lts
+use Rattle.scopes.proofs.get.Reads as get-reads
+use mathlib.Core.Path.{sym, subst}
+use Rattle.scopes.specs.Meets.{Answers}
+use Rattle.scopes.specs.Calls.{got-function}
+
+get-requires : tie.Need-get-requires
+get-requires c κs = search needs
+
+returns : tie.Need-returns
+returns c = subst (Answers _ _) (sym ((c .get) .ensures)) (got-function _ _)
+
+pub get-function-spec : {M : Type 1} → statement M
+get-function-spec = tie.close (tie.spec get-requires returns)

@@ -1,0 +1,22 @@
+use native.Mathlib.Omega.{arith}
+use borrow.Author.Needs.{needs}
+use Rattle.scopes.proofs.insert_function.Statement.{statement}
+use Rattle.scopes.proofs.insert_function.Tie as tie
+use Rattle.scopes.proofs.insert_function.Reads as reads
+use Rattle.scopes.proofs.insert_function.Lts as lts
+use Rattle.scopes.proofs.answered.Reads as answered-reads
+use Rattle.scopes.proofs.insert.Reads as insert-reads
+use Rattle.scopes.specs.Calls.{via, function-meets}
+use Rattle.scopes.proofs.Sizes.{sized}
+
+insert-requires : tie.Need-insert-requires
+insert-requires c κs = search needs
+
+answered-requires : tie.Need-answered-requires
+answered-requires c κs = search needs
+
+returns : tie.Need-returns
+returns c = via (λ t. t) ((c .answered) .ensures) ((c .before .insert) .ensures) (function-meets _ _ _ _ (sized _ _ ((c .before .before .before .good) .0)))
+
+pub insert-function-spec : {M : Type 1} → statement M
+insert-function-spec = tie.close (tie.spec insert-requires answered-requires returns)

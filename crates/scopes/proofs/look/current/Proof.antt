@@ -1,0 +1,29 @@
+use native.Mathlib.Omega.{arith}
+use borrow.Author.Needs.{needs}
+use Rattle.scopes.proofs.look.current.Statement.{statement}
+use Rattle.scopes.proofs.look.current.Tie as tie
+use Rattle.scopes.proofs.look.current.Reads as reads
+use Rattle.scopes.proofs.look.current.Lts as lts
+use mathlib.Core.Path.{_≡_, sym}
+use borrow.Author.Tests.{eq-eqb, ne-eqb}
+use Rattle.scopes.specs.Nav.{current-of}
+
+returns : tie.Need-returns
+unfolding current-of
+returns c = simp (eq-eqb _ _ ((c .if1) .taken))
+
+sub-result : tie.Need-sub-result
+sub-result c = search needs
+
+mul-result : tie.Need-mul-result
+mul-result c = search needs
+
+element-copy-out-result : tie.Need-element-copy-out-result
+element-copy-out-result c = search needs
+
+returns-2 : tie.Need-returns-2
+unfolding current-of
+returns-2 c = simp (ne-eqb _ _ ((c .before .if1) .left))
+
+pub current-spec : {M : Type 1} → statement M
+current-spec = tie.close (tie.spec returns sub-result mul-result element-copy-out-result returns-2)

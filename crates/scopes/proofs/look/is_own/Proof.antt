@@ -1,0 +1,23 @@
+use borrow.Author.Needs.{needs}
+use native.Mathlib.Omega.{arith}
+use Rattle.scopes.proofs.look.is_own.Statement.{statement}
+use Rattle.scopes.proofs.look.is_own.Tie as tie
+use Rattle.scopes.proofs.look.is_own.Reads as reads
+use Rattle.scopes.proofs.look.is_own.Lts as lts
+use Prim.Native.Nat.{ℕ}
+use mathlib.Core.Path.{_≡_}
+use mathlib.Core.Bool.{Bool, false}
+use lib.Dec.{eqb}
+use borrow.Author.Tests.{eq-eqb, ne-eqb}
+use Rattle.scopes.specs.Rows.{isOwn}
+
+returns : tie.Need-returns
+unfolding isOwn
+returns c = simp (ne-eqb _ _ (c .if1 .taken))
+
+returns-2 : tie.Need-returns-2
+unfolding isOwn
+returns-2 c = simp (eq-eqb _ _ (c .if1 .left))
+
+pub is-own-spec : {M : Type 1} → statement M
+is-own-spec = tie.close (tie.spec returns returns-2)

@@ -1,0 +1,120 @@
+use native.Mathlib.Omega.{arith}
+use borrow.Author.Needs.{needs}
+use Rattle.scopes.proofs.stage.choose.Statement.{statement}
+use Rattle.scopes.proofs.stage.choose.Tie as tie
+use Rattle.scopes.proofs.stage.choose.Reads as reads
+use Rattle.scopes.proofs.stage.choose.Lts as lts
+use Rattle.scopes.proofs.look.find_in.Reads as find-in-reads
+use Rattle.scopes.proofs.look.inside.Reads as inside-reads
+use Rattle.scopes.proofs.look.is_held.Reads as is-held-reads
+use Rattle.scopes.proofs.stage.no_choice.Reads as no-choice-reads
+use mathlib.Core.Path.{_≡_, sym, ap, _∙_}
+use Rattle.scopes.specs.Rows.{found-at, site-le}
+use Rattle.scopes.specs.declared.look.Place.{Place as Site}
+use Rattle.scopes.specs.Staging.{choice-missing, choice-private, choice-occupied, choice-made}
+use mir.Val.{Fits}
+
+find-in-requires : tie.Need-find-in-requires
+find-in-requires c κs = search needs
+
+enum-known-found : tie.Need-enum-known-found
+enum-known-found c = search needs
+
+enum-told : tie.Need-enum-told
+enum-told c = search needs
+
+no-choice-requires : tie.Need-no-choice-requires
+no-choice-requires c κs = search needs
+
+returns : tie.Need-returns
+returns c = (c .no-choice) .ensures ∙ choice-missing _ _ _ _ _ _ _ _ _ ((c .before .before .before .find-in) .ensures) ((c .before .enum-told) .given .1)
+
+element-copy-out-if1 : tie.Need-element-copy-out-if1
+element-copy-out-if1 c = let b = found-at _ _ _ _ (sym ((c .before .before .before .find-in) .ensures) ∙ (c .before .found) .given .1) in let e = (c .before .before .before .before .pre) in omega arith
+
+no-choice-requires-2 : tie.Need-no-choice-requires-2
+no-choice-requires-2 c κs = search needs
+
+returns-2 : tie.Need-returns-2
+returns-2 c = (c .no-choice2) .ensures ∙ choice-private _ _ _ _ _ _ _ _ _ (sym ((c .before .before .before .before .found) .given .1) ∙ (c .before .before .before .before .before .before .find-in) .ensures) ((c .before .if1) .taken)
+
+is-held-requires : tie.Need-is-held-requires
+is-held-requires c κs = search needs
+
+no-choice-requires-3 : tie.Need-no-choice-requires-3
+no-choice-requires-3 c κs = search needs
+
+returns-3 : tie.Need-returns-3
+returns-3 c = (c .no-choice3) .ensures ∙ choice-occupied _ _ _ _ _ _ _ _ _ (sym ((c .before .before .before .before .before .before .found) .given .1) ∙ (c .before .before .before .before .before .before .before .before .find-in) .ensures) ((c .before .before .before .if1) .left) _ ((c .before .before .is-held) .ensures) ((c .before .if2) .taken)
+
+element-copy-out-inside : tie.Need-element-copy-out-inside
+element-copy-out-inside c = let b = found-at _ _ _ _ (sym ((c .before .before .before .before .before .before .before .find-in) .ensures) ∙ (c .before .before .before .before .before .found) .given .1) in let e = (c .before .before .before .before .before .before .before .before .pre) in omega arith
+
+mul-inside : tie.Need-mul-inside
+mul-inside c = let b = found-at _ _ _ _ (sym ((c .before .before .before .before .before .before .before .before .find-in) .ensures) ∙ (c .before .before .before .before .before .before .found) .given .1) in let e = (c .before .before .before .before .before .before .before .before .before .pre) in omega arith
+
+element-copy-out-inside-2 : tie.Need-element-copy-out-inside-2
+element-copy-out-inside-2 c = let b = found-at _ _ _ _ (sym ((c .before .before .before .before .before .before .before .before .find-in) .ensures) ∙ (c .before .before .before .before .before .before .found) .given .1) in let e = (c .before .before .before .before .before .before .before .before .before .pre) in omega arith
+
+mul-inside-2 : tie.Need-mul-inside-2
+mul-inside-2 c = let b = found-at _ _ _ _ (sym ((c .before .before .before .before .before .before .before .before .before .find-in) .ensures) ∙ (c .before .before .before .before .before .before .before .found) .given .1) in let e = (c .before .before .before .before .before .before .before .before .before .before .pre) in omega arith
+
+element-copy-out-inside-3 : tie.Need-element-copy-out-inside-3
+element-copy-out-inside-3 c = let b = found-at _ _ _ _ (sym ((c .before .before .before .before .before .before .before .before .before .find-in) .ensures) ∙ (c .before .before .before .before .before .before .before .found) .given .1) in let e = (c .before .before .before .before .before .before .before .before .before .before .pre) in omega arith
+
+mul-inside-3 : tie.Need-mul-inside-3
+mul-inside-3 c = let b = found-at _ _ _ _ (sym ((c .before .before .before .before .before .before .before .before .before .before .find-in) .ensures) ∙ (c .before .before .before .before .before .before .before .before .found) .given .1) in let e = (c .before .before .before .before .before .before .before .before .before .before .before .pre) in omega arith
+
+element-copy-out-inside-4 : tie.Need-element-copy-out-inside-4
+element-copy-out-inside-4 c = let b = found-at _ _ _ _ (sym ((c .before .before .before .before .before .before .before .before .before .before .find-in) .ensures) ∙ (c .before .before .before .before .before .before .before .before .found) .given .1) in let e = (c .before .before .before .before .before .before .before .before .before .before .before .pre) in omega arith
+
+inside-requires : tie.Need-inside-requires
+inside-requires c κs = let b = found-at _ _ _ _ (sym ((c .before .before .before .before .before .before .before .before .before .before .before .find-in) .ensures) ∙ (c .before .before .before .before .before .before .before .before .before .found) .given .1) in let e = (c .before .before .before .before .before .before .before .before .before .before .before .before .pre) in omega arith
+
+mul-t29 : tie.Need-mul-t29
+mul-t29 c = let b = found-at _ _ _ _ (sym ((c .before .before .before .before .before .before .before .before .before .before .before .before .find-in) .ensures) ∙ (c .before .before .before .before .before .before .before .before .before .before .found) .given .1) in let e = (c .before .before .before .before .before .before .before .before .before .before .before .before .before .pre) in omega arith
+
+element-copy-out-t40 : tie.Need-element-copy-out-t40
+element-copy-out-t40 c = let b = found-at _ _ _ _ (sym ((c .before .before .before .before .before .before .before .before .before .before .before .before .find-in) .ensures) ∙ (c .before .before .before .before .before .before .before .before .before .before .found) .given .1) in let e = (c .before .before .before .before .before .before .before .before .before .before .before .before .before .pre) in omega arith
+
+add-t37 : tie.Need-add-t37
+add-t37 c = let b = found-at _ _ _ _ (sym ((c .before .before .before .before .before .before .before .before .before .before .before .before .before .find-in) .ensures) ∙ (c .before .before .before .before .before .before .before .before .before .before .before .found) .given .1) in let e = (c .before .before .before .before .before .before .before .before .before .before .before .before .before .before .pre) in omega arith
+
+cast-t36 : tie.Need-cast-t36
+cast-t36 c = let b = found-at _ _ _ _ (sym ((c .before .before .before .before .before .before .before .before .before .before .before .before .before .find-in) .ensures) ∙ (c .before .before .before .before .before .before .before .before .before .before .before .found) .given .1) in let e = (c .before .before .before .before .before .before .before .before .before .before .before .before .before .before .pre) in omega arith
+
+cast-t32 : tie.Need-cast-t32
+cast-t32 c = let e = (c .before .before .before .before .before .before .before .before .before .before .before .before .before .before .before .pre) in let t = site-le _ _ _ _ _ _ _ ((c .before .before .inside) .ensures) in omega arith
+
+returns-4 : tie.Need-returns-4
+returns-4 c = choice-made _ _ _ _ _ _ _ _ _ (sym ((c .before .before .before .before .before .before .before .before .before .before .before .before .found) .given .1) ∙ (c .before .before .before .before .before .before .before .before .before .before .before .before .before .before .find-in) .ensures) ((c .before .before .before .before .before .before .before .before .before .if1) .left) _ ((c .before .before .before .before .before .before .before .before .is-held) .ensures) ((c .before .before .before .before .before .before .before .if2) .left) _ ((c .before .before .inside) .ensures)
+
+pub choose-spec : {M : Type 1} → statement M
+choose-spec =
+    tie.close
+    (tie.spec
+    find-in-requires
+    enum-known-found
+    enum-told
+    no-choice-requires
+    returns
+    element-copy-out-if1
+    no-choice-requires-2
+    returns-2
+    is-held-requires
+    no-choice-requires-3
+    returns-3
+    element-copy-out-inside
+    mul-inside
+    element-copy-out-inside-2
+    mul-inside-2
+    element-copy-out-inside-3
+    mul-inside-3
+    element-copy-out-inside-4
+    inside-requires
+    mul-t29
+    element-copy-out-t40
+    add-t37
+    cast-t36
+    cast-t32
+    returns-4)

@@ -1,0 +1,36 @@
+-- Demand 3 as one statement. Assumes nothing.
+use Prim.Native.Nat.{ℕ}
+use mathlib.Core.Path.{_≡_, sym, ap, subst}
+use mathlib.Core.List.{List}
+use Rattle.scopes.specs.Step.{Head, used, Call, Answer}
+use Rattle.scopes.specs.Register.{Scope, Register, registered, tree-of}
+use Rattle.scopes.specs.Flat.{Flat, flattened, write}
+use Rattle.scopes.specs.Same.{same-answers, same-tree}
+use Rattle.scopes.specs.Chain.{In, Chain, chains, one-entry}
+use Rattle.scopes.specs.Note.{register-of, written}
+use Rattle.scopes.specs.Once.{Once, once}
+
+-- f, the answers as′: what the calls cs left of the empty flat tree, and told
+pub record Demand (cs : List Call) (f : Flat) (as′ : List Answer) : Type 0 where
+  -- the answers are those of the definition over the register
+  pub answers : as′ ≡ registered cs .1
+  -- the tree written out is the register that took the calls and whether each was accepted
+  pub tree : write (f .entries) 0 ≡ tree-of (register-of cs as′)
+  -- a number is one entry's, and in a module a name is held once in each kind
+  pub entry : (i : ℕ) (h g : Head) → In i h (write (f .entries) 0) → In i g (write (f .entries) 0) → h ≡ g
+  pub names : Once (write (f .entries) 0)
+  -- what a use imported has its chain
+  pub chain : (i j : ℕ) (h : Head) → In i h (write (f .entries) 0) → h .came ≡ used j
+      → (g : Head) × (g .kind ≡ h .kind) × (g .mark ≡ h .mark) × Chain (write (f .entries) 0) j g
+
+pub demand : (cs : List Call) → Demand cs (flattened cs .0) (flattened cs .1)
+demand cs =
+    let e : tree-of (registered cs .0) ≡ write (flattened cs .0 .entries) 0 = sym (same-tree cs) in
+    record {
+      answers = sym (same-answers cs);
+      tree = written cs;
+      entry = λ i h g a b. one-entry cs i h g (subst (In i h) (same-tree cs) a) (subst (In i g) (same-tree cs) b);
+      names = subst Once e (once cs);
+      chain = λ i j h a u.
+          subst (λ (T : Scope). (g : Head) × (g .kind ≡ h .kind) × (g .mark ≡ h .mark) × Chain T j g) e (chains cs i j h (subst (In i h) (same-tree cs) a) u);
+    }

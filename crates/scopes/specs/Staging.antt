@@ -1,0 +1,242 @@
+-- What a use stages, over the arrays: item by item, element by element. Assumes nothing.
+use Prim.Native.Nat.{ℕ, zero, suc, _+_, _-_, _≤_, _<_}
+use native.Mathlib.Omega.{arith}
+use native.Mathlib.Numerals.{add-one}
+use mathlib.Core.Path.{_≡_, refl, ap, sym, _∙_}
+use mathlib.Core.Bool.{Bool, true, false, cond, _&&_, _||_}
+use mathlib.Core.List.{List}
+use lib.Dec.{eqb, ltb}
+use lib.ListN.{getD, set, replicate}
+use borrow.Author.Tests.{eq-eqb, ne-eqb}
+use Rattle.names.specs.declared.Name.{Name}
+use Rattle.names.specs.Packed.{packed}
+use Rattle.scopes.specs.declared.look.Spot.{Spot}
+use Rattle.scopes.specs.declared.look.Spot.the-variants.{At, Nothing}
+use Rattle.scopes.specs.declared.look.Place.{Place as Site}
+use Rattle.scopes.specs.declared.stage.Staged.{Staged}
+use Rattle.scopes.specs.declared.stage.Choice.{Choice}
+use Rattle.scopes.specs.Form.{string, local-name, after-element}
+use Rattle.scopes.specs.Rows.{Arrays, name-at, isRow, first-in, looked, site}
+
+abbrev pub is-at : Spot → Bool
+is-at Nothing = false
+is-at (At i) = true
+
+-- whether p holds of a number below n
+unfoldable pub any-to : (ℕ → Bool) → ℕ → Bool
+any-to p zero = false
+any-to p (suc n) = any-to p n || p n
+
+pub any-next : (p : ℕ → Bool) (i : ℕ) → any-to p i ≡ false → p i ≡ false → any-to p (i + 1) ≡ false
+unfolding any-to
+any-next p i h q = rw (add-one, h, q)
+
+pub any-hit : (p : ℕ → Bool) (n i : ℕ) → i < n → p i ≡ true → any-to p n ≡ true
+unfolding any-to
+any-hit p zero i h q = absurd (omega arith)
+any-hit p (suc n) i h q = go (native.Mathlib.Decide.decLt i n) (λ l. any-hit p n i l q)
+  where
+    go : Dec (i < n) → (i < n → any-to p n ≡ true) → any-to p n || p n ≡ true
+    go (yes l) ih = rw (ih l)
+    go (no l) ih = let e : i ≡ n = omega arith in rw (← e, q) (last (any-to p i))
+      where
+        last : (b : Bool) → b || true ≡ true
+        last true = refl
+        last false = refl
+
+-- nothing staged, with a number
+abbrev pub refusal : ℕ → Staged
+refusal n =
+    record { number = n; count = 0; kinds = replicate 96 0; marks = replicate 96 0; n0 = replicate 96 0; n1 = replicate 96 0; n2 = replicate 96 0; n3 = replicate 96 0; origins = replicate 96 0; targets = replicate 96 0; times = replicate 96 0 }
+
+abbrev pub numbered : ℕ → Staged → Staged
+numbered n s =
+    record { number = n; count = s .count; kinds = s .kinds; marks = s .marks; n0 = s .n0; n1 = s .n1; n2 = s .n2; n3 = s .n3; origins = s .origins; targets = s .targets; times = s .times }
+
+-- one entry more: kind, mark, name, origin, and what is inside
+abbrev pub put : Staged → ℕ → ℕ → Name → ℕ → ℕ → ℕ → Staged
+put s k m n o t u =
+    record {
+      number = 0;
+      count = s .count + 1;
+      kinds = set (s .kinds) (s .count) k;
+      marks = set (s .marks) (s .count) m;
+      n0 = set (s .n0) (s .count) (n .w0);
+      n1 = set (s .n1) (s .count) (n .w1);
+      n2 = set (s .n2) (s .count) (n .w2);
+      n3 = set (s .n3) (s .count) (n .w3);
+      origins = set (s .origins) (s .count) o;
+      targets = set (s .targets) (s .count) t;
+      times = set (s .times) (s .count) u;
+    }
+
+-- whether a staged entry has the kind and the name: all stand in the scope `here`
+unfoldable pub staged-test : List ℕ → List ℕ → List ℕ → List ℕ → List ℕ → ℕ → ℕ → Name → ℕ → Bool
+staged-test ks a b c d here k n i = isRow here (getD ks i 0) (name-at a b c d i) here k n
+
+abbrev pub staged-held : Staged → ℕ → ℕ → Name → Bool
+staged-held s here k n = any-to (staged-test (s .kinds) (s .n0) (s .n1) (s .n2) (s .n3) here k n) (s .count)
+
+-- one success is enough, else the first number that isn't 43
+unfoldable pub verdict-of : ℕ → ℕ → ℕ → ℕ
+verdict-of a b c = cond (eqb a 0) 0 (cond (eqb b 0) 0 (cond (eqb c 0) 0 (cond (eqb a 43) (cond (eqb b 43) c b) a)))
+
+abbrev pub no-choice : ℕ → Choice
+no-choice n = record { number = n; mark = 0; origin = 0; target = 0; moment = 0 }
+
+-- an item staged: 45 where an earlier element holds the local name
+unfoldable pub with-choice : Staged → ℕ → ℕ → Name → Choice → Staged
+with-choice s here k l c =
+    cond (eqb (c .number) 0) (cond (staged-held s here k l) (numbered 45 s) (put s k (c .mark) l (c .origin) (c .target) (c .moment))) (numbered (c .number) s)
+
+module _ (A : Arrays) (total here scope time : ℕ) where
+  -- the entry of that name in the module of the path
+  unfoldable pub sought : ℕ → Name → Spot
+  sought k n = first-in (looked (A .scopes) (A .kinds) (A .n0) (A .n1) (A .n2) (A .n3) scope k n) scope time
+
+  -- whether the current module holds the name
+  unfoldable pub occupied : ℕ → Name → Bool
+  occupied k n = is-at (first-in (looked (A .scopes) (A .kinds) (A .n0) (A .n1) (A .n2) (A .n3) here k n) here total)
+
+  abbrev pub inside-of : ℕ → Site
+  inside-of e = site e (getD (A .kinds) e 0) (getD (A .origins) e 0) (getD (A .targets) e 0) (getD (A .times) e 0) time
+
+  -- the entry that an item copies, or its number: 43, 44, or 45 where the current module holds the local name
+  unfoldable pub chosen : ℕ → Name → Spot → Choice
+  chosen k l Nothing = no-choice 43
+  chosen k l (At e) =
+      cond (eqb (getD (A .visible) e 0) 1)
+      (cond (occupied k l) (no-choice 45) (record { number = 0; mark = getD (A .marks) e 0; origin = e + 1; target = inside-of e .scope; moment = inside-of e .time }))
+      (no-choice 44)
+
+  unfoldable pub choice-of : ℕ → Name → Name → Choice
+  choice-of k n l = chosen k l (sought k n)
+
+  -- one kind of one element
+  abbrev pub staged-item : Staged → ℕ → Name → Name → Staged
+  staged-item s k n l = with-choice s here k l (choice-of k n l)
+
+  -- one element: type, function, module
+  unfoldable pub staged-element : Staged → Name → Name → Staged
+  staged-element s n l =
+      let a = staged-item s 1 n l in
+      let b = staged-item a 2 n l in
+      let c = staged-item b 3 n l in
+      numbered (verdict-of (a .number) (b .number) (c .number)) c
+
+  -- the elements one after another, up to the first that is refused
+  unfoldable pub staged-all : List ℕ → ℕ → ℕ → Staged → Staged
+  staged-all d zero p s = s
+  staged-all d (suc n) p s =
+      let x = staged-element s (packed (string d p)) (local-name d p) in
+      cond (eqb (x .number) 0) (staged-all d n (after-element d p) x) x
+
+-- AS THE CODE HAS IT
+module _ (A : Arrays) (total here scope time k : ℕ) (n l : Name) where
+  pub choice-missing : (r : Spot) → r ≡ first-in (looked (A .scopes) (A .kinds) (A .n0) (A .n1) (A .n2) (A .n3) scope k n) scope time → r ≡ Nothing → no-choice 43 ≡ choice-of A total here scope time k n l
+  unfolding choice-of sought chosen
+  choice-missing r q z = rw (← q, z)
+
+  module _ (e : ℕ) (q : At e ≡ first-in (looked (A .scopes) (A .kinds) (A .n0) (A .n1) (A .n2) (A .n3) scope k n) scope time) where
+    pub choice-private : (getD (A .visible) e 0 ≡ 1 → ⊥) → no-choice 44 ≡ choice-of A total here scope time k n l
+    unfolding choice-of sought chosen
+    choice-private v = rw (← q, ne-eqb (getD (A .visible) e 0) 1 v)
+
+    module _ (v : getD (A .visible) e 0 ≡ 1) (b : Bool) (o : b ≡ is-at (first-in (looked (A .scopes) (A .kinds) (A .n0) (A .n1) (A .n2) (A .n3) here k l) here total)) where
+      pub choice-occupied : b ≡ true → no-choice 45 ≡ choice-of A total here scope time k n l
+      unfolding choice-of sought chosen occupied
+      choice-occupied z = rw (← q, eq-eqb (getD (A .visible) e 0) 1 v, ← o, z)
+
+      pub choice-made : b ≡ false → (g : Site) → g ≡ inside-of A total here scope time e
+          → record { number = 0; mark = getD (A .marks) e 0; origin = e + 1; target = g .scope; moment = g .time } ≡ choice-of A total here scope time k n l
+      unfolding choice-of sought chosen occupied
+      choice-made z g w = rw (← q, eq-eqb (getD (A .visible) e 0) 1 v, ← o, z, w)
+
+module _ (s : Staged) (here k : ℕ) (l : Name) (c : Choice) where
+  pub item-refused : (c .number ≡ 0 → ⊥) → numbered (c .number) s ≡ with-choice s here k l c
+  unfolding with-choice
+  item-refused z = rw (ne-eqb (c .number) 0 z)
+
+  module _ (z : c .number ≡ 0) (b : Bool) (q : b ≡ staged-held s here k l) where
+    pub item-held : b ≡ true → numbered 45 s ≡ with-choice s here k l c
+    unfolding with-choice
+    item-held t = rw (eq-eqb (c .number) 0 z, ← q, t)
+
+    pub item-made : b ≡ false → put s k (c .mark) l (c .origin) (c .target) (c .moment) ≡ with-choice s here k l c
+    unfolding with-choice
+    item-made t = rw (eq-eqb (c .number) 0 z, ← q, t)
+
+-- an item adds one at most
+pub item-count : (s : Staged) (here k : ℕ) (l : Name) (c : Choice) → with-choice s here k l c .count ≤ s .count + 1
+unfolding with-choice
+item-count s here k l c = go (eqb (c .number) 0) (staged-held s here k l)
+  where
+    go : (a b : Bool) → cond {A = Staged} a (cond {A = Staged} b (numbered 45 s) (put s k (c .mark) l (c .origin) (c .target) (c .moment))) (numbered (c .number) s) .count ≤ s .count + 1
+    go true true = omega arith
+    go true false = omega arith
+    go false b = omega arith
+
+pub element-count : (A : Arrays) (total here scope time : ℕ) (s : Staged) (n l : Name) → staged-element A total here scope time s n l .count ≤ s .count + 3
+unfolding staged-element
+element-count A total here scope time s n l =
+    let a = staged-item A total here scope time s 1 n l in
+    let b = staged-item A total here scope time a 2 n l in
+    omega (arith, item-count s here 1 l (choice-of A total here scope time 1 n l), item-count a here 2 l (choice-of A total here scope time 2 n l), item-count b here 3 l (choice-of A total here scope time 3 n l))
+
+pub element-made : (A : Arrays) (total here scope time : ℕ) (s : Staged) (n l : Name) (x y z : Choice) (a b c : Staged) (v : ℕ)
+    → x ≡ choice-of A total here scope time 1 n l → a ≡ with-choice s here 1 l x
+    → y ≡ choice-of A total here scope time 2 n l → b ≡ with-choice a here 2 l y
+    → z ≡ choice-of A total here scope time 3 n l → c ≡ with-choice b here 3 l z
+    → v ≡ verdict-of (a .number) (b .number) (c .number) → numbered v c ≡ staged-element A total here scope time s n l
+unfolding staged-element
+element-made A total here scope time s n l x y z a b c v p q r t u w e =
+    let f : (a′ b′ c′ : Staged) → Staged = λ a′ b′ c′. numbered (verdict-of (a′ .number) (b′ .number) (c′ .number)) c′ in
+    let a₁ : a ≡ staged-item A total here scope time s 1 n l = q ∙ ap (with-choice s here 1 l) p in
+    let b₁ : b ≡ staged-item A total here scope time a 2 n l = t ∙ ap (with-choice a here 2 l) r in
+    let c₁ : c ≡ staged-item A total here scope time b 3 n l = w ∙ ap (with-choice b here 3 l) u in
+    ap (λ (m : ℕ). numbered m c) e ∙ ap (f a b) c₁ ∙ ap (λ (m : Staged). f a m (staged-item A total here scope time m 3 n l)) b₁
+    ∙ ap (λ (m : Staged). f m (staged-item A total here scope time m 2 n l) (staged-item A total here scope time (staged-item A total here scope time m 2 n l) 3 n l)) a₁
+
+pub counted : (s r : Staged) (here k : ℕ) (l : Name) (c : Choice) → r ≡ with-choice s here k l c → r .count ≤ s .count + 1
+counted s r here k l c q = rw q (item-count s here k l c)
+
+-- the loop over the elements: at the turn i of n the element stands at p, and s is staged
+module _ (A : Arrays) (total here scope time : ℕ) (d : List ℕ) (at n : ℕ) where
+  abbrev pub everything : Staged
+  everything = staged-all A total here scope time d n at (refusal 0)
+
+  pub record Staging (p i : ℕ) (s : Staged) : Type 0 where
+    pub within : i ≤ n
+    pub below : p ≤ at + Prim.Native.Nat._*_ 512 i
+    pub small : s .count ≤ Prim.Native.Nat._*_ 3 i
+    pub fine : s .number ≡ 0
+    pub same : everything ≡ staged-all A total here scope time d (n - i) p s
+
+  pub staging-start : (s : Staged) → s ≡ refusal 0 → Staging at 0 s
+  staging-start s q =
+      let e : n ≡ n - 0 = omega arith in
+      rw q (record { within = omega arith; below = omega arith; small = omega arith; fine = refl; same = ap (λ (m : ℕ). staged-all A total here scope time d m at (refusal 0)) e })
+
+  module _ (p i : ℕ) (s : Staged) (w : Staging p i s) where
+    module _ (h : i < n) (x y : Name) (u : x ≡ packed (string d p)) (v : y ≡ local-name d p) (r : Staged) (q : r ≡ staged-element A total here scope time s x y) where
+      turned : everything ≡ cond (eqb (r .number) 0) (staged-all A total here scope time d (n - (i + 1)) (after-element d p) r) r
+      unfolding staged-all
+      turned = let e : n - i ≡ suc (n - (i + 1)) = omega arith in w .same ∙ rw (e, ← u, ← v, ← q)
+
+      pub staging-stop : (r .number ≡ 0 → ⊥) → r ≡ everything
+      staging-stop z = sym (turned ∙ rw (ne-eqb (r .number) 0 z))
+
+      pub staging-turn : r .number ≡ 0 → (a : ℕ) → (a ≡ Rattle.scopes.specs.Form.after-string d p) × (a ≤ p + 256) → (b : ℕ) → (b ≡ Rattle.scopes.specs.Form.after-string d a) × (b ≤ a + 256) → Staging b (i + 1) r
+      staging-turn z a f b g =
+          let t : b ≡ after-element d p = g .0 ∙ ap (λ (m : ℕ). Rattle.scopes.specs.Form.after-string d m) (f .0) in
+          record {
+            within = omega arith;
+            below = omega (arith, w .below, f .1, g .1);
+            small = omega (arith, w .small, ap (λ (m : Staged). m .count) q, element-count A total here scope time s x y);
+            fine = z;
+            same = rw t (turned ∙ rw (eq-eqb (r .number) 0 z));
+          }
+
+    pub staging-end : n ≤ i → s ≡ everything
+    unfolding staged-all
+    staging-end h = let e : n - i ≡ 0 = omega arith in sym (w .same ∙ rw e)

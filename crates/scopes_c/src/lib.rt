@@ -1,0 +1,252 @@
+// Lists of tree calls as bytes, for programs in other languages. A call is one byte: 1 enter, 2 exit, 3 type alias, 4 enum, 5 function,
+// 6 use, 7 get_alias, 8 get_function, any other an empty tree; after a name's length and bytes come (but for 7, 8) its visibility and
+// a 2-byte mark; after 6 a 2-byte length, the use's bytes and its visibility. What is missing counts as 0.
+ghost use mathlib.Core.Path.{_≡_};
+ghost use Prim.Native.Nat.{_+_, _*_, _<_, _≤_};
+ghost use lib.ListN.{length};
+use names::Name;
+use scopes::Answer;
+use scopes::Outcome;
+use scopes::Tree;
+
+fn wide(b: u8) -> usize
+    ensures { λ r. ⌜ r < 256 ⌝ }
+{
+    b as usize
+}
+
+fn byte(s: &[u8], at: usize) -> usize
+    ensures { λ r. ⌜ r < 256 ⌝ }
+{
+    if at < s.len() {
+        return wide(s[at]);
+    }
+    0
+}
+
+fn pair(s: &[u8], at: usize) -> usize
+    requires { ⌜ at < 33554432 ⌝ }
+    ensures { λ r. ⌜ r < 65536 ⌝ }
+{
+    byte(s, at) * 256 + byte(s, at + 1)
+}
+
+fn mark(s: &[u8], at: usize) -> u16
+    requires { ⌜ at < 33554432 ⌝ }
+{
+    pair(s, at) as u16
+}
+
+// The n bytes from `at` on that are there.
+fn part<'a>(s: &'a [u8], at: usize, n: usize) -> &'a [u8] {
+    let len = s.len();
+    if len <= at {
+        return &s[..0];
+    }
+    if n < len - at {
+        let e = at + n;
+        return &s[at..e];
+    }
+    &s[at..]
+}
+
+// An answer: code 0 done, 1 with a mark, 2 with a number; the tree; the place of the next call.
+pub struct Step {
+    pub code: u8,
+    pub value: u16,
+    pub tree: Tree,
+    pub next: usize,
+}
+
+fn wider(n: u8) -> u16 {
+    n as u16
+}
+
+fn asked(a: Answer, t: Tree, next: usize) -> Step
+    ensures { λ r. ⌜ r .next ≡ next ⌝ }
+{
+    match a {
+        Answer::Done => Step {
+            code: 0,
+            value: 0,
+            tree: t,
+            next: next,
+        },
+        Answer::Mark(m) => Step {
+            code: 1,
+            value: m,
+            tree: t,
+            next: next,
+        },
+        Answer::Refused(n) => Step {
+            code: 2,
+            value: wider(n),
+            tree: t,
+            next: next,
+        },
+    }
+}
+
+fn made(o: Outcome, next: usize) -> Step
+    ensures { λ r. ⌜ r .next ≡ next ⌝ }
+{
+    let a = o.answer;
+    let t = o.tree;
+    asked(a, t, next)
+}
+
+// The call at p.
+pub fn call_at(t: Tree, s: &[u8], p: usize) -> Step
+    requires { ⌜ p < 16777216 ⌝ }
+    ensures { λ r. ⌜ (p < r .next) × (r .next ≤ p + 65539) ⌝ }
+{
+    let op = byte(s, p);
+    if op == 2 {
+        return made(scopes::exit(t), p + 1);
+    }
+    if op == 6 {
+        let n = pair(s, p + 1);
+        let v = byte(s, p + 3 + n) == 1;
+        return made(scopes::resolve_use(t, part(s, p + 3, n), v), p + 4 + n);
+    }
+    let n = byte(s, p + 1);
+    let e = p + 2 + n;
+    if op == 7 {
+        return asked(scopes::get_alias(t, part(s, p + 2, n)), t, e);
+    }
+    if op == 8 {
+        return asked(scopes::get_function(t, part(s, p + 2, n)), t, e);
+    }
+    let v = byte(s, e) == 1;
+    let m = mark(s, e + 1);
+    if op == 1 {
+        return made(scopes::enter(t, part(s, p + 2, n), v, m), e + 3);
+    }
+    if op == 3 {
+        return made(scopes::insert_alias(t, part(s, p + 2, n), v, m), e + 3);
+    }
+    if op == 4 {
+        return made(scopes::insert_enum(t, part(s, p + 2, n), v, m), e + 3);
+    }
+    if op == 5 {
+        return made(scopes::insert_function(t, part(s, p + 2, n), v, m), e + 3);
+    }
+    asked(Answer::Done, scopes::empty(), p + 1)
+}
+
+fn put(out: &mut [u32], at: usize, v: u32) {
+    if at < out.len() {
+        out[at] = v;
+    }
+}
+
+fn packed(code: u8, value: u16) -> u32 {
+    (code as u32) * 65536 + (value as u32)
+}
+
+// How many calls there were, and the tree that they left.
+struct Replay {
+    count: usize,
+    tree: Tree,
+}
+
+fn replayed(s: &[u8], out: &mut [u32]) -> Replay {
+    let mut t = scopes::empty();
+    let mut p: usize = 0;
+    let mut i: usize = 0;
+    while i < 16000000 {
+        if s.len() <= p {
+            return Replay { count: i, tree: t };
+        }
+        if 16777216 <= p {
+            return Replay { count: i, tree: t };
+        }
+        let r = call_at(t, s, p);
+        put(out, i, packed(r.code, r.value));
+        t = r.tree;
+        p = r.next;
+        i += 1;
+    }
+    Replay { count: i, tree: t }
+}
+
+// Replays the calls: for each its answer, code times 65,536 plus value, in `out`. Gives how many there were.
+#[no_mangle]
+pub extern "C" fn scopes_replay(s: &[u8], out: &mut [u32]) -> usize {
+    let r = replayed(s, out);
+    r.count
+}
+
+fn put_wide(out: &mut [u64], at: usize, v: u64) {
+    if at < out.len() {
+        out[at] = v;
+    }
+}
+
+fn put_name(out: &mut [u64], at: usize, n: Name)
+    requires { ⌜ at < 131072 ⌝ }
+{
+    put_wide(out, at, n.w0);
+    put_wide(out, at + 1, n.w1);
+    put_wide(out, at + 2, n.w2);
+    put_wide(out, at + 3, n.w3);
+}
+
+fn put_row(
+    out: &mut [u64],
+    at: usize,
+    kind: u8,
+    visible: u8,
+    scope: u16,
+    mark: u16,
+    origin: u16,
+    target: u16,
+    time: u16,
+    n: Name,
+)
+    requires { ⌜ at < 65536 ⌝ }
+{
+    put_wide(out, at, kind as u64);
+    put_wide(out, at + 1, visible as u64);
+    put_wide(out, at + 2, scope as u64);
+    put_wide(out, at + 3, mark as u64);
+    put_wide(out, at + 4, origin as u64);
+    put_wide(out, at + 5, target as u64);
+    put_wide(out, at + 6, time as u64);
+    put_name(out, at + 7, n);
+}
+
+// The tree that the calls leave, eleven numbers an entry: kind, visibility, scope, mark, origin, what a copy shows (a scope and a
+// time), and the name's four words. Gives how many entries there are.
+#[no_mangle]
+pub extern "C" fn scopes_rows(s: &[u8], out: &mut [u64]) -> usize {
+    let mut none = [0u32; 1];
+    let r = replayed(s, &mut none);
+    let t = r.tree;
+    let mut i: usize = 0;
+    while i < 1024 {
+        if t.count <= i {
+            return i;
+        }
+        let n = Name {
+            w0: t.n0[i],
+            w1: t.n1[i],
+            w2: t.n2[i],
+            w3: t.n3[i],
+        };
+        put_row(
+            out,
+            i * 11,
+            t.kinds[i],
+            t.visible[i],
+            t.scopes[i],
+            t.marks[i],
+            t.origins[i],
+            t.targets[i],
+            t.times[i],
+            n,
+        );
+        i += 1;
+    }
+    i
+}
