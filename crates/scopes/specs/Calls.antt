@@ -1,33 +1,32 @@
 -- Each call's record is what the definition makes of the flat tree. Assumes nothing.
-use Prim.Native.Nat.{ℕ, zero, suc, pred, _+_, _*_, _-_, _≤_, _<_}
+use Prim.Native.Nat.{ℕ, zero, suc, _+_, _-_, _≤_, _<_}
 use native.Mathlib.Omega.{arith}
 use native.Mathlib.Decide.{decLt, decLe}
 use native.Mathlib.Numerals.{add-one}
 use mathlib.Core.Path.{_≡_, refl, ap, sym, subst, _∙_}
-use mathlib.Core.Bool.{Bool, true, false, cond, _&&_, _||_, not}
-use mathlib.Core.List.{List, [], _∷_, _++_, append-assoc, append-nil}
+use mathlib.Core.Bool.{Bool, true, false, cond, _||_}
+use mathlib.Core.List.{List, [], _∷_, _++_}
 use lib.Dec.{eqb, ltb, leb}
-use lib.ListN.{length, getD, set, take, drop, length-append, length-set}
+use lib.ListN.{length, getD, set, length-append}
 use lib.Seq.{getD-set-same, getD-set-other}
-use borrow.Author.Tests.{eq-eqb, ne-eqb, lt-ltb, le-ltb, le-leb, lt-leb}
+use borrow.Author.Tests.{ne-eqb, lt-ltb, le-ltb, le-leb, lt-leb}
 use Rattle.names.specs.declared.Name.{Name}
 use Rattle.names.specs.Packed.{packed}
 use Rattle.names.specs.Identifier.{isIdentifier}
 use Rattle.scopes.specs.declared.Tree.{Tree}
-use Rattle.scopes.specs.declared.Answer.{Answer as Told}
-use Rattle.scopes.specs.declared.Answer.the-variants.{Done, Mark, Refused}
+use Rattle.scopes.specs.declared.Answer.the-variants.{Refused}
 use Rattle.scopes.specs.declared.Added.{Added}
 use Rattle.scopes.specs.declared.Outcome.{Outcome}
 use Rattle.scopes.specs.declared.look.Spot.{Spot}
 use Rattle.scopes.specs.declared.look.Spot.the-variants.{At, Nothing}
-use Rattle.scopes.specs.Step.{Came, declared, Head, head, Call, enter, exit, alias, enum, function, use′, get-alias, get-function, bad, Answer, ok, marked, refused, Found, missing, got, Model, Tried, done, fail, is-got, told-mark, held, full, deep, fresh, settle, close, step}
+use Rattle.scopes.specs.Step.{declared, head, Call, enter, alias, enum, function, get-alias, get-function, bad, Answer, ok, refused, done, fail, is-got, told-mark, held, full, deep, fresh, settle, close, step}
 use Rattle.scopes.specs.Flat.{Body, own, copy, Entry, Flat, flat, top, stack-names, pop, push}
-use Rattle.scopes.specs.Form.{Request, enters, exits, inserts-alias, inserts-enum, inserts-function, resolves-use, gets-alias, gets-function, named, call-of}
-use Rattle.scopes.specs.Rows.{tab, length-tab, row, row-at, body-of, isOwn, hit, first-in, looked, spotted, find-spot, placed}
-use Rattle.scopes.specs.Nav.{stack-of, current-of, current-top, Doors}
+use Rattle.scopes.specs.Form.{Request, enters, exits, inserts-alias, inserts-enum, inserts-function, gets-alias, gets-function, named, call-of}
+use Rattle.scopes.specs.Rows.{length-tab, body-of, isOwn, spotted, find-spot}
+use Rattle.scopes.specs.Nav.{stack-of, current-top, Doors}
 use Rattle.scopes.specs.Staging.{is-at}
 use Rattle.scopes.specs.Note.{accepted}
-use Rattle.scopes.specs.Trees.{cleared, bit-of, told, rows, entries-of, flat-of, Good, Sized, pushed, push-law, refusing, accepting, here-of, current-spot, declared-in, no-entry, added-of, ended, opened-last, mark-at, got-of}
+use Rattle.scopes.specs.Trees.{bit-of, told, rows, entries-of, flat-of, Good, Sized, push-law, refusing, accepting, here-of, current-spot, declared-in, no-entry, added-of, ended, opened-last, mark-at, got-of}
 use Rattle.scopes.specs.Meets.{Meets, Answers}
 
 pub length-names : (l : List Entry) (ss : List ℕ) → length (stack-names l ss) ≡ length ss

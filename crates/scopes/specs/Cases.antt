@@ -1,5 +1,5 @@
 -- The corner cases of document 01 on trees, as one table: calls, and the answers of the definition over the register. Assumes nothing.
-use Prim.Native.Nat.{ℕ, zero, suc, pred, _+_}
+use Prim.Native.Nat.{ℕ}
 use Prim.Native.String.{String}
 use mathlib.Core.Path.{_≡_, refl}
 use mathlib.Core.Bool.{Bool, true, false}
@@ -11,7 +11,7 @@ use Rattle.names.specs.Identifier.{letter, digit, class, isIdentifier}
 use Rattle.names.specs.Packed.{word, packed, sameName}
 use Rattle.scopes.specs.Step.{Answer, ok, marked, refused, shared, any-main, nav, element, stage, step, run}
 use Rattle.scopes.specs.Register.{append, find, whole, names, registered}
-use Rattle.scopes.specs.Form.{Request, enters, exits, inserts-alias, inserts-enum, inserts-function, resolves-use, gets-alias, gets-function, string, after-strings, names-from, local-name, elements-from, string-fault, names-fault, elements-fault, after-elements, rest-fault, use-fault, use-call, call-of, calls-of}
+use Rattle.scopes.specs.Form.{Request, enters, exits, inserts-alias, inserts-enum, inserts-function, resolves-use, gets-function, string, after-strings, names-from, local-name, elements-from, string-fault, names-fault, elements-fault, after-elements, rest-fault, use-fault, use-call, call-of, calls-of}
 
 -- a string of the bundle's form
 unfoldable pub text : String → List ℕ

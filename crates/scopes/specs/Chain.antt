@@ -1,19 +1,18 @@
 -- What an accepted use imported has an unbroken chain of public entries to one public declaration. Assumes nothing.
-use Prim.Native.Nat.{ℕ, zero, suc, pred, _+_, _≤_, _<_}
-use native.Mathlib.Nat.{add-zero, suc-add, add-suc}
+use Prim.Native.Nat.{ℕ, zero, suc, _+_, _≤_, _<_}
 use native.Mathlib.Omega.{arith}
 use native.Mathlib.Decide.{decLt}
 use mathlib.Core.Path.{_≡_, refl, ap, sym, subst, _∙_}
 use mathlib.Core.Bool.{Bool, true, false, cond}
 use mathlib.Core.Logic.{_⊎_, inl, inr, ⊎-elim}
-use mathlib.Core.List.{List, [], _∷_, _++_, append-assoc, append-nil}
+use mathlib.Core.List.{List, [], _∷_, _++_, append-assoc}
 use lib.Dec.{eqb}
 use lib.ListN.{length, take, drop, getD, length-append, length-take, length-drop, take-append-drop, drop-of-length-le}
-use lib.Seq.{take-append-le, drop-append-le, drop-at, take-at, getD-at, length-take-le}
-use borrow.Author.Tests.{eq-eqb, ne-eqb}
-use Rattle.scopes.specs.Step.{Came, declared, used, Head, Call}
+use lib.Seq.{drop-append-le, getD-at, length-take-le}
+use borrow.Author.Tests.{eq-eqb}
+use Rattle.scopes.specs.Step.{declared, used, Head, Call}
 use Rattle.scopes.specs.Register.{Scope, end, node, registered, tree-of}
-use Rattle.scopes.specs.Flat.{Body, own, copy, Entry, none, flattened, build, within, view, pasts, write}
+use Rattle.scopes.specs.Flat.{Body, own, copy, Entry, none, flattened, build, within, pasts, write}
 use Rattle.scopes.specs.Laws.{Has, Times, copied}
 use Rattle.scopes.specs.Sim.{Origin, made, taken}
 use Rattle.scopes.specs.Same.{has-more, has-below, behind, times-front, Known, Home, at-top, in-own, Sound, alike, same-tree}

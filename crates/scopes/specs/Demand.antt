@@ -1,9 +1,9 @@
 -- Demand 3 as one statement. Assumes nothing.
 use Prim.Native.Nat.{ℕ}
-use mathlib.Core.Path.{_≡_, sym, ap, subst}
+use mathlib.Core.Path.{_≡_, sym, subst}
 use mathlib.Core.List.{List}
 use Rattle.scopes.specs.Step.{Head, used, Call, Answer}
-use Rattle.scopes.specs.Register.{Scope, Register, registered, tree-of}
+use Rattle.scopes.specs.Register.{Scope, registered, tree-of}
 use Rattle.scopes.specs.Flat.{Flat, flattened, write}
 use Rattle.scopes.specs.Same.{same-answers, same-tree}
 use Rattle.scopes.specs.Chain.{In, Chain, chains, one-entry}

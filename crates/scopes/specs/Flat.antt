@@ -1,7 +1,7 @@
 -- The tree as one list of entries that only grows, and how it is written out. 01: "Cloned scopes become marks in one list of entries
 -- that only grows". Assumes nothing.
-use Prim.Native.Nat.{ℕ, zero, suc, _+_}
-use mathlib.Core.Bool.{Bool, true, false, cond, _&&_}
+use Prim.Native.Nat.{ℕ, suc}
+use mathlib.Core.Bool.{false, cond}
 use mathlib.Core.List.{List, [], _∷_, _++_}
 use lib.Dec.{eqb}
 use lib.ListN.{length, take, drop, getD}

@@ -1,12 +1,11 @@
 -- Laws of the form of a use. Assumes nothing.
-use Prim.Native.Nat.{ℕ, zero, suc, pred, min, _+_, _*_, _-_, _≤_, _<_}
+use Prim.Native.Nat.{ℕ, suc, min, _+_, _*_, _-_, _≤_, _<_}
 use native.Mathlib.Omega.{arith}
 use native.Mathlib.Decide.{decLe}
-use native.Mathlib.Numerals.{add-one}
-use mathlib.Core.Path.{_≡_, refl, ap, sym, _∙_}
+use mathlib.Core.Path.{_≡_, ap, sym, _∙_}
 use mathlib.Core.Bool.{Bool, true, false, cond, _&&_, _||_}
-use mathlib.Core.List.{List, [], _∷_}
-use lib.Dec.{eqb, ltb, leb}
+use mathlib.Core.List.{List, []}
+use lib.Dec.{eqb, ltb}
 use lib.ListN.{getD, length, take, drop, length-drop, drop-of-length-le}
 use lib.Seq.{take-all}
 use borrow.Author.Tests.{eq-eqb, ne-eqb, lt-ltb, le-ltb, le-leb, lt-leb}
@@ -14,7 +13,7 @@ use Rattle.names.specs.Packed.{packed}
 use Rattle.names.specs.Identifier.{isIdentifier}
 use Rattle.names.specs.Keywords.{isMain}
 use Rattle.scopes.specs.Step.{any-main}
-use Rattle.scopes.specs.Form.{string, after-string, after-strings, names-from, local-name, after-element, after-elements, elements-from, string-fault, names-fault, elements-fault, rest-fault, use-fault, or-else}
+use Rattle.scopes.specs.Form.{string, after-string, after-strings, local-name, after-element, after-elements, elements-from, string-fault, names-fault, elements-fault, rest-fault, use-fault, or-else}
 use Rattle.scopes.specs.Forms.{Checked}
 use Rattle.scopes.specs.declared.form.Forms.{Forms}
 

@@ -1,16 +1,15 @@
 -- Laws of writing out: what more entries at the end change, and that a copy stays. Assumes nothing.
-use Prim.Native.Nat.{ℕ, zero, suc, _+_, _≤_, _<_}
-use native.Mathlib.Nat.{add-zero, suc-add, add-suc}
+use Prim.Native.Nat.{ℕ, suc, _+_, _≤_, _<_}
 use native.Mathlib.Omega.{arith}
-use mathlib.Core.Path.{_≡_, refl, ap, sym, subst, _∙_}
+use mathlib.Core.Path.{_≡_, refl, ap, subst, _∙_}
 use mathlib.Core.Bool.{Bool, true, false, cond}
 use mathlib.Core.List.{List, [], _∷_, _++_, append-assoc, append-nil}
 use lib.Dec.{eqb}
-use lib.ListN.{length, take, drop, getD, length-append, length-take, length-drop, take-append-drop}
-use lib.Seq.{take-append-le, drop-append-le, drop-at}
+use lib.ListN.{length, take, drop, length-append, length-drop, take-append-drop}
+use lib.Seq.{take-append-le, drop-append-le}
 use borrow.Author.Tests.{eq-eqb, ne-eqb}
 use Rattle.scopes.specs.Register.{Scope, end, node, append}
-use Rattle.scopes.specs.Flat.{Body, own, copy, Entry, build, within, view, put, past-of, pasts-from, pasts, write}
+use Rattle.scopes.specs.Flat.{own, copy, Entry, build, within, view, past-of, pasts-from, pasts, write}
 
 pub append-end : (f : Scope) → append f end ≡ f
 unfolding append

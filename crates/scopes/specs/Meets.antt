@@ -1,12 +1,11 @@
 -- What a tree call promises. Assumes nothing.
-use Prim.Native.Nat.{ℕ}
 use mathlib.Core.Path.{_≡_}
-use mathlib.Core.Bool.{Bool, true, false}
+use mathlib.Core.Bool.{false}
 use Rattle.scopes.specs.declared.Tree.{Tree}
 use Rattle.scopes.specs.declared.Answer.{Answer as Told}
 use Rattle.scopes.specs.declared.Outcome.{Outcome}
-use Rattle.scopes.specs.Step.{Answer, step}
-use Rattle.scopes.specs.Flat.{Flat, flat}
+use Rattle.scopes.specs.Step.{step}
+use Rattle.scopes.specs.Flat.{flat}
 use Rattle.scopes.specs.Form.{Request, call-of}
 use Rattle.scopes.specs.Trees.{Good, flat-of, told}
 use Rattle.scopes.specs.Note.{accepted}

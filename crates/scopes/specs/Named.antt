@@ -1,10 +1,8 @@
 -- What an accepted use adds: each entry is a public one that an element names, under its local name. Assumes nothing.
-use Prim.Native.Nat.{ℕ, zero, suc}
-use native.Mathlib.Omega.{arith}
-use mathlib.Core.Path.{_≡_, refl, ap, sym, subst, _∙_}
+use Prim.Native.Nat.{ℕ}
+use mathlib.Core.Path.{_≡_, refl, sym, _∙_}
 use mathlib.Core.Bool.{Bool, true, false, cond, not, _&&_}
 use mathlib.Core.List.{List, [], _∷_, List·Memᴰ, List·Memᴰ·head, List·Memᴰ·tail}
-use Rattle.names.specs.declared.Name.{Name}
 use Rattle.scopes.specs.Step.{used, Head, head, Elem, Found, missing, got, held}
 use Rattle.scopes.specs.Register.{Scope, end, node, append, find, Register, register}
 use Rattle.scopes.specs.Laws.{append-end}

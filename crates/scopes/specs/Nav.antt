@@ -2,26 +2,26 @@
 use Prim.Native.Nat.{ℕ, zero, suc, pred, _+_, _*_, _-_, _≤_, _<_}
 use native.Mathlib.Omega.{arith}
 use native.Mathlib.Decide.{decLt}
-use native.Mathlib.Nat.{zero-add, suc-add, add-suc}
+use native.Mathlib.Nat.{zero-add}
 use native.Mathlib.Numerals.{add-one}
 use mathlib.Core.Path.{_≡_, refl, ap, sym, subst, _∙_}
-use mathlib.Core.Bool.{Bool, true, false, cond, _&&_, _||_, not}
-use mathlib.Core.Logic.{_⊎_, inl, inr, ⊎-elim}
-use mathlib.Core.List.{List, [], _∷_, _++_}
+use mathlib.Core.Bool.{Bool, true, false, cond, _&&_, not}
+use mathlib.Core.Logic.{_⊎_, inl, inr}
+use mathlib.Core.List.{List, [], _∷_}
 use lib.Dec.{eqb, ltb, leb}
-use lib.ListN.{getD, length, take, drop, set, drop-of-length-le}
-use lib.Seq.{drop-cons, getD-set-same, getD-set-other}
-use borrow.Author.Tests.{eq-eqb, ne-eqb, lt-ltb, le-ltb, le-leb, lt-leb, eqb-true}
+use lib.ListN.{getD, length, drop, drop-of-length-le}
+use lib.Seq.{drop-cons}
+use borrow.Author.Tests.{eq-eqb, ne-eqb, lt-ltb, le-ltb, le-leb, eqb-true}
 use Rattle.names.specs.declared.Name.{Name}
 use Rattle.names.specs.Packed.{packed, sameName}
 use Rattle.scopes.specs.declared.look.Spot.{Spot}
 use Rattle.scopes.specs.declared.look.Spot.the-variants.{At, Nothing}
 use Rattle.scopes.specs.declared.look.Way.{Way}
-use Rattle.scopes.specs.Step.{Head, Found, missing, got, Model, Tried, done, fail, shared, pass, nav}
+use Rattle.scopes.specs.Step.{Tried, done, fail, shared, pass, nav}
 use Rattle.scopes.specs.Flat.{Entry, none, Place, inside, flat, top, stack-names}
 use Rattle.scopes.specs.Form.{string, after-string, after-strings, names-from}
 use Rattle.scopes.specs.FormLaws.{strings-more, strings-none}
-use Rattle.scopes.specs.Rows.{tab, length-tab, getD-tab, Arrays, arrays, name-at, row-at, isOwn, first-in, looked, spotted, hit, find-spot, placed, site, inside-site, site-time, Found-at, found-at}
+use Rattle.scopes.specs.Rows.{tab, length-tab, getD-tab, Arrays, arrays, name-at, row-at, first-in, looked, spotted, find-spot, placed, site, inside-site, site-time}
 
 -- THE OPEN MODULES: oldest first in the array, innermost first in the list
 unfoldable pub stack-of : List ℕ → ℕ → List ℕ

@@ -1,15 +1,14 @@
 -- The register in document 01's words: it takes each call's arguments and whether it was accepted. Assumes nothing.
-use Prim.Native.Nat.{ℕ, zero, suc, _+_, _≤_, _<_}
+use Prim.Native.Nat.{ℕ, suc}
 use native.Mathlib.Omega.{arith}
-use mathlib.Core.Path.{_≡_, refl, ap, sym, subst, _∙_}
+use mathlib.Core.Path.{_≡_, refl, ap, sym, _∙_}
 use mathlib.Core.Bool.{Bool, true, false, cond, not, _||_, _&&_}
-use mathlib.Core.List.{List, [], _∷_, _++_}
-use lib.Dec.{eqb, ltb}
-use lib.ListN.{length}
+use mathlib.Core.List.{List, [], _∷_}
+use lib.Dec.{ltb}
 use Rattle.names.specs.declared.Name.{Name}
-use Rattle.scopes.specs.Step.{Came, declared, used, Head, Elem, Call, enter, exit, alias, enum, function, use′, get-alias, get-function, bad, Answer, ok, marked, refused, Found, missing, got, Model, Tried, done, fail, is-got, told-mark, shared, any-main, is-done, number, after, first-told, head, bind, held, full, deep, pass, nav, import, attempt, judge, element, stage, use-of, fresh, settle, close, step, run}
-use Rattle.scopes.specs.Register.{Scope, Register, register, first-register, registered, tree-of}
-use Rattle.scopes.specs.Flat.{Entry, flattened, write}
+use Rattle.scopes.specs.Step.{declared, used, Elem, Call, enter, exit, alias, enum, function, use′, get-alias, get-function, bad, Answer, ok, marked, refused, Found, missing, got, Model, Tried, done, fail, told-mark, shared, any-main, is-done, number, after, first-told, head, bind, held, full, deep, pass, nav, import, judge, element, stage, use-of, fresh, settle, close, step, run}
+use Rattle.scopes.specs.Register.{Register, register, first-register, tree-of}
+use Rattle.scopes.specs.Flat.{flattened, write}
 use Rattle.scopes.specs.Same.{same-answers, same-tree}
 
 abbrev pub accepted : Answer → Bool

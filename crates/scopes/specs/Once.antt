@@ -1,17 +1,15 @@
 -- No module holds two entries of one kind and name, so that the first is the one, as in a map. Assumes nothing.
-use Prim.Native.Nat.{ℕ, zero, suc, _+_, _≤_, _<_}
+use Prim.Native.Nat.{ℕ}
 use native.Mathlib.Omega.{arith}
-use mathlib.Core.Path.{_≡_, refl, ap, sym, subst, _∙_}
+use mathlib.Core.Path.{_≡_, refl, sym, subst, _∙_}
 use mathlib.Core.Bool.{Bool, true, false, cond, _&&_}
-use mathlib.Core.List.{List, [], _∷_, _++_}
-use lib.Dec.{eqb}
-use lib.ListN.{length}
+use mathlib.Core.List.{List, [], _∷_}
 use borrow.Author.Tests.{eqb-true, eq-eqb}
 use Rattle.names.specs.declared.Name.{Name}
 use Rattle.names.specs.Packed.{sameName}
-use Rattle.scopes.specs.Step.{same-refl, Came, declared, used, Head, Call, Answer, Found, missing, got, is-got, held, Model, run}
-use Rattle.scopes.specs.Register.{Scope, end, node, append, is, find, Opened, Register, shut, whole, names, leave, register, first-register, registered, tree-of}
-use Rattle.scopes.specs.Sim.{Origin, SameFound, no-one, both, Simulation, run-ok}
+use Rattle.scopes.specs.Step.{same-refl, Head, Call, Found, missing, got, is-got}
+use Rattle.scopes.specs.Register.{Scope, end, node, append, is, find, Opened, Register, shut, whole, leave, register, first-register, registered, tree-of}
+use Rattle.scopes.specs.Sim.{SameFound, no-one, both, Simulation, run-ok}
 
 -- each entry has none of its kind and name after it, in each module
 abbrev pub Once : Scope → Type 0

@@ -1,7 +1,7 @@
 -- The register of document 01: nested modules, an import written out. "Its register starts as an empty open root"; "a module's copy
 -- brings along, in its order, what the module then held". Assumes nothing.
-use Prim.Native.Nat.{ℕ, zero, suc, _+_}
-use mathlib.Core.Bool.{Bool, true, false, cond, _&&_}
+use Prim.Native.Nat.{ℕ, suc}
+use mathlib.Core.Bool.{Bool, cond, _&&_}
 use mathlib.Core.List.{List, [], _∷_, _++_}
 use lib.Dec.{eqb}
 use Rattle.names.specs.declared.Name.{Name}

@@ -4,21 +4,20 @@ use native.Mathlib.Nat.{add-zero, add-suc, not-suc-le-zero}
 use native.Mathlib.Numerals.{add-one}
 use native.Mathlib.Omega.{arith}
 use native.Mathlib.Decide.{decLt}
-use mathlib.Core.Path.{_≡_, refl, ap, sym, subst, _∙_}
-use mathlib.Core.Bool.{Bool, true, false, cond, _&&_, _||_}
+use mathlib.Core.Path.{_≡_, refl, ap, sym, _∙_}
+use mathlib.Core.Bool.{Bool, true, false, cond, _&&_}
 use mathlib.Core.List.{List, [], _∷_, _++_, append-assoc, append-nil}
 use lib.Dec.{eqb, ltb}
-use lib.ListN.{length, take, drop, getD, set, length-append, length-take, List·getD-append, drop-of-length-le}
-use lib.Seq.{drop-cons, take-at, getD-at, getD-set-same, getD-set-other, take-all}
-use borrow.Author.Tests.{eq-eqb, ne-eqb, lt-ltb, le-ltb, eqb-true}
+use lib.ListN.{length, take, drop, getD, length-append, List·getD-append, drop-of-length-le}
+use lib.Seq.{drop-cons, take-at, getD-at, take-all}
 use Rattle.names.specs.declared.Name.{Name}
 use Rattle.names.specs.Packed.{sameName}
 use Rattle.scopes.specs.declared.look.Spot.{Spot}
 use Rattle.scopes.specs.declared.look.Spot.the-variants.{At, Nothing}
 use Rattle.scopes.specs.declared.look.Place.{Place as Site}
-use Rattle.scopes.specs.Step.{Came, declared, used, Head, head, Found, missing, got, Model}
+use Rattle.scopes.specs.Step.{Came, declared, used, head, Found, missing, got}
 use Rattle.scopes.specs.Register.{is}
-use Rattle.scopes.specs.Flat.{Body, own, copy, Entry, none, Flat, Place, inside, look, flat}
+use Rattle.scopes.specs.Flat.{Body, own, copy, Entry, none, Place, inside, look, flat}
 
 -- TABLES
 

@@ -1,13 +1,12 @@
 -- Demand 3, second half, of the code's trees: whatever calls are made one after another from the empty tree, refused ones included. Assumes nothing.
-use Prim.Native.Nat.{ℕ, zero, suc, _≤_}
 use native.Mathlib.Omega.{arith}
 use mathlib.Core.Path.{_≡_, refl, ap, sym, subst, _∙_}
-use mathlib.Core.List.{List, [], _∷_, _++_}
+use mathlib.Core.List.{List, [], _∷_}
 use Rattle.scopes.specs.declared.Tree.{Tree}
 use Rattle.scopes.specs.declared.Answer.{Answer as Told}
 use Rattle.scopes.specs.declared.Outcome.{Outcome}
-use Rattle.scopes.specs.Step.{Call, Answer, step, run}
-use Rattle.scopes.specs.Flat.{Entry, Flat, flat, first-flat, flattened}
+use Rattle.scopes.specs.Step.{Answer, step, run}
+use Rattle.scopes.specs.Flat.{Flat, flat, first-flat, flattened}
 use Rattle.scopes.specs.Form.{Request, call-of, calls-of}
 use Rattle.scopes.specs.Rows.{tab}
 use Rattle.scopes.specs.Nav.{stack-of}

@@ -1,18 +1,15 @@
 -- The Rust's own shape: a root and a path of names, each module found by its name. It is the register. Assumes nothing.
-use Prim.Native.Nat.{ℕ, zero, suc, _+_, _≤_, _<_}
+use Prim.Native.Nat.{ℕ, suc}
 use native.Mathlib.Omega.{arith}
-use mathlib.Core.Path.{_≡_, refl, ap, sym, subst, _∙_}
-use mathlib.Core.Bool.{Bool, true, false, cond, _&&_}
+use mathlib.Core.Path.{_≡_, refl, ap, sym, _∙_}
+use mathlib.Core.Bool.{Bool, true, false, cond}
 use mathlib.Core.List.{List, [], _∷_, _++_}
-use lib.Dec.{eqb}
-use lib.ListN.{length}
 use borrow.Author.Tests.{eq-eqb}
 use Rattle.names.specs.declared.Name.{Name}
-use Rattle.names.specs.Packed.{sameName}
-use Rattle.scopes.specs.Step.{same-refl, Came, declared, used, Head, Call, Answer, Found, missing, got, is-got, held, Model, run}
-use Rattle.scopes.specs.Register.{Scope, end, node, append, is, find, Opened, Register, shut, whole, names, leave, register, first-register, registered, tree-of}
+use Rattle.scopes.specs.Step.{same-refl, Head, Call, Found, missing, got, is-got, Model, run}
+use Rattle.scopes.specs.Register.{Scope, end, node, append, is, find, Opened, Register, shut, whole, names, leave, register, first-register}
 use Rattle.scopes.specs.Flat.{flattened, write}
-use Rattle.scopes.specs.Sim.{Origin, SameFound, no-one, both, Simulation, run-ok}
+use Rattle.scopes.specs.Sim.{SameFound, no-one, both, Simulation, run-ok}
 use Rattle.scopes.specs.Same.{same-answers, same-tree}
 
 pub record Rust : Type 0 where

@@ -1,6 +1,5 @@
 -- The flat list is the register: every call list leaves the two alike. Assumes nothing.
-use Prim.Native.Nat.{ℕ, zero, suc, pred, _+_, _≤_, _<_}
-use native.Mathlib.Nat.{add-zero, suc-add, add-suc}
+use Prim.Native.Nat.{ℕ, suc, _≤_, _<_}
 use native.Mathlib.Omega.{arith}
 use native.Mathlib.Decide.{decLt}
 use mathlib.Core.Path.{_≡_, refl, ap, sym, subst, _∙_}
@@ -8,14 +7,13 @@ use mathlib.Core.Bool.{Bool, true, false, cond}
 use mathlib.Core.Logic.{_⊎_, inl, inr, ⊎-elim}
 use mathlib.Core.List.{List, [], _∷_, _++_, append-assoc, append-nil}
 use lib.Dec.{eqb}
-use lib.ListN.{length, take, drop, getD, length-append, length-take, length-drop, take-append-drop, drop-of-length-le}
-use lib.Seq.{take-append-le, drop-append-le, drop-at, take-at, getD-at, length-take-le}
-use borrow.Author.Tests.{eq-eqb, ne-eqb}
+use lib.ListN.{length, take, drop, length-append, take-append-drop, drop-of-length-le}
+use lib.Seq.{take-at, getD-at, length-take-le}
 use Rattle.names.specs.declared.Name.{Name}
-use Rattle.scopes.specs.Step.{Came, declared, used, Head, Call, Answer, Found, missing, got, Model, run}
+use Rattle.scopes.specs.Step.{declared, Head, Call, got}
 use Rattle.scopes.specs.Register.{Scope, end, node, append, is, find, Opened, Register, shut, whole, names, leave, register, first-register, registered, tree-of}
-use Rattle.scopes.specs.Flat.{Body, own, copy, Entry, Flat, Place, inside, look, top, none, stack-names, pop, push, flat, first-flat, flattened, build, within, view, put, past-of, pasts-from, pasts, write}
-use Rattle.scopes.specs.Laws.{append-end, All, all-append, all-map, view-stays, Has, Times, copied, write-push, write-shut, write-new}
+use Rattle.scopes.specs.Flat.{Body, own, copy, Entry, Flat, Place, inside, look, top, none, stack-names, pop, flat, first-flat, flattened, build, within, view, past-of, pasts, write}
+use Rattle.scopes.specs.Laws.{All, all-append, all-map, view-stays, Has, Times, copied, write-push, write-shut, write-new}
 use Rattle.scopes.specs.Sim.{Origin, made, taken, SameFound, no-one, both, Simulation, cond-both, run-ok}
 
 -- PLACES

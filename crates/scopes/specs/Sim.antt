@@ -1,13 +1,11 @@
 -- Two models whose parts agree answer alike and stay alike, call after call. Assumes nothing.
-use Prim.Native.Nat.{ℕ, zero, suc, _+_, _≤_, _<_}
-use native.Mathlib.Omega.{arith}
-use mathlib.Core.Path.{_≡_, refl, ap, sym, subst, _∙_}
+use Prim.Native.Nat.{ℕ, suc}
+use mathlib.Core.Path.{_≡_, refl}
 use mathlib.Core.Bool.{Bool, true, false, cond, not, _||_, _&&_}
-use mathlib.Core.List.{List, [], _∷_, _++_}
-use lib.Dec.{eqb, ltb}
-use lib.ListN.{length}
+use mathlib.Core.List.{List, [], _∷_}
+use lib.Dec.{ltb}
 use Rattle.names.specs.declared.Name.{Name}
-use Rattle.scopes.specs.Step.{Came, declared, used, Head, Elem, Call, enter, exit, alias, enum, function, use′, get-alias, get-function, bad, Answer, ok, marked, refused, Found, missing, got, Model, Tried, done, fail, is-got, told-mark, shared, any-main, is-done, number, after, first-told, head, bind, held, full, deep, pass, nav, import, attempt, judge, element, stage, use-of, fresh, settle, close, step, run}
+use Rattle.scopes.specs.Step.{declared, used, Head, Elem, Call, enter, exit, alias, enum, function, use′, get-alias, get-function, bad, Answer, Found, missing, got, Model, Tried, done, fail, is-got, told-mark, shared, any-main, is-done, number, after, head, bind, held, full, deep, pass, nav, import, attempt, judge, element, stage, use-of, fresh, settle, close, step, run}
 
 -- an entry's origin: a declaration, or a public entry of that kind and mark
 pub data Origin (K : ℕ → Head → Type 0) (h : Head) : Type 0 where

@@ -1,5 +1,5 @@
 -- The tree calls, as the Rust's `ModuleTree` has them, over any model of the tree. Assumes nothing.
-use Prim.Native.Nat.{ℕ, zero, suc, _+_}
+use Prim.Native.Nat.{ℕ, suc}
 use mathlib.Core.Bool.{Bool, true, false, cond, _||_, _&&_, not}
 use mathlib.Core.Path.{_≡_, refl}
 use mathlib.Core.List.{List, [], _∷_}

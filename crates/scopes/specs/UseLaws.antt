@@ -1,26 +1,26 @@
 -- What is staged is what the definition of a use adds to the flat tree. Assumes nothing.
-use Prim.Native.Nat.{ℕ, zero, suc, pred, _+_, _*_, _-_, _≤_, _<_}
+use Prim.Native.Nat.{ℕ, zero, suc, _+_, _*_, _≤_, _<_}
 use native.Mathlib.Omega.{arith}
 use native.Mathlib.Numerals.{add-one}
-use mathlib.Core.Path.{_≡_, refl, ap, sym, subst, _∙_}
-use mathlib.Core.Bool.{Bool, true, false, cond, _&&_, _||_, not}
-use mathlib.Core.List.{List, [], _∷_, _++_, append-assoc, append-nil}
-use lib.Dec.{eqb, ltb, leb}
-use lib.ListN.{length, getD, set, take, drop, length-append, length-set}
+use mathlib.Core.Path.{_≡_, refl, ap, sym, _∙_}
+use mathlib.Core.Bool.{Bool, true, false, cond, _&&_, _||_}
+use mathlib.Core.List.{List, [], _∷_, _++_, append-assoc}
+use lib.Dec.{eqb}
+use lib.ListN.{length, getD, set, drop, length-set}
 use lib.Seq.{getD-set-same, getD-set-other, drop-append-le}
-use borrow.Author.Tests.{eq-eqb, ne-eqb, eqb-true}
+use borrow.Author.Tests.{ne-eqb, eqb-true}
 use Rattle.names.specs.declared.Name.{Name}
-use Rattle.names.specs.Packed.{packed, sameName}
+use Rattle.names.specs.Packed.{packed}
 use Rattle.scopes.specs.declared.look.Spot.{Spot}
 use Rattle.scopes.specs.declared.look.Spot.the-variants.{At, Nothing}
 use Rattle.scopes.specs.declared.stage.Staged.{Staged}
 use Rattle.scopes.specs.declared.stage.Choice.{Choice}
-use Rattle.scopes.specs.Step.{Came, used, Head, head, Elem, Found, missing, got, Model, Tried, done, fail, is-got, is-done, number, after, first-told, bind, held, import, attempt, judge, element, stage}
+use Rattle.scopes.specs.Step.{used, head, Elem, got, Tried, done, fail, is-got, number, after, bind, held, import, attempt, judge, element, stage}
 use Rattle.scopes.specs.Register.{is}
-use Rattle.scopes.specs.Flat.{Body, own, copy, Entry, Flat, Place, inside, look, flat, top, push}
+use Rattle.scopes.specs.Flat.{copy, Entry, Flat, Place, inside, look, flat, top}
 use Rattle.scopes.specs.Form.{string, local-name, after-element, element-at, elements-from}
-use Rattle.scopes.specs.Rows.{tab, tab-agree, length-tab, Arrays, row, row-at, name-at, body-of, isOwn, isRow, hit, first-in, looked, spotted, find-spot, placed, site, inside-site, Found-at, found-at}
-use Rattle.scopes.specs.Staging.{is-at, any-to, numbered, put, staged-test, staged-held, no-choice, with-choice, sought, occupied, inside-of, chosen, choice-of, staged-item, verdict-of, staged-element, staged-all, refusal, item-count, element-count}
+use Rattle.scopes.specs.Rows.{tab, tab-agree, length-tab, Arrays, row, row-at, isOwn, isRow, hit, first-in, looked, spotted, find-spot, placed, inside-site, found-at}
+use Rattle.scopes.specs.Staging.{is-at, any-to, numbered, put, staged-test, staged-held, no-choice, with-choice, sought, occupied, inside-of, chosen, choice-of, staged-item, verdict-of, staged-element, staged-all, item-count, element-count}
 use Rattle.scopes.specs.Trees.{staged-row}
 
 -- WHETHER AN ENTRY IS AMONG THEM

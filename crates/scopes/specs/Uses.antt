@@ -1,29 +1,27 @@
 -- A use's record is what the definition makes of the flat tree. Assumes nothing.
 use Prim.Native.Nat.{ℕ, zero, suc, pred, _+_, _*_, _-_, _≤_, _<_}
 use native.Mathlib.Omega.{arith}
-use native.Mathlib.Decide.{decLt, decLe}
 use mathlib.Core.Path.{_≡_, refl, ap, sym, subst, _∙_}
-use mathlib.Core.Bool.{Bool, true, false, cond, _&&_, _||_, not}
-use mathlib.Core.List.{List, [], _∷_, _++_, append-nil}
-use lib.Dec.{eqb, ltb, leb}
+use mathlib.Core.Bool.{Bool, true, false, cond}
+use mathlib.Core.List.{List, [], _++_, append-nil}
+use lib.Dec.{eqb, ltb}
 use lib.ListN.{length, getD, replicate, length-append, length-replicate}
 use borrow.Author.Tests.{eq-eqb, ne-eqb, lt-ltb, le-ltb}
 use Rattle.names.specs.declared.Name.{Name}
 use Rattle.names.specs.Packed.{packed}
 use Rattle.names.specs.Keywords.{isCrate}
 use Rattle.scopes.specs.declared.Tree.{Tree}
-use Rattle.scopes.specs.declared.Outcome.{Outcome}
 use Rattle.scopes.specs.declared.look.Way.{Way}
 use Rattle.scopes.specs.declared.stage.Staged.{Staged}
-use Rattle.scopes.specs.Step.{Call, use′, bad, Answer, ok, refused, Tried, done, fail, any-main, bind, shared, nav, stage, full, deep, settle, use-of, step}
-use Rattle.scopes.specs.Flat.{Entry, Flat, Place, flat, top, stack-names}
+use Rattle.scopes.specs.Step.{Answer, ok, refused, Tried, done, fail, any-main, bind, shared, nav, stage, settle, use-of, step}
+use Rattle.scopes.specs.Flat.{Entry, Flat, flat, top, stack-names}
 use Rattle.scopes.specs.Form.{Request, resolves-use, string, after-string, after-strings, names-from, elements-from, led-by-crate, use-call, call-of, use-fault, rest-fault, names-fault, elements-fault, after-elements, or-else}
-use Rattle.scopes.specs.Rows.{tab, length-tab, row-at, placed}
-use Rattle.scopes.specs.Nav.{stack-of, current-of, current-top, Doors, way, walked, Arrived}
-use Rattle.scopes.specs.Staging.{refusal, staged-all, everything, element-count}
-use Rattle.scopes.specs.Trees.{bit-of, told, arrays-of, rows, entries-of, flat-of, Good, Sized, refusing, accepting, here-of, committed, staged-row, Committed, commits}
+use Rattle.scopes.specs.Rows.{tab, length-tab, placed}
+use Rattle.scopes.specs.Nav.{stack-of, current-top, Doors, way, Arrived}
+use Rattle.scopes.specs.Staging.{refusal, staged-all, element-count}
+use Rattle.scopes.specs.Trees.{bit-of, arrays-of, rows, entries-of, flat-of, Good, Sized, refusing, accepting, here-of, committed, staged-row, commits}
 use Rattle.scopes.specs.Calls.{length-names, length-stack}
-use Rattle.scopes.specs.UseLaws.{Sized-staged, state, tried, stage-same}
+use Rattle.scopes.specs.UseLaws.{Sized-staged, stage-same}
 use Rattle.scopes.specs.Meets.{Meets}
 
 pub refused-meets : (t : Tree) (q : Request) (n : ℕ) → (Good t → step flat (flat-of t) (call-of q) ≡ (flat-of t, refused n)) → Meets t q (refusing n t)

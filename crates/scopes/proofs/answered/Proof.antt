@@ -1,9 +1,5 @@
-use borrow.Author.Needs.{needs}
-use native.Mathlib.Omega.{arith}
 use Rattle.scopes.proofs.answered.Statement.{statement}
 use Rattle.scopes.proofs.answered.Tie as tie
-use Rattle.scopes.proofs.answered.Reads as reads
-use Rattle.scopes.proofs.answered.Lts as lts
 use Rattle.scopes.specs.Trees.{ended-no, ended-yes}
 
 returns : tie.Need-returns

@@ -1,13 +1,8 @@
-use borrow.Author.Needs.{needs}
 use native.Mathlib.Omega.{arith}
 use Rattle.scopes.proofs.commit.Statement.{statement}
 use Rattle.scopes.proofs.commit.Tie as tie
-use Rattle.scopes.proofs.commit.Reads as reads
-use Rattle.scopes.proofs.commit.Lts as lts
-use Prim.Native.Nat.{_-_, _+_, _≤_}
-use mathlib.Core.Path.{_≡_, refl, sym, ap, _∙_}
-use Rattle.scopes.specs.declared.Tree.{Tree}
-use Rattle.scopes.specs.Trees.{committed, Counting, counting-start, counting-turn, counting-end}
+use Prim.Native.Nat.{_-_}
+use Rattle.scopes.specs.Trees.{Counting, counting-start, counting-turn, counting-end}
 
 abbrev Inv-loop : tie.InvT-loop
 Inv-loop scope visible staged t₀ i₀ t i = Counting t₀ staged scope visible t i

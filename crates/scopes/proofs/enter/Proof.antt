@@ -2,11 +2,6 @@ use native.Mathlib.Omega.{arith}
 use borrow.Author.Needs.{needs}
 use Rattle.scopes.proofs.enter.Statement.{statement}
 use Rattle.scopes.proofs.enter.Tie as tie
-use Rattle.scopes.proofs.enter.Reads as reads
-use Rattle.scopes.proofs.enter.Lts as lts
-use Rattle.scopes.proofs.insert.Reads as insert-reads
-use Prim.Native.Nat.{_≤_}
-use mathlib.Core.Path.{_≡_}
 use Rattle.scopes.specs.Trees.{ended-no, ended-yes, opened-last}
 use Rattle.scopes.specs.Calls.{via, room, enter-meets}
 use Rattle.scopes.proofs.Sizes.{sized}

@@ -1,9 +1,6 @@
-use native.Mathlib.Omega.{arith}
 use borrow.Author.Needs.{needs}
 use Rattle.scopes.proofs.exit.Statement.{statement}
 use Rattle.scopes.proofs.exit.Tie as tie
-use Rattle.scopes.proofs.exit.Reads as reads
-use Rattle.scopes.proofs.exit.Lts as lts
 use Rattle.scopes.specs.Calls.{exit-root, exit-module}
 
 returns : tie.Need-returns

@@ -2,14 +2,7 @@ use native.Mathlib.Omega.{arith}
 use borrow.Author.Needs.{needs}
 use Rattle.scopes.proofs.get.Statement.{statement}
 use Rattle.scopes.proofs.get.Tie as tie
-use Rattle.scopes.proofs.get.Reads as reads
-use Rattle.scopes.proofs.get.Lts as lts
-use Rattle.names.proofs.is_identifier.Reads as is-identifier-reads
-use Rattle.names.proofs.name_of.Reads as name-of-reads
-use Rattle.scopes.proofs.look.current.Reads as current-reads
-use Rattle.scopes.proofs.look.find_in.Reads as find-in-reads
-use Prim.Native.Nat.{_<_}
-use mathlib.Core.Path.{_≡_, sym, ap, _∙_}
+use mathlib.Core.Path.{sym, ap, _∙_}
 use Rattle.scopes.specs.Rows.{found-at}
 use Rattle.scopes.specs.Trees.{get-bad, get-many, get-deep, get-found, mark-at}
 

@@ -1,10 +1,6 @@
-use native.Mathlib.Omega.{arith}
 use borrow.Author.Needs.{needs}
 use Rattle.scopes.proofs.get_alias.Statement.{statement}
 use Rattle.scopes.proofs.get_alias.Tie as tie
-use Rattle.scopes.proofs.get_alias.Reads as reads
-use Rattle.scopes.proofs.get_alias.Lts as lts
-use Rattle.scopes.proofs.get.Reads as get-reads
 use mathlib.Core.Path.{sym, subst}
 use Rattle.scopes.specs.Meets.{Answers}
 use Rattle.scopes.specs.Calls.{got-alias}

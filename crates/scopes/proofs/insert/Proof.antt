@@ -1,14 +1,6 @@
-use native.Mathlib.Omega.{arith}
 use borrow.Author.Needs.{needs}
 use Rattle.scopes.proofs.insert.Statement.{statement}
 use Rattle.scopes.proofs.insert.Tie as tie
-use Rattle.scopes.proofs.insert.Reads as reads
-use Rattle.scopes.proofs.insert.Lts as lts
-use Rattle.names.proofs.is_identifier.Reads as is-identifier-reads
-use Rattle.names.proofs.name_of.Reads as name-of-reads
-use Rattle.scopes.proofs.bit.Reads as bit-reads
-use Rattle.scopes.proofs.look.current.Reads as current-reads
-use Rattle.scopes.proofs.look.is_held.Reads as is-held-reads
 use Rattle.scopes.specs.Trees.{add-bad, add-many, add-deep, add-held, add-full, add-open, add-made}
 
 is-identifier-requires : tie.Need-is-identifier-requires

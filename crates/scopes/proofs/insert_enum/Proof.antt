@@ -1,11 +1,6 @@
-use native.Mathlib.Omega.{arith}
 use borrow.Author.Needs.{needs}
 use Rattle.scopes.proofs.insert_enum.Statement.{statement}
 use Rattle.scopes.proofs.insert_enum.Tie as tie
-use Rattle.scopes.proofs.insert_enum.Reads as reads
-use Rattle.scopes.proofs.insert_enum.Lts as lts
-use Rattle.scopes.proofs.answered.Reads as answered-reads
-use Rattle.scopes.proofs.insert.Reads as insert-reads
 use Rattle.scopes.specs.Calls.{via, enum-meets}
 use Rattle.scopes.proofs.Sizes.{sized}
 

@@ -2,25 +2,8 @@ use native.Mathlib.Omega.{arith}
 use borrow.Author.Needs.{needs}
 use Rattle.scopes.proofs.resolve_use.Statement.{statement}
 use Rattle.scopes.proofs.resolve_use.Tie as tie
-use Rattle.scopes.proofs.resolve_use.Reads as reads
-use Rattle.scopes.proofs.resolve_use.Lts as lts
-use Rattle.names.proofs.is_crate.Reads as is-crate-reads
-use Rattle.scopes.proofs.bit.Reads as bit-reads
-use Rattle.scopes.proofs.commit.Reads as commit-reads
-use Rattle.scopes.proofs.form.any_main.Reads as any-main-reads
-use Rattle.scopes.proofs.form.byte_at.Reads as byte-at-reads
-use Rattle.scopes.proofs.form.next.Reads as next-reads
-use Rattle.scopes.proofs.form.string_at.Reads as string-at-reads
-use Rattle.scopes.proofs.form.use_form.Reads as use-form-reads
-use Rattle.scopes.proofs.look.current.Reads as current-reads
-use Rattle.scopes.proofs.look.navigate.Reads as navigate-reads
-use Rattle.scopes.proofs.refuse.Reads as refuse-reads
-use Rattle.scopes.proofs.stage.stage.Reads as stage-reads
-use Prim.Native.Nat.{_≤_, _<_}
-use mathlib.Core.Path.{_≡_, sym, subst}
+use mathlib.Core.Path.{sym, subst}
 use Rattle.scopes.specs.Meets.{Meets}
-use Rattle.scopes.specs.Trees.{accepting}
-use Rattle.scopes.specs.declared.Tree.{Tree}
 use Rattle.scopes.specs.Uses.{use-bad, use-many, use-deep, segment-bound, element-bound, use-empty, use-no-crate, use-lost, use-main, use-refused, use-full, use-done, few-staged}
 use Rattle.scopes.proofs.Sizes.{sized}
 

@@ -1,16 +1,9 @@
 use borrow.Author.Needs.{needs}
-use native.Mathlib.Omega.{arith}
 use Prim.Native.Nat.{_≤_, _-_}
 use mathlib.Core.Path.{_≡_}
 use lib.ListN.{length}
 use Rattle.scopes_c.proofs.replayed.Statement.{statement}
 use Rattle.scopes_c.proofs.replayed.Tie as tie
-use Rattle.scopes_c.proofs.replayed.Reads as reads
-use Rattle.scopes_c.proofs.replayed.Lts as lts
-use Rattle.scopes.proofs.empty.Reads as empty-reads
-use Rattle.scopes_c.proofs.call_at.Reads as call-at-reads
-use Rattle.scopes_c.proofs.packed.Reads as packed-reads
-use Rattle.scopes_c.proofs.put.Reads as put-reads
 
 abbrev Inv-loop : tie.InvT-loop
 Inv-loop s out₀ t₀ p₀ i₀ out t p i = (p ≤ 16842755) × (length out ≡ length out₀)

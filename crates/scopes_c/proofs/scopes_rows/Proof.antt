@@ -1,14 +1,9 @@
 use borrow.Author.Needs.{needs}
-use native.Mathlib.Omega.{arith}
-use Prim.Native.Nat.{_≤_, _-_}
+use Prim.Native.Nat.{_-_}
 use mathlib.Core.Path.{_≡_}
 use lib.ListN.{length}
 use Rattle.scopes_c.proofs.scopes_rows.Statement.{statement}
 use Rattle.scopes_c.proofs.scopes_rows.Tie as tie
-use Rattle.scopes_c.proofs.scopes_rows.Reads as reads
-use Rattle.scopes_c.proofs.scopes_rows.Lts as lts
-use Rattle.scopes_c.proofs.put_row.Reads as put-row-reads
-use Rattle.scopes_c.proofs.replayed.Reads as replayed-reads
 
 abbrev Inv-loop : tie.InvT-loop
 Inv-loop s out₀ t i₀ out i = length out ≡ length out₀

@@ -1,13 +1,7 @@
 use borrow.Author.Needs.{needs}
-use native.Mathlib.Omega.{arith}
 use Prim.Native.Nat.{_≤_, _-_}
 use Rattle.scopes_vectors.proofs.replay.Statement.{statement}
 use Rattle.scopes_vectors.proofs.replay.Tie as tie
-use Rattle.scopes_vectors.proofs.replay.Reads as reads
-use Rattle.scopes_vectors.proofs.replay.Lts as lts
-use Rattle.scopes.proofs.empty.Reads as empty-reads
-use Rattle.scopes_c.proofs.call_at.Reads as call-at-reads
-use Rattle.scopes_vectors.proofs.told.Reads as told-reads
 
 abbrev Inv-loop : tie.InvT-loop
 Inv-loop s t₀ p₀ i₀ t p i = p ≤ 16842755

@@ -2,11 +2,6 @@ use borrow.Author.Needs.{needs}
 use native.Mathlib.Omega.{arith}
 use Rattle.scopes.proofs.form.any_main.Statement.{statement}
 use Rattle.scopes.proofs.form.any_main.Tie as tie
-use Rattle.scopes.proofs.form.any_main.Reads as reads
-use Rattle.scopes.proofs.form.any_main.Lts as lts
-use Rattle.names.proofs.is_main.Reads as is-main-reads
-use Rattle.scopes.proofs.form.next.Reads as next-reads
-use Rattle.scopes.proofs.form.string_at.Reads as string-at-reads
 use Prim.Native.Nat.{_-_}
 use Rattle.scopes.specs.FormLaws.{From-element, from-start, from-turn, from-stop, from-end}
 

@@ -1,10 +1,6 @@
-use native.Mathlib.Omega.{arith}
 use borrow.Author.Needs.{needs}
 use Rattle.scopes.proofs.form.byte_at.Statement.{statement}
 use Rattle.scopes.proofs.form.byte_at.Tie as tie
-use Rattle.scopes.proofs.form.byte_at.Reads as reads
-use Rattle.scopes.proofs.form.byte_at.Lts as lts
-use Rattle.scopes.proofs.form.wide.Reads as wide-reads
 use lib.ListN.{List·getD-eq-default}
 use mathlib.Core.Path.{sym}
 

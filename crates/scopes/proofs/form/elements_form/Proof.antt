@@ -1,11 +1,6 @@
-use borrow.Author.Needs.{needs}
 use native.Mathlib.Omega.{arith}
 use Rattle.scopes.proofs.form.elements_form.Statement.{statement}
 use Rattle.scopes.proofs.form.elements_form.Tie as tie
-use Rattle.scopes.proofs.form.elements_form.Reads as reads
-use Rattle.scopes.proofs.form.elements_form.Lts as lts
-use Rattle.scopes.proofs.form.next.Reads as next-reads
-use Rattle.scopes.proofs.form.string_form.Reads as string-form-reads
 use Prim.Native.Nat.{_-_}
 use Rattle.scopes.specs.FormLaws.{At-element, element-start, element-turn, element-stop, element-stop-2, element-end}
 

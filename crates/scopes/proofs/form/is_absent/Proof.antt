@@ -1,10 +1,5 @@
-use borrow.Author.Needs.{needs}
-use native.Mathlib.Omega.{arith}
 use Rattle.scopes.proofs.form.is_absent.Statement.{statement}
 use Rattle.scopes.proofs.form.is_absent.Tie as tie
-use Rattle.scopes.proofs.form.is_absent.Reads as reads
-use Rattle.scopes.proofs.form.is_absent.Lts as lts
-use mathlib.Core.Path.{_≡_}
 
 returns : tie.Need-returns
 returns c = simp (c .if1 .taken)

@@ -1,13 +1,7 @@
-use native.Mathlib.Omega.{arith}
 use borrow.Author.Needs.{needs}
 use Rattle.scopes.proofs.form.local_at.Statement.{statement}
 use Rattle.scopes.proofs.form.local_at.Tie as tie
-use Rattle.scopes.proofs.form.local_at.Reads as reads
-use Rattle.scopes.proofs.form.local_at.Lts as lts
-use Rattle.scopes.proofs.form.byte_at.Reads as byte-at-reads
-use Rattle.scopes.proofs.form.name_at.Reads as name-at-reads
-use Rattle.scopes.proofs.form.next.Reads as next-reads
-use mathlib.Core.Path.{_≡_, _∙_}
+use mathlib.Core.Path.{_∙_}
 use Rattle.scopes.specs.FormLaws.{local-plain, local-aliased}
 
 next-requires : tie.Need-next-requires

@@ -1,12 +1,7 @@
-use native.Mathlib.Omega.{arith}
 use borrow.Author.Needs.{needs}
 use Rattle.scopes.proofs.form.name_at.Statement.{statement}
 use Rattle.scopes.proofs.form.name_at.Tie as tie
-use Rattle.scopes.proofs.form.name_at.Reads as reads
-use Rattle.scopes.proofs.form.name_at.Lts as lts
-use Rattle.names.proofs.name_of.Reads as name-of-reads
-use Rattle.scopes.proofs.form.string_at.Reads as string-at-reads
-use mathlib.Core.Path.{_≡_, ap, _∙_}
+use mathlib.Core.Path.{ap, _∙_}
 use Rattle.names.specs.Packed.{packed}
 
 string-at-requires : tie.Need-string-at-requires

@@ -1,11 +1,6 @@
-use native.Mathlib.Omega.{arith}
 use borrow.Author.Needs.{needs}
 use Rattle.scopes.proofs.form.rest_form.Statement.{statement}
 use Rattle.scopes.proofs.form.rest_form.Tie as tie
-use Rattle.scopes.proofs.form.rest_form.Reads as reads
-use Rattle.scopes.proofs.form.rest_form.Lts as lts
-use Rattle.scopes.proofs.form.byte_at.Reads as byte-at-reads
-use Rattle.scopes.proofs.form.elements_form.Reads as elements-form-reads
 use Rattle.scopes.specs.FormLaws.{rest-cut, rest-many, rest-bad, rest-over, rest-good}
 
 returns : tie.Need-returns

@@ -2,11 +2,6 @@ use native.Mathlib.Omega.{arith}
 use borrow.Author.Needs.{needs}
 use Rattle.scopes.proofs.form.string_at.Statement.{statement}
 use Rattle.scopes.proofs.form.string_at.Tie as tie
-use Rattle.scopes.proofs.form.string_at.Reads as reads
-use Rattle.scopes.proofs.form.string_at.Lts as lts
-use Rattle.scopes.proofs.form.least.Reads as least-reads
-use Rattle.scopes.proofs.form.next.Reads as next-reads
-use mathlib.Core.Path.{_≡_, sym, _∙_}
 use Rattle.scopes.specs.FormLaws.{string-part}
 
 add-least : tie.Need-add-least

@@ -1,14 +1,6 @@
-use native.Mathlib.Omega.{arith}
 use borrow.Author.Needs.{needs}
 use Rattle.scopes.proofs.form.string_form.Statement.{statement}
 use Rattle.scopes.proofs.form.string_form.Tie as tie
-use Rattle.scopes.proofs.form.string_form.Reads as reads
-use Rattle.scopes.proofs.form.string_form.Lts as lts
-use Rattle.names.proofs.is_identifier.Reads as is-identifier-reads
-use Rattle.scopes.proofs.form.byte_at.Reads as byte-at-reads
-use Rattle.scopes.proofs.form.is_absent.Reads as is-absent-reads
-use Rattle.scopes.proofs.form.next.Reads as next-reads
-use Rattle.scopes.proofs.form.string_at.Reads as string-at-reads
 use Rattle.scopes.specs.FormLaws.{form-cut, form-past, form-absent, form-present, form-odd}
 
 returns : tie.Need-returns

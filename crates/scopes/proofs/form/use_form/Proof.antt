@@ -2,11 +2,6 @@ use native.Mathlib.Omega.{arith}
 use borrow.Author.Needs.{needs}
 use Rattle.scopes.proofs.form.use_form.Statement.{statement}
 use Rattle.scopes.proofs.form.use_form.Tie as tie
-use Rattle.scopes.proofs.form.use_form.Reads as reads
-use Rattle.scopes.proofs.form.use_form.Lts as lts
-use Rattle.scopes.proofs.form.byte_at.Reads as byte-at-reads
-use Rattle.scopes.proofs.form.rest_form.Reads as rest-form-reads
-use Rattle.scopes.proofs.form.segments_form.Reads as segments-form-reads
 use mathlib.Core.Path.{_∙_}
 use Rattle.scopes.specs.FormLaws.{use-cut, use-many, use-bad, use-rest}
 

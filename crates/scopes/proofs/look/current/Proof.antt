@@ -1,10 +1,6 @@
-use native.Mathlib.Omega.{arith}
 use borrow.Author.Needs.{needs}
 use Rattle.scopes.proofs.look.current.Statement.{statement}
 use Rattle.scopes.proofs.look.current.Tie as tie
-use Rattle.scopes.proofs.look.current.Reads as reads
-use Rattle.scopes.proofs.look.current.Lts as lts
-use mathlib.Core.Path.{_≡_, sym}
 use borrow.Author.Tests.{eq-eqb, ne-eqb}
 use Rattle.scopes.specs.Nav.{current-of}
 

@@ -2,10 +2,7 @@ use borrow.Author.Needs.{needs}
 use native.Mathlib.Omega.{arith}
 use Rattle.scopes.proofs.look.find_in.Statement.{statement}
 use Rattle.scopes.proofs.look.find_in.Tie as tie
-use Rattle.scopes.proofs.look.find_in.Reads as reads
-use Rattle.scopes.proofs.look.find_in.Lts as lts
-use Rattle.scopes.proofs.look.is_row.Reads as is-row-reads
-use Prim.Native.Nat.{_+_, _-_, _≤_, _<_}
+use Prim.Native.Nat.{_-_, _≤_}
 use mathlib.Core.Path.{_≡_, refl, sym, _∙_}
 use Rattle.scopes.specs.Rows.{first-in, looked, first-hit, first-miss, first-end}
 

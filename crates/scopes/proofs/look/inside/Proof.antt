@@ -1,11 +1,7 @@
-use native.Mathlib.Omega.{arith}
 use borrow.Author.Needs.{needs}
 use Rattle.scopes.proofs.look.inside.Statement.{statement}
 use Rattle.scopes.proofs.look.inside.Tie as tie
-use Rattle.scopes.proofs.look.inside.Reads as reads
-use Rattle.scopes.proofs.look.inside.Lts as lts
-use Rattle.scopes.proofs.look.is_own.Reads as is-own-reads
-use mathlib.Core.Path.{_≡_, sym, _∙_}
+use mathlib.Core.Path.{sym, _∙_}
 use borrow.Author.Tests.{lt-ltb, le-ltb}
 use Rattle.scopes.specs.Rows.{site}
 

@@ -1,10 +1,5 @@
-use borrow.Author.Needs.{needs}
-use native.Mathlib.Omega.{arith}
 use Rattle.scopes.proofs.look.is_barred.Statement.{statement}
 use Rattle.scopes.proofs.look.is_barred.Tie as tie
-use Rattle.scopes.proofs.look.is_barred.Reads as reads
-use Rattle.scopes.proofs.look.is_barred.Lts as lts
-use mathlib.Core.Path.{_≡_, sym}
 use borrow.Author.Tests.{eq-eqb, ne-eqb}
 use Rattle.scopes.specs.Nav.{barred}
 

@@ -1,11 +1,7 @@
-use native.Mathlib.Omega.{arith}
 use borrow.Author.Needs.{needs}
 use Rattle.scopes.proofs.look.is_held.Statement.{statement}
 use Rattle.scopes.proofs.look.is_held.Tie as tie
-use Rattle.scopes.proofs.look.is_held.Reads as reads
-use Rattle.scopes.proofs.look.is_held.Lts as lts
-use Rattle.scopes.proofs.look.find_in.Reads as find-in-reads
-use mathlib.Core.Path.{_≡_, sym, ap, _∙_}
+use mathlib.Core.Path.{sym, ap, _∙_}
 use Rattle.scopes.specs.Staging.{is-at}
 
 find-in-requires : tie.Need-find-in-requires

@@ -1,13 +1,5 @@
-use borrow.Author.Needs.{needs}
-use native.Mathlib.Omega.{arith}
 use Rattle.scopes.proofs.look.is_own.Statement.{statement}
 use Rattle.scopes.proofs.look.is_own.Tie as tie
-use Rattle.scopes.proofs.look.is_own.Reads as reads
-use Rattle.scopes.proofs.look.is_own.Lts as lts
-use Prim.Native.Nat.{ℕ}
-use mathlib.Core.Path.{_≡_}
-use mathlib.Core.Bool.{Bool, false}
-use lib.Dec.{eqb}
 use borrow.Author.Tests.{eq-eqb, ne-eqb}
 use Rattle.scopes.specs.Rows.{isOwn}
 

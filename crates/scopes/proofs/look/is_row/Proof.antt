@@ -3,13 +3,11 @@ use mathlib.Core.Path.{_≡_}
 use borrow.Author.Needs.{needs}
 use borrow.Author.Tests.{eq-eqb, ne-eqb}
 use Prim.Native.Nat.{ℕ}
-use mathlib.Core.Bool.{Bool, true, false}
+use mathlib.Core.Bool.{Bool, false}
 use Rattle.names.specs.declared.Name.{Name}
 use Rattle.scopes.specs.Rows.{isRow}
 use Rattle.scopes.proofs.look.is_row.Statement.{statement}
 use Rattle.scopes.proofs.look.is_row.Tie as tie
-use Rattle.scopes.proofs.look.is_row.Reads as reads
-use Rattle.scopes.proofs.look.is_row.Lts as lts
 
 module _ (es ek s k : ℕ) (en n : Name) where
   d0 : (es ≡ s → ⊥) → false ≡ isRow es ek en s k n

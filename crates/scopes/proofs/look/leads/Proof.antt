@@ -2,16 +2,12 @@ use native.Mathlib.Omega.{arith}
 use borrow.Author.Needs.{needs}
 use Rattle.scopes.proofs.look.leads.Statement.{statement}
 use Rattle.scopes.proofs.look.leads.Tie as tie
-use Rattle.scopes.proofs.look.leads.Reads as reads
-use Rattle.scopes.proofs.look.leads.Lts as lts
-use Rattle.names.proofs.same_name.Reads as same-name-reads
-use Rattle.scopes.proofs.look.wide.Reads as wide-reads
 use Prim.Native.Nat.{ℕ, _-_, _≤_, _<_}
-use mathlib.Core.Path.{_≡_, sym, _∙_}
+use mathlib.Core.Path.{_≡_, _∙_}
 use mathlib.Core.Bool.{Bool, true, false}
 use mathlib.Core.List.{List}
 use lib.ListN.{getD}
-use borrow.Author.Tests.{eq-eqb, ne-eqb, lt-ltb, le-ltb, le-leb, lt-leb}
+use borrow.Author.Tests.{lt-ltb, le-ltb, le-leb, lt-leb}
 use Rattle.names.specs.declared.Name.{Name}
 use Rattle.names.specs.Packed.{sameName}
 use Rattle.scopes.specs.Rows.{name-at}

@@ -2,19 +2,10 @@ use borrow.Author.Needs.{needs}
 use native.Mathlib.Omega.{arith}
 use Rattle.scopes.proofs.look.navigate.Statement.{statement}
 use Rattle.scopes.proofs.look.navigate.Tie as tie
-use Rattle.scopes.proofs.look.navigate.Reads as reads
-use Rattle.scopes.proofs.look.navigate.Lts as lts
-use Rattle.scopes.proofs.form.name_at.Reads as name-at-reads
-use Rattle.scopes.proofs.form.next.Reads as next-reads
-use Rattle.scopes.proofs.look.find_in.Reads as find-in-reads
-use Rattle.scopes.proofs.look.inside.Reads as inside-reads
-use Rattle.scopes.proofs.look.is_barred.Reads as is-barred-reads
-use Rattle.scopes.proofs.look.leads.Reads as leads-reads
-use Rattle.scopes.proofs.look.no_way.Reads as no-way-reads
-use Prim.Native.Nat.{_-_, _<_}
-use mathlib.Core.Path.{_≡_, refl, sym, _∙_}
+use Prim.Native.Nat.{_-_}
+use mathlib.Core.Path.{sym, _∙_}
 use Rattle.scopes.specs.Nav.{Walking, walking-start, walking-missing, walking-private, walking-turn, walking-end}
-use Rattle.scopes.specs.Rows.{found-at, looked}
+use Rattle.scopes.specs.Rows.{found-at}
 
 abbrev Inv-loop : tie.InvT-loop
 Inv-loop kinds visible scopes n0 n1 n2 n3 origins targets times total stack depth decl at count scope₀ time₀ p₀ led₀ i₀ scope time p led i = Walking kinds visible scopes n0 n1 n2 n3 origins targets times total stack depth decl at count i p scope time led

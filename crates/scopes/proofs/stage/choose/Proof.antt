@@ -2,17 +2,9 @@ use native.Mathlib.Omega.{arith}
 use borrow.Author.Needs.{needs}
 use Rattle.scopes.proofs.stage.choose.Statement.{statement}
 use Rattle.scopes.proofs.stage.choose.Tie as tie
-use Rattle.scopes.proofs.stage.choose.Reads as reads
-use Rattle.scopes.proofs.stage.choose.Lts as lts
-use Rattle.scopes.proofs.look.find_in.Reads as find-in-reads
-use Rattle.scopes.proofs.look.inside.Reads as inside-reads
-use Rattle.scopes.proofs.look.is_held.Reads as is-held-reads
-use Rattle.scopes.proofs.stage.no_choice.Reads as no-choice-reads
-use mathlib.Core.Path.{_≡_, sym, ap, _∙_}
+use mathlib.Core.Path.{sym, _∙_}
 use Rattle.scopes.specs.Rows.{found-at, site-le}
-use Rattle.scopes.specs.declared.look.Place.{Place as Site}
 use Rattle.scopes.specs.Staging.{choice-missing, choice-private, choice-occupied, choice-made}
-use mir.Val.{Fits}
 
 find-in-requires : tie.Need-find-in-requires
 find-in-requires c κs = search needs

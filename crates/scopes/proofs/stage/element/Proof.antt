@@ -2,11 +2,6 @@ use native.Mathlib.Omega.{arith}
 use borrow.Author.Needs.{needs}
 use Rattle.scopes.proofs.stage.element.Statement.{statement}
 use Rattle.scopes.proofs.stage.element.Tie as tie
-use Rattle.scopes.proofs.stage.element.Reads as reads
-use Rattle.scopes.proofs.stage.element.Lts as lts
-use Rattle.scopes.proofs.stage.choose.Reads as choose-reads
-use Rattle.scopes.proofs.stage.item.Reads as item-reads
-use Rattle.scopes.proofs.stage.verdict.Reads as verdict-reads
 use Rattle.scopes.specs.Staging.{element-made, counted}
 
 choose-requires : tie.Need-choose-requires

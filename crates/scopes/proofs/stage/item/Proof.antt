@@ -1,10 +1,6 @@
-use native.Mathlib.Omega.{arith}
 use borrow.Author.Needs.{needs}
 use Rattle.scopes.proofs.stage.item.Statement.{statement}
 use Rattle.scopes.proofs.stage.item.Tie as tie
-use Rattle.scopes.proofs.stage.item.Reads as reads
-use Rattle.scopes.proofs.stage.item.Lts as lts
-use Rattle.scopes.proofs.stage.staged_has.Reads as staged-has-reads
 use Rattle.scopes.specs.Staging.{item-refused, item-held, item-made}
 
 returns : tie.Need-returns

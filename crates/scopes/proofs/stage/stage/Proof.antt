@@ -2,13 +2,6 @@ use borrow.Author.Needs.{needs}
 use native.Mathlib.Omega.{arith}
 use Rattle.scopes.proofs.stage.stage.Statement.{statement}
 use Rattle.scopes.proofs.stage.stage.Tie as tie
-use Rattle.scopes.proofs.stage.stage.Reads as reads
-use Rattle.scopes.proofs.stage.stage.Lts as lts
-use Rattle.scopes.proofs.form.local_at.Reads as local-at-reads
-use Rattle.scopes.proofs.form.name_at.Reads as name-at-reads
-use Rattle.scopes.proofs.form.next.Reads as next-reads
-use Rattle.scopes.proofs.stage.element.Reads as element-reads
-use Rattle.scopes.proofs.stage.refused.Reads as refused-reads
 use Prim.Native.Nat.{_-_}
 use Rattle.scopes.specs.Rows.{arrays}
 use Rattle.scopes.specs.Staging.{Staging, staging-start, staging-turn, staging-stop, staging-end}

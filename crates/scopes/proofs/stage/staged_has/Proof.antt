@@ -2,11 +2,8 @@ use borrow.Author.Needs.{needs}
 use native.Mathlib.Omega.{arith}
 use Rattle.scopes.proofs.stage.staged_has.Statement.{statement}
 use Rattle.scopes.proofs.stage.staged_has.Tie as tie
-use Rattle.scopes.proofs.stage.staged_has.Reads as reads
-use Rattle.scopes.proofs.stage.staged_has.Lts as lts
-use Rattle.scopes.proofs.look.is_row.Reads as is-row-reads
 use Prim.Native.Nat.{_-_, _≤_}
-use mathlib.Core.Bool.{true, false}
+use mathlib.Core.Bool.{false}
 use mathlib.Core.Path.{_≡_, refl, sym, _∙_}
 use Rattle.scopes.specs.Staging.{any-to, staged-test, any-next, any-hit}
 

@@ -1,10 +1,5 @@
-use borrow.Author.Needs.{needs}
-use native.Mathlib.Omega.{arith}
 use Rattle.scopes.proofs.stage.verdict.Statement.{statement}
 use Rattle.scopes.proofs.stage.verdict.Tie as tie
-use Rattle.scopes.proofs.stage.verdict.Reads as reads
-use Rattle.scopes.proofs.stage.verdict.Lts as lts
-use mathlib.Core.Path.{_≡_}
 use borrow.Author.Tests.{eq-eqb, ne-eqb}
 use Rattle.scopes.specs.Staging.{verdict-of}
 
