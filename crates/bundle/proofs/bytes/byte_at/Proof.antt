@@ -1,0 +1,23 @@
+use borrow.Author.Needs.{needs}
+use mathlib.Core.Path.{_≡_, refl, sym, ap, _∙_}
+use native.Mathlib.Omega.{arith}
+use Prim.Native.Nat.{ℕ, _+_, _-_, _≤_, _<_}
+use lib.ListN.{length, getD, take, drop, List·getD-eq-default, length-drop}
+use lib.Seq.{take-all}
+use Rattle.bundle.proofs.bytes.byte_at.Statement.{statement}
+use Rattle.bundle.proofs.bytes.byte_at.Tie as tie
+
+shared-slice-read-wide : tie.Need-shared-slice-read-wide
+shared-slice-read-wide c = search needs
+
+wide-requires : tie.Need-wide-requires
+wide-requires c κs = search needs
+
+returns : tie.Need-returns
+returns c = search needs
+
+returns-2 : tie.Need-returns-2
+returns-2 c = let z = List·getD-eq-default ((c .before .before) .args .s .now) 0 {n = (c .before .before) .args .at} ((c .if1) .left) in (sym z, omega arith)
+
+pub byte-at-spec : {M : Type 1} → statement M
+byte-at-spec = tie.close (tie.spec shared-slice-read-wide wide-requires returns returns-2)

@@ -1,0 +1,128 @@
+use borrow.Author.Needs.{needs}
+use mathlib.Core.Path.{_≡_, refl, sym, ap, _∙_}
+use mathlib.Core.Bool.{Bool, true, false}
+use mathlib.Core.List.{List, [], _∷_, _++_, append-nil}
+use native.Mathlib.Omega.{arith}
+use Prim.Native.Nat.{ℕ, suc, _+_, _-_, _*_, _≤_, _<_}
+use lib.ListN.{length, getD}
+use borrow.Author.Tests.{lt-ltb, le-ltb, le-leb, lt-leb, eq-eqb, ne-eqb, not-true, not-false}
+use Rattle.names.specs.Bytes.{same, member}
+use Rattle.names.specs.Path.{root}
+use Rattle.names.specs.Prefix.{directlyIn}
+use Rattle.bundle.specs.Scan.{byte, text}
+use Rattle.bundle.specs.Decode.{each, far, after, afterRemapping}
+use Rattle.bundle.specs.Conflicts.{any, listed, located, named, sameRemapping, remapped, conflicts, placedAt, placedRemappingAt}
+use Rattle.bundle.specs.Lists.{skip, foldersFrom, filesFrom, before, remappingTold}
+use Rattle.bundle.specs.ListLaws.{conflicts-split, conflictsAt, member-any, member-append, search-more, search-found, search-done, far-more, twice-base, twice-list, orphan, listed-more, listed-done, remapping-told, remapping-again, remapping-more, remapping-done, texts-each, listed-append, far-thrice}
+use Rattle.bundle.specs.Read.{verdict}
+use Rattle.bundle.proofs.conflicts.conflicts.Statement.{statement}
+use Rattle.bundle.proofs.conflicts.conflicts.Tie as tie
+
+after-string-requires : tie.Need-after-string-requires
+after-string-requires c κs = search needs
+
+byte-at-requires : tie.Need-byte-at-requires
+byte-at-requires c κs = search needs
+
+add-after-strings : tie.Need-add-after-strings
+add-after-strings c = search needs
+
+after-strings-requires : tie.Need-after-strings-requires
+after-strings-requires c κs = search needs
+
+byte-at-requires-2 : tie.Need-byte-at-requires-2
+byte-at-requires-2 c κs = search needs
+
+add-after-strings-2 : tie.Need-add-after-strings-2
+add-after-strings-2 c = search needs
+
+mul-after-strings : tie.Need-mul-after-strings
+mul-after-strings c = search needs
+
+after-strings-requires-2 : tie.Need-after-strings-requires-2
+after-strings-requires-2 c κs = search needs
+
+byte-at-requires-3 : tie.Need-byte-at-requires-3
+byte-at-requires-3 c κs = search needs
+
+add-list-verdict : tie.Need-add-list-verdict
+add-list-verdict c = search needs
+
+list-verdict-requires : tie.Need-list-verdict-requires
+list-verdict-requires c κs = search needs
+
+enum-known-first : tie.Need-enum-known-first
+enum-known-first c = search needs
+
+enum-told : tie.Need-enum-told
+enum-told c = search needs
+
+add-list-verdict-2 : tie.Need-add-list-verdict-2
+add-list-verdict-2 c = search needs
+
+list-verdict-requires-2 : tie.Need-list-verdict-requires-2
+list-verdict-requires-2 c κs = search needs
+
+enum-known-second : tie.Need-enum-known-second
+enum-known-second c = search needs
+
+enum-told-2 : tie.Need-enum-told-2
+enum-told-2 c = search needs
+
+add-remappings-verdict : tie.Need-add-remappings-verdict
+add-remappings-verdict c = search needs
+
+remappings-verdict-requires : tie.Need-remappings-verdict-requires
+remappings-verdict-requires c κs = search needs
+
+enum-known-third : tie.Need-enum-known-third
+enum-known-third c = search needs
+
+enum-told-3 : tie.Need-enum-told-3
+enum-told-3 c = search needs
+
+place-verdict-requires : tie.Need-place-verdict-requires
+place-verdict-requires c κs = search needs
+
+returns : tie.Need-returns
+returns c = rw (conflicts-split ((c .before .before .before .before .before .before .before .before .before .before .before) .args .s .now) ((c .before .before .before .before .before .before .before .before .before .after-string) .result) ((c .before .before .before .before .before .before .before .after-strings) .result) ((c .before .before .before .before .before .after-strings2) .result) ((c .before .before .before .before .before .before .before .before .byte-at) .result) ((c .before .before .before .before .before .before .byte-at2) .result) ((c .before .before .before .before .byte-at3) .result) ((c .before .before .before .before .before .before .before .before .before .after-string) .ensures .0) ((c .before .before .before .before .before .before .before .before .byte-at) .ensures .0) ((c .before .before .before .before .before .before .before .after-strings) .ensures .0) ((c .before .before .before .before .before .before .byte-at2) .ensures .0) ((c .before .before .before .before .before .after-strings2) .ensures .0) ((c .before .before .before .before .byte-at3) .ensures .0)) (rw (sym ((c .before .before .before .list-verdict) .ensures) ∙ (c .before .first) .given .1))
+
+returns-2 : tie.Need-returns-2
+returns-2 c = rw (conflicts-split ((c .before .before .before .before .before .before .before .before .before .before .before .before .before .before) .args .s .now) ((c .before .before .before .before .before .before .before .before .before .before .before .before .after-string) .result) ((c .before .before .before .before .before .before .before .before .before .before .after-strings) .result) ((c .before .before .before .before .before .before .before .before .after-strings2) .result) ((c .before .before .before .before .before .before .before .before .before .before .before .byte-at) .result) ((c .before .before .before .before .before .before .before .before .before .byte-at2) .result) ((c .before .before .before .before .before .before .before .byte-at3) .result) ((c .before .before .before .before .before .before .before .before .before .before .before .before .after-string) .ensures .0) ((c .before .before .before .before .before .before .before .before .before .before .before .byte-at) .ensures .0) ((c .before .before .before .before .before .before .before .before .before .before .after-strings) .ensures .0) ((c .before .before .before .before .before .before .before .before .before .byte-at2) .ensures .0) ((c .before .before .before .before .before .before .before .before .after-strings2) .ensures .0) ((c .before .before .before .before .before .before .before .byte-at3) .ensures .0)) (rw (sym ((c .before .before .before .before .before .before .list-verdict) .ensures) ∙ (c .before .before .before .before .enum-told) .given .1, sym ((c .before .before .before .list-verdict2) .ensures) ∙ (c .before .second) .given .1))
+
+returns-3 : tie.Need-returns-3
+returns-3 c = rw (conflicts-split ((c .before .before .before .before .before .before .before .before .before .before .before .before .before .before .before .before .before) .args .s .now) ((c .before .before .before .before .before .before .before .before .before .before .before .before .before .before .before .after-string) .result) ((c .before .before .before .before .before .before .before .before .before .before .before .before .before .after-strings) .result) ((c .before .before .before .before .before .before .before .before .before .before .before .after-strings2) .result) ((c .before .before .before .before .before .before .before .before .before .before .before .before .before .before .byte-at) .result) ((c .before .before .before .before .before .before .before .before .before .before .before .before .byte-at2) .result) ((c .before .before .before .before .before .before .before .before .before .before .byte-at3) .result) ((c .before .before .before .before .before .before .before .before .before .before .before .before .before .before .before .after-string) .ensures .0) ((c .before .before .before .before .before .before .before .before .before .before .before .before .before .before .byte-at) .ensures .0) ((c .before .before .before .before .before .before .before .before .before .before .before .before .before .after-strings) .ensures .0) ((c .before .before .before .before .before .before .before .before .before .before .before .before .byte-at2) .ensures .0) ((c .before .before .before .before .before .before .before .before .before .before .before .after-strings2) .ensures .0) ((c .before .before .before .before .before .before .before .before .before .before .byte-at3) .ensures .0)) (rw (sym ((c .before .before .before .before .before .before .before .before .before .list-verdict) .ensures) ∙ (c .before .before .before .before .before .before .before .enum-told) .given .1, sym ((c .before .before .before .before .before .before .list-verdict2) .ensures) ∙ (c .before .before .before .before .enum-told2) .given .1, sym ((c .before .before .before .remappings-verdict) .ensures) ∙ (c .before .third) .given .1))
+
+returns-4 : tie.Need-returns-4
+returns-4 c = rw (conflicts-split ((c .before .before .before .before .before .before .before .before .before .before .before .before .before .before .before .before .before) .args .s .now) ((c .before .before .before .before .before .before .before .before .before .before .before .before .before .before .before .after-string) .result) ((c .before .before .before .before .before .before .before .before .before .before .before .before .before .after-strings) .result) ((c .before .before .before .before .before .before .before .before .before .before .before .after-strings2) .result) ((c .before .before .before .before .before .before .before .before .before .before .before .before .before .before .byte-at) .result) ((c .before .before .before .before .before .before .before .before .before .before .before .before .byte-at2) .result) ((c .before .before .before .before .before .before .before .before .before .before .byte-at3) .result) ((c .before .before .before .before .before .before .before .before .before .before .before .before .before .before .before .after-string) .ensures .0) ((c .before .before .before .before .before .before .before .before .before .before .before .before .before .before .byte-at) .ensures .0) ((c .before .before .before .before .before .before .before .before .before .before .before .before .before .after-strings) .ensures .0) ((c .before .before .before .before .before .before .before .before .before .before .before .before .byte-at2) .ensures .0) ((c .before .before .before .before .before .before .before .before .before .before .before .after-strings2) .ensures .0) ((c .before .before .before .before .before .before .before .before .before .before .byte-at3) .ensures .0)) (rw (sym ((c .before .before .before .before .before .before .before .before .before .list-verdict) .ensures) ∙ (c .before .before .before .before .before .before .before .enum-told) .given .1, sym ((c .before .before .before .before .before .before .list-verdict2) .ensures) ∙ (c .before .before .before .before .enum-told2) .given .1, sym ((c .before .before .before .remappings-verdict) .ensures) ∙ (c .before .enum-told3) .given .1) ((c .place-verdict) .ensures))
+
+pub conflicts-spec : {M : Type 1} → statement M
+conflicts-spec =
+    tie.close
+    (tie.spec
+    after-string-requires
+    byte-at-requires
+    add-after-strings
+    after-strings-requires
+    byte-at-requires-2
+    add-after-strings-2
+    mul-after-strings
+    after-strings-requires-2
+    byte-at-requires-3
+    add-list-verdict
+    list-verdict-requires
+    enum-known-first
+    enum-told
+    add-list-verdict-2
+    list-verdict-requires-2
+    enum-known-second
+    enum-told-2
+    add-remappings-verdict
+    remappings-verdict-requires
+    enum-known-third
+    enum-told-3
+    place-verdict-requires
+    returns
+    returns-2
+    returns-3
+    returns-4)

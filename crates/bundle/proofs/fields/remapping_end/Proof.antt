@@ -1,0 +1,59 @@
+use borrow.Author.Needs.{needs}
+use mathlib.Core.Path.{_≡_, refl, sym, ap, _∙_}
+use native.Mathlib.Omega.{arith}
+use Prim.Native.Nat.{ℕ, _+_, _-_, _≤_, _<_}
+use lib.ListN.{length, getD}
+use borrow.Author.Tests.{lt-ltb, le-ltb, le-leb, lt-leb, eq-eqb, ne-eqb}
+use Rattle.bundle.specs.declared.Scan.the-variants.{Next, Bad}
+use Rattle.bundle.specs.Steps.{string-next}
+use Rattle.bundle.specs.Scan.{byte, word, text, scanString, scanFormed, scanPath, scanName, scanAlias, scanField, scanCount, scanList, scanUse, scanLength, scanMark, scanEnd, times}
+use Rattle.bundle.proofs.fields.remapping_end.Statement.{statement}
+use Rattle.bundle.proofs.fields.remapping_end.Tie as tie
+
+path-end-requires : tie.Need-path-end-requires
+path-end-requires c κs = search needs
+
+enum-known-context : tie.Need-enum-known-context
+enum-known-context c = search needs
+
+enum-known-context-2 : tie.Need-enum-known-context-2
+enum-known-context-2 c = search needs
+
+string-end-requires : tie.Need-string-end-requires
+string-end-requires c κs = search needs
+
+enum-known-name : tie.Need-enum-known-name
+enum-known-name c = search needs
+
+enum-known-name-2 : tie.Need-enum-known-name-2
+enum-known-name-2 c = search needs
+
+path-end-requires-2 : tie.Need-path-end-requires-2
+path-end-requires-2 c κs = search needs
+
+returns : tie.Need-returns
+unfolding scanField
+returns c = rw (sym ((c .before .before .before .path-end) .ensures) ∙ (c .before .context) .given .1)
+
+returns-2 : tie.Need-returns-2
+unfolding scanField
+returns-2 c = rw (sym ((c .before .before .before .before .before .before .before .path-end) .ensures) ∙ (c .before .before .before .before .before .context2) .given .1, sym ((c .before .before .before .string-end) .ensures) ∙ (c .before .name) .given .1)
+
+returns-3 : tie.Need-returns-3
+unfolding scanField
+returns-3 c = rw (sym ((c .before .before .before .before .before .before .before .before .path-end) .ensures) ∙ (c .before .before .before .before .before .before .context2) .given .1, sym ((c .before .before .before .before .string-end) .ensures) ∙ (c .before .before .name2) .given .1) ((c .path-end2) .ensures)
+
+pub remapping-end-spec : {M : Type 1} → statement M
+remapping-end-spec =
+    tie.close
+    (tie.spec
+    path-end-requires
+    enum-known-context
+    enum-known-context-2
+    string-end-requires
+    enum-known-name
+    enum-known-name-2
+    path-end-requires-2
+    returns
+    returns-2
+    returns-3)

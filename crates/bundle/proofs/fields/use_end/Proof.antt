@@ -1,0 +1,42 @@
+use borrow.Author.Needs.{needs}
+use mathlib.Core.Path.{_≡_, refl, sym, ap, _∙_}
+use native.Mathlib.Omega.{arith}
+use Prim.Native.Nat.{ℕ, _+_, _-_, _≤_, _<_}
+use lib.ListN.{length, getD}
+use borrow.Author.Tests.{lt-ltb, le-ltb, le-leb, lt-leb, eq-eqb, ne-eqb}
+use Rattle.bundle.specs.declared.Scan.the-variants.{Next, Bad}
+use Rattle.bundle.specs.Steps.{string-next}
+use Rattle.bundle.specs.Scan.{byte, word, text, scanString, scanFormed, scanPath, scanName, scanAlias, scanField, scanCount, scanList, scanUse, scanLength, scanMark, scanEnd, times}
+use Rattle.bundle.proofs.fields.use_end.Statement.{statement}
+use Rattle.bundle.proofs.fields.use_end.Tie as tie
+
+list-end-requires : tie.Need-list-end-requires
+list-end-requires c κs = search needs
+
+enum-known-segments : tie.Need-enum-known-segments
+enum-known-segments c = search needs
+
+enum-known-segments-2 : tie.Need-enum-known-segments-2
+enum-known-segments-2 c = search needs
+
+list-end-requires-2 : tie.Need-list-end-requires-2
+list-end-requires-2 c κs = search needs
+
+returns : tie.Need-returns
+unfolding scanUse
+returns c = rw (sym ((c .before .before .before .list-end) .ensures) ∙ (c .before .segments) .given .1)
+
+returns-2 : tie.Need-returns-2
+unfolding scanUse
+returns-2 c = rw (sym ((c .before .before .before .before .list-end) .ensures) ∙ (c .before .before .segments2) .given .1) ((c .list-end2) .ensures)
+
+pub use-end-spec : {M : Type 1} → statement M
+use-end-spec =
+    tie.close
+    (tie.spec
+    list-end-requires
+    enum-known-segments
+    enum-known-segments-2
+    list-end-requires-2
+    returns
+    returns-2)

@@ -1,0 +1,12 @@
+pub mod Limits
+pub mod Bundle
+pub mod Encode
+pub mod Scan
+pub mod Decode
+pub mod Conflicts
+pub mod Steps
+pub mod Walks
+pub mod Lists
+pub mod ListLaws
+pub mod Read
+pub mod Cases

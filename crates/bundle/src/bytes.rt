@@ -1,0 +1,62 @@
+// Bytes, numbers and strings at a place.
+ghost use mathlib.Core.Path.{_≡_};
+ghost use Prim.Native.Nat.{_+_, _<_, _≤_, _^_};
+ghost use Rattle.bundle.specs.Scan.{byte, word, text};
+ghost use Rattle.bundle.specs.Decode.{after, afterLength};
+
+fn wide(b: u8) -> usize
+    ensures { λ r. ⌜ (r ≡ b) × (r < 256) ⌝ }
+{
+    b as usize
+}
+
+// The byte at `at`, and 0 past the end.
+pub fn byte_at(s: &[u8], at: usize) -> usize
+    ensures { λ r. ⌜ (r ≡ byte (now (s .entry)) at) × (r < 256) ⌝ }
+{
+    if at < s.len() {
+        return wide(s[at]);
+    }
+    0
+}
+
+// The 2-byte number at `at`.
+pub fn word_at(s: &[u8], at: usize) -> usize
+    requires { ⌜ at < 2 ^ 63 ⌝ }
+    ensures { λ r. ⌜ (r ≡ word (now (s .entry)) at) × (r < 65536) ⌝ }
+{
+    byte_at(s, at) * 256 + byte_at(s, at + 1)
+}
+
+// The bytes of the string at `at`, as far as there are any.
+pub fn text_at(s: &[u8], at: usize) -> &[u8]
+    requires { ⌜ at < 2 ^ 63 ⌝ }
+    ensures { λ r. ⌜ now r ≡ text (now (s .entry)) at ⌝ }
+{
+    if s.len() <= at {
+        return &s[..0];
+    }
+    let n = wide(s[at]);
+    let a = at + 1;
+    if s.len() - a < n {
+        return &s[a..];
+    }
+    let e = a + n;
+    &s[a..e]
+}
+
+// Past the string at `at`.
+pub fn after_string(s: &[u8], at: usize) -> usize
+    requires { ⌜ at < 2 ^ 63 ⌝ }
+    ensures { λ r. ⌜ (r ≡ after (now (s .entry)) at) × (r ≤ at + 256) ⌝ }
+{
+    at + 1 + byte_at(s, at)
+}
+
+// Past what the 2-byte length at `at` counts.
+pub fn after_length(s: &[u8], at: usize) -> usize
+    requires { ⌜ at < 2 ^ 63 ⌝ }
+    ensures { λ r. ⌜ (r ≡ afterLength (now (s .entry)) at) × (r ≤ at + 65537) ⌝ }
+{
+    at + 2 + word_at(s, at)
+}

@@ -1,0 +1,48 @@
+// The bundle reader: any bytes are a bundle, or are refused by a number from 1 to 13 and a place.
+mod bytes;
+mod conflicts;
+mod fields;
+mod form;
+mod items;
+mod limits;
+
+ghost use mathlib.Core.Path.{_≡_};
+ghost use Rattle.bundle.specs.Read.{verdict};
+
+// What the check of a bundle answers: a refusal has document 01's number, 1 to 13, and the place.
+pub enum Checked {
+    Ok,
+    Refused(u8, usize),
+}
+
+// Where the next field starts, or a number and a place.
+pub enum Scan {
+    Next(usize),
+    Bad(u8, usize),
+}
+
+// Where the next item starts, with the number of items and of uses so far; or a number and a place.
+pub enum Walk {
+    Past(usize, usize, usize),
+    Fault(u8, usize),
+}
+
+// The fields that stand in counted lists.
+pub enum Field {
+    Path,
+    Name,
+    Element,
+    Remapping,
+}
+
+// Whether the bytes are a bundle. Ruled out: `Ok` for a bundle with a folder listed twice; `Refused(8, ..)` for a path that
+// is also listed before, which is 7.
+pub fn check(s: &[u8]) -> Checked
+    ensures { λ r. ⌜ r ≡ verdict (now (s .entry)) ⌝ }
+{
+    let formed = form::form(s);
+    match formed {
+        Checked::Refused(n, p) => Checked::Refused(n, p),
+        Checked::Ok => conflicts::conflicts(s),
+    }
+}
