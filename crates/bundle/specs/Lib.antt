@@ -8,5 +8,6 @@ pub mod Steps
 pub mod Walks
 pub mod Lists
 pub mod ListLaws
+pub mod Access
 pub mod Read
 pub mod Cases

@@ -17,7 +17,7 @@ use crate::bytes::text_at;
 use crate::limits::HEADER;
 
 // Past the folder, or the file, at `at`.
-fn next_path(s: &[u8], files: bool, at: usize) -> usize
+pub fn next_path(s: &[u8], files: bool, at: usize) -> usize
     requires { ⌜ at < 2 ^ 62 ⌝ }
     ensures { λ r. ⌜ (r ≡ skip files (now (s .entry)) at) × (r ≤ at + 66000) ⌝ }
 {
@@ -166,7 +166,7 @@ fn same_remapping(s: &[u8], a: usize, b: usize) -> bool
 }
 
 // Past the remapping at `at`.
-fn next_remapping(s: &[u8], at: usize) -> usize
+pub fn next_remapping(s: &[u8], at: usize) -> usize
     requires { ⌜ at < 2 ^ 61 ⌝ }
     ensures { λ r. ⌜ (r ≡ afterRemapping (now (s .entry)) at) × (r ≤ at + 768) ⌝ }
 {
@@ -237,7 +237,7 @@ fn remappings_verdict(s: &[u8], folders: usize, files: usize, at: usize, n: usiz
 }
 
 // Past n strings.
-fn after_strings(s: &[u8], at: usize, n: usize) -> usize
+pub fn after_strings(s: &[u8], at: usize, n: usize) -> usize
     requires { ⌜ (at < 2 ^ 60) × (n < 1024) ⌝ }
     ensures { λ r. ⌜ (r ≡ far (after (now (s .entry))) n at) × (r ≤ at + n * 256) ⌝ }
 {

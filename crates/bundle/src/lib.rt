@@ -1,4 +1,5 @@
 // The bundle reader: any bytes are a bundle, or are refused by a number from 1 to 13 and a place.
+mod access;
 mod bytes;
 mod conflicts;
 mod fields;
@@ -6,6 +7,31 @@ mod form;
 mod items;
 mod limits;
 
+pub use access::Listed;
+pub use access::Range;
+pub use access::element_alias;
+pub use access::element_name;
+pub use access::file_items;
+pub use access::file_path;
+pub use access::files;
+pub use access::folders;
+pub use access::item_kind;
+pub use access::item_name;
+pub use access::item_visibility;
+pub use access::module_items;
+pub use access::next_element;
+pub use access::next_file;
+pub use access::next_item;
+pub use access::next_string;
+pub use access::remapping_context;
+pub use access::remapping_name;
+pub use access::remapping_target;
+pub use access::remappings;
+pub use access::root;
+pub use access::string;
+pub use access::use_elements;
+pub use access::use_segments;
+pub use conflicts::next_remapping;
 ghost use mathlib.Core.Path.{_≡_};
 ghost use Rattle.bundle.specs.Read.{verdict};
 
