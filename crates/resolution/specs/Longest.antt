@@ -22,3 +22,16 @@ firstOf f (a ∷ l) = cond (f a) (some a) (firstOf f l)
 -- tried longest first
 abbrev pub tried : {A : Type 0} → (A → ℕ) → (A → Bool) → List A → Option A
 tried size f l = firstOf f (longestFirst size l)
+
+-- THE SAME, SEARCHED FOR: the longest of which the test holds, the first of equally long ones
+abbrev pub only : {A : Type 0} → (A → Bool) → A → Option A
+only f a = cond (f a) (some a) none
+
+abbrev pub longer : {A : Type 0} → (A → ℕ) → Option A → Option A → Option A
+longer size none y = y
+longer size (some a) none = some a
+longer size (some a) (some b) = cond (leb (size b) (size a)) (some a) (some b)
+
+unfoldable pub longest : {A : Type 0} → (A → ℕ) → (A → Bool) → List A → Option A
+longest size f [] = none
+longest size f (a ∷ l) = longer size (only f a) (longest size f l)
