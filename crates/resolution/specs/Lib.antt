@@ -3,5 +3,9 @@ pub mod Longest
 pub mod LongestLaws
 pub mod Resolution
 pub mod Call
+pub mod Layouts
+pub mod SearchLaws
+pub mod SegmentLaws
+pub mod UseLaws
 pub mod CornerCases
 pub mod Theorems
