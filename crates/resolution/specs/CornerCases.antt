@@ -2,7 +2,7 @@
 use Prim.Native.Nat.{ℕ}
 use Prim.Native.String.{String}
 use mathlib.Core.Bool.{Bool, true, false}
-use mathlib.Core.List.{List, [], _∷_, map}
+use mathlib.Core.List.{List, [], _∷_, _++_, map}
 use mathlib.Core.Path.{_≡_, refl}
 use lib.ListN.{replicate}
 use Rattle.names.specs.Bytes.{ascii, same, member, all}
@@ -89,7 +89,41 @@ corner-rows =
     ∷ row beside "/r/a/c.simf" ("crate" ∷ "b" ∷ "y" ∷ []) (Folder 2 1)
     ∷ []
 
+-- a file under no root
+abbrev outside : List ℕ
+outside = bytes "/r" ("/r" ∷ []) [] ("/z.simf" ∷ "/r/m.simf" ∷ [])
+
+abbrev raw : List ℕ → String → List ℕ → Resolution → Row
+raw s file u r = record { bundle = s; importer = ascii file; use-bytes = u; answer = r }
+
+-- 20 to 25 and 29, and the order of the call's tests
+pub number-rows : List Row
+number-rows =
+    row beside "/r/main.simf" [] (Refused 20 0)
+    ∷ row beside "/r/main.simf" ("lib" ∷ "x" ∷ []) (Refused 21 0)
+    ∷ row pay "/r/pay/m.simf" ("lib" ∷ "y" ∷ []) (Refused 22 0)
+    ∷ row pay "/r/pay/m.simf" ("lib" ∷ []) (Refused 22 0)
+    -- a lookup that fails below one's own root is 22, not 24
+    ∷ row own-root "/r/m.simf" ("lib" ∷ "none" ∷ []) (Refused 22 0)
+    -- a target takes `crate` away from the entry root
+    ∷ row pay "/l/x.simf" ("crate" ∷ "pay" ∷ "m" ∷ []) (File 2 2)
+    ∷ row outside "/z.simf" ("crate" ∷ "m" ∷ []) (Refused 25 0)
+    -- not listed; a folder
+    ∷ row beside "/r/none.simf" ("crate" ∷ "a" ∷ []) (Refused 29 0)
+    ∷ row beside "/r/a" ("crate" ∷ "a" ∷ []) (Refused 29 0)
+    -- the bundle, the importer's form, the count, the names, 29
+    ∷ row [] "r" ("9" ∷ []) (Refused 1 0)
+    ∷ row beside "r" (replicate 17 "9") (Refused 4 0)
+    ∷ row beside "/r/none.simf" (replicate 17 "9") (Refused 3 0)
+    ∷ row beside "/r/none.simf" ("crate" ∷ "9" ∷ []) (Refused 5 0)
+    -- segments cut, and left-over bytes
+    ∷ raw beside "/r/none.simf" [] (Refused 1 0)
+    ∷ raw beside "/r/none.simf" (1 ∷ []) (Refused 1 0)
+    ∷ raw beside "/r/none.simf" (1 ∷ 2 ∷ 97 ∷ []) (Refused 1 0)
+    ∷ raw beside "/r/none.simf" (0 ∷ 0 ∷ []) (Refused 1 0)
+    ∷ []
+
 -- THE TABLE
-pub corner-cases : map (λ r. resolve (r .bundle) (r .importer) (r .use-bytes)) corner-rows ≡ map (λ r. r .answer) corner-rows
-unfolding corner-rows ascii encode fields sized two string counted joined remapping file items element read verdict form lists files scanHeader scanString scanFormed scanCount scanList times scanField scanFiles scanFile scanLength siblings scanItemWith scanModule scanHead scanMark scanBody scanUse scanAlias scanEnd isPath isIdentifier class letter digit all same components split onto wellFormed isComponent conflicts listed located conflict.named remapped sameRemapping placedAt placedRemappingAt each far any member directlyIn startsWith begins child childFile stemOf isCrate isKeyword keywords decode fileAt itemsAt itemsBy itemAt elementAt remappingAt insert longestFirst firstOf getPackageRoot applies remappingFor buildAndVerifyPath resolveCratePath checkLocalFileImportedAsExternal resolvePathInternal position scanSegments resolveIn resolve
+pub corner-cases : map (λ r. resolve (r .bundle) (r .importer) (r .use-bytes)) (corner-rows ++ number-rows) ≡ map (λ r. r .answer) (corner-rows ++ number-rows)
+unfolding corner-rows number-rows ascii encode fields sized two string counted joined remapping file items element read verdict form lists files scanHeader scanString scanFormed scanCount scanList times scanField scanFiles scanFile scanLength siblings scanItemWith scanModule scanHead scanMark scanBody scanUse scanAlias scanEnd isPath isIdentifier class letter digit all same components split onto wellFormed isComponent conflicts listed located conflict.named remapped sameRemapping placedAt placedRemappingAt each far any member directlyIn startsWith begins child childFile stemOf isCrate isKeyword keywords decode fileAt itemsAt itemsBy itemAt elementAt remappingAt insert longestFirst firstOf getPackageRoot applies remappingFor buildAndVerifyPath resolveCratePath checkLocalFileImportedAsExternal resolvePathInternal position scanSegments resolveIn resolve
 corner-cases = refl

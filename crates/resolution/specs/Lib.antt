@@ -9,3 +9,4 @@ pub mod SegmentLaws
 pub mod UseLaws
 pub mod CornerCases
 pub mod Theorems
+pub mod Accepted
