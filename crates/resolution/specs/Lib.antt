@@ -1,0 +1,12 @@
+pub mod Lists
+pub mod Longest
+pub mod LongestLaws
+pub mod Resolution
+pub mod Call
+pub mod Layouts
+pub mod SearchLaws
+pub mod SegmentLaws
+pub mod UseLaws
+pub mod CornerCases
+pub mod Theorems
+pub mod Accepted
