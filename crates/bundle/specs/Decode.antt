@@ -4,7 +4,7 @@ use mathlib.Core.Bool.{cond}
 use mathlib.Core.List.{List, [], _∷_}
 use lib.Dec.{eqb, ltb}
 use Rattle.bundle.specs.Bundle.{Element, Items, none, named, use-of, module-of, ignored, Remapping, File, Bundle}
-use Rattle.bundle.specs.Limits.{header, depth-limit, use-kind, module-kind, ignored-kind}
+use Rattle.bundle.specs.Limits.{count-width, header, depth-limit, use-kind, module-kind, ignored-kind}
 use Rattle.bundle.specs.Scan.{byte, word, text}
 
 -- n values, one after the other; where they end
@@ -18,7 +18,7 @@ far skip (suc n) at = far skip n (skip at)
 
 -- a counted list
 abbrev pub counted : {A : Type 0} → (ℕ → ℕ) → (ℕ → A) → List ℕ → ℕ → List A
-counted skip get s at = each skip get (byte s at) (at + 1)
+counted skip get s at = each skip get (byte s at) (at + count-width)
 
 -- past a string, an element, a remapping, a file, and a counted list of them
 abbrev pub after : List ℕ → ℕ → ℕ
@@ -37,7 +37,7 @@ abbrev pub afterFile : List ℕ → ℕ → ℕ
 afterFile s at = afterLength s (after s at)
 
 abbrev pub afterList : (ℕ → ℕ) → List ℕ → ℕ → ℕ
-afterList skip s at = far skip (byte s at) (at + 1)
+afterList skip s at = far skip (byte s at) (at + count-width)
 
 unfoldable pub elementAt : List ℕ → ℕ → Element
 elementAt s at = record { name = text s at; alias = text s (after s at) }

@@ -3,7 +3,7 @@ use Prim.Native.Nat.{ℕ, _/_, _%_}
 use mathlib.Core.List.{List, [], _∷_, _++_}
 use lib.ListN.{length}
 use Rattle.bundle.specs.Bundle.{Text, Element, Items, none, named, use-of, module-of, ignored, Remapping, File, Bundle}
-use Rattle.bundle.specs.Limits.{version, use-kind, module-kind, ignored-kind}
+use Rattle.bundle.specs.Limits.{version, count-bytes, use-kind, module-kind, ignored-kind}
 
 -- numbers are big-endian
 unfoldable pub two : ℕ → List ℕ
@@ -18,9 +18,9 @@ unfoldable pub joined : {A : Type 0} → (A → List ℕ) → List A → List �
 joined f [] = []
 joined f (a ∷ l) = f a ++ joined f l
 
--- a count, one byte, and as many
+-- a count, and as many
 unfoldable pub counted : {A : Type 0} → (A → List ℕ) → List A → List ℕ
-counted f l = length l ∷ joined f l
+counted f l = count-bytes (length l) ++ joined f l
 
 -- a 2-byte length of what follows
 unfoldable pub sized : List ℕ → List ℕ

@@ -1,5 +1,6 @@
 -- The version, the limits and the widths of document 01's bundle, in one place. Assumes nothing.
 use Prim.Native.Nat.{ℕ}
+use mathlib.Core.List.{List, [], _∷_}
 
 -- byte 0
 abbrev pub version : ℕ
@@ -8,6 +9,13 @@ version = 1
 -- bytes before the first field: the version, and the count of the bytes after it
 abbrev pub header : ℕ
 header = 3
+
+-- a count: how it is written, and how many bytes that takes
+abbrev pub count-bytes : ℕ → List ℕ
+count-bytes n = n ∷ []
+
+abbrev pub count-width : ℕ
+count-width = 1
 
 -- the most folders, remappings and files
 abbrev pub folder-limit : ℕ

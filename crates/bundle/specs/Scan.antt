@@ -7,7 +7,7 @@ use lib.ListN.{length, getD, take, drop}
 use lib.Dec.{eqb, ltb, leb}
 use Rattle.names.specs.Path.{isPath}
 use Rattle.names.specs.Identifier.{isIdentifier}
-use Rattle.bundle.specs.Limits.{version, header, item-limit, use-limit, segment-limit, element-limit, depth-limit, use-kind, module-kind, ignored-kind}
+use Rattle.bundle.specs.Limits.{count-width, version, header, item-limit, use-limit, segment-limit, element-limit, depth-limit, use-kind, module-kind, ignored-kind}
 use Rattle.bundle.specs.declared.Scan.{Scan}
 use Rattle.bundle.specs.declared.Scan.the-variants.{Next, Bad}
 use Rattle.bundle.specs.declared.Walk.{Walk}
@@ -64,7 +64,7 @@ scanField Remapping s end at = andThen (scanPath s end at) (λ name. andThen (sc
 -- a count, between two limits
 unfoldable pub scanCount : ℕ → ℕ → List ℕ → ℕ → ℕ → Scan
 scanCount low high s end at =
-    cond (ltb at end) (cond (leb low (byte s at) && leb (byte s at) high) (Next (at + 1)) (Bad 3 at)) (Bad 1 at)
+    cond (ltb at end) (cond (leb low (byte s at) && leb (byte s at) high) (Next (at + count-width)) (Bad 3 at)) (Bad 1 at)
 
 -- a count up to a limit, and as many fields
 unfoldable pub scanList : Field → ℕ → List ℕ → ℕ → ℕ → Scan

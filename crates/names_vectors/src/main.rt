@@ -16,25 +16,6 @@ struct Operand {
     next: usize,
 }
 
-// The value of a hexadecimal digit; 0 of any other byte.
-fn digit(b: u8) -> u8
-    ensures { λ r. ⌜ r < 16 ⌝ }
-{
-    if b < 48 {
-        return 0;
-    }
-    if b <= 57 {
-        return b - 48;
-    }
-    if b < 97 {
-        return 0;
-    }
-    if b <= 102 {
-        return b - 87;
-    }
-    0
-}
-
 // The bytes that a word spells in hexadecimal, as many as there is room for.
 fn unhex(s: &[u8], out: &mut [u8; 512]) -> usize
     ensures { λ r. ⌜ r ≤ 512 ⌝ }
@@ -45,7 +26,7 @@ fn unhex(s: &[u8], out: &mut [u8; 512]) -> usize
         if s.len() <= at + 1 {
             return n;
         }
-        out[n] = digit(s[at]) * 16 + digit(s[at + 1]);
+        out[n] = lines::digit(s[at]) * 16 + lines::digit(s[at + 1]);
         n += 1;
         at += 2;
     }

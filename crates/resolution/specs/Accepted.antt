@@ -1,21 +1,21 @@
 -- What a bundle that is not refused promises of the lists that resolution looks at: the premises of its theorems hold of
 -- every such bundle. Assumes nothing.
-use Prim.Native.Nat.{ℕ, zero, suc, _+_, _-_, _≤_, _<_}
+use Prim.Native.Nat.{ℕ, zero, suc, _+_, _-_}
 use native.Mathlib.Omega.{arith}
-use mathlib.Core.Bool.{Bool, true, false, cond, _&&_, _||_}
-use mathlib.Core.Logic.{_⊎_, inl, inr, ⊎-elim}
+use mathlib.Core.Bool.{Bool, true, false, cond, _||_}
+use mathlib.Core.Logic.{⊎-elim}
 use mathlib.Core.Path.{_≡_, refl, sym, ap, _∙_}
 use mathlib.Core.List.{List, [], _∷_, _++_, map, List·Memᴰ, List·Memᴰ·head, List·Memᴰ·tail, List·Memᴰ·cases-cons, List·Memᴰ·not-nil, Memᴰ·append-left, Memᴰ·append-right}
-use lib.Dec.{eqb, ltb, leb}
+use lib.Dec.{eqb, ltb}
 use lib.ListN.{length}
-use Rattle.names.specs.Bytes.{same, member, same-eq, same-refl, equal-same, and-left, and-right, false-true}
+use Rattle.names.specs.Bytes.{same, member, same-eq, equal-same, false-true}
 use Rattle.names.specs.Path.{isPath, root}
 use Rattle.bundle.specs.Bundle.{Text, Remapping}
 use Rattle.bundle.specs.Limits.{header, version, folder-limit, remapping-limit}
-use Rattle.bundle.specs.Scan.{byte, word, text, andThen, times, scanString, scanFormed, scanPath, scanField, scanCount, scanList, scanHeader}
+use Rattle.bundle.specs.Scan.{byte, word, text, times, scanString, scanPath, scanField, scanCount, scanList, scanHeader}
 use Rattle.bundle.specs.Steps.{read-then, formed-next, string-next, count-next}
 use Rattle.bundle.specs.Decode.{each, far, counted, after, afterRemapping, afterList, remappingAt, decode, foldersAt, remappingsAt}
-use Rattle.bundle.specs.Conflicts.{Placed, PlacedRemapping, placedAt, placedRemappingAt, texts, allFolders, orElse, any, listed, located, named, sameRemapping, remapped, conflicts}
+use Rattle.bundle.specs.Conflicts.{PlacedRemapping, placedAt, placedRemappingAt, texts, allFolders, orElse, any, listed, located, named, sameRemapping, remapped, conflicts}
 use Rattle.bundle.specs.Conflicts as conflict
 use Rattle.bundle.specs.Read.{form, lists, verdict}
 use Rattle.bundle.specs.Read as Read
@@ -25,8 +25,7 @@ use Rattle.bundle.specs.declared.Field.{Field}
 use Rattle.bundle.specs.declared.Field.the-variants as field
 use Rattle.bundle.specs.declared.Checked.{Checked}
 use Rattle.bundle.specs.declared.Checked.the-variants.{Ok, Refused}
-use Rattle.resolution.specs.Lists.{Lists, listsOf}
-use Rattle.resolution.specs.Resolution.{packageRoots}
+use Rattle.resolution.specs.Lists.{listsOf}
 use Rattle.resolution.specs.Theorems.{Paths, Distinct}
 
 -- WHAT WAS READ

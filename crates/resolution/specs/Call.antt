@@ -1,11 +1,11 @@
 -- The resolution call: its tests in document 01's order, and its answer. Assumes nothing.
 use Prim.Native.Nat.{ℕ, suc}
-use mathlib.Core.Bool.{Bool, cond}
+use mathlib.Core.Bool.{cond}
 use mathlib.Core.List.{List, [], _∷_}
 use lib.ListN.{length}
 use Rattle.names.specs.Bytes.{same, member}
 use Rattle.names.specs.Path.{isPath}
-use Rattle.bundle.specs.Bundle.{Text, Bundle}
+use Rattle.bundle.specs.Bundle.{Text}
 use Rattle.bundle.specs.Limits.{segment-limit}
 use Rattle.bundle.specs.Scan.{text, andThen, scanField, scanList, scanEnd}
 use Rattle.bundle.specs.Decode.{after, counted}

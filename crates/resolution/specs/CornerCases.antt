@@ -1,7 +1,6 @@
 -- Document 01's corner cases of resolution.rs, C1 to C5, and a case of each number, over bundles in bytes. Assumes nothing.
 use Prim.Native.Nat.{ℕ}
 use Prim.Native.String.{String}
-use mathlib.Core.Bool.{Bool, true, false}
 use mathlib.Core.List.{List, [], _∷_, _++_, map}
 use mathlib.Core.Path.{_≡_, refl}
 use lib.ListN.{replicate}
@@ -10,7 +9,7 @@ use Rattle.names.specs.Path.{isPath, isComponent, wellFormed, split, onto, comp
 use Rattle.names.specs.Prefix.{directlyIn, startsWith, begins, child, childFile, stemOf}
 use Rattle.names.specs.Identifier.{isIdentifier, class, letter, digit}
 use Rattle.names.specs.Keywords.{isCrate, isKeyword, keywords}
-use Rattle.bundle.specs.Bundle.{Text, none, Remapping, File as BundleFile, Bundle}
+use Rattle.bundle.specs.Bundle.{Text, none, Remapping}
 use Rattle.bundle.specs.Encode.{two, string, joined, counted, sized, element, items, remapping, file, fields, encode}
 use Rattle.bundle.specs.Scan.{times, scanString, scanFormed, scanAlias, scanField, scanCount, scanList, scanUse, scanLength, scanMark, scanHead, scanBody, scanEnd, scanItemWith, siblings, scanModule, scanFile, scanFiles, scanHeader}
 use Rattle.bundle.specs.Decode.{each, far, elementAt, remappingAt, itemAt, itemsBy, itemsAt, fileAt, decode}

@@ -1,7 +1,7 @@
 -- Where the lists of a bundle stand, and what the internal answers mean. Assumes nothing.
-use Prim.Native.Nat.{ℕ, _+_, _<_, _^_}
-use mathlib.Core.Bool.{Bool, true, false, cond}
-use mathlib.Core.List.{List, [], _∷_}
+use Prim.Native.Nat.{ℕ, _<_, _^_}
+use mathlib.Core.Bool.{true, false, cond}
+use mathlib.Core.List.{List}
 use mathlib.Core.Option.{Option, none, some}
 use mathlib.Core.Path.{_≡_}
 use lib.ListN.{length}
@@ -12,7 +12,7 @@ use Rattle.bundle.specs.Limits.{header}
 use Rattle.bundle.specs.Scan.{text}
 use Rattle.bundle.specs.Decode.{each, after, afterRemapping, afterFile, remappingAt}
 use Rattle.resolution.specs.Lists.{Lists}
-use Rattle.resolution.specs.Resolution.{Missing, inFolder, noPath, Lookup as Resolution·Lookup, found, missing}
+use Rattle.resolution.specs.Resolution.{inFolder, noPath, Lookup as Resolution·Lookup, found, missing}
 use Rattle.resolution.specs.Call.{position}
 use Rattle.resolution.specs.declared.Layout.{Layout}
 use Rattle.resolution.specs.declared.Place.{Place}

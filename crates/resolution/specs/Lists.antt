@@ -1,5 +1,4 @@
 -- What resolution looks at in a bundle: its root and its lists of paths. Assumes nothing.
-use Prim.Native.Nat.{ℕ}
 use mathlib.Core.List.{List, map}
 use Rattle.bundle.specs.Bundle.{Text, Remapping, Bundle}
 

@@ -1,25 +1,25 @@
 -- Laws of the code's searches. Assumes nothing.
 use Prim.Native.Nat.{ℕ, zero, suc, _+_, _-_, _≤_, _<_, _^_}
 use native.Mathlib.Omega.{arith}
-use mathlib.Core.Bool.{Bool, true, false, cond, _||_}
+use mathlib.Core.Bool.{Bool, true, false, cond}
 use mathlib.Core.List.{List, [], _∷_, map}
 use mathlib.Core.Option.{Option, none, some}
 use mathlib.Core.Path.{_≡_, refl, sym, ap, _∙_}
 use lib.Dec.{leb}
 use lib.ListN.{length}
 use borrow.Author.Tests.{le-leb, lt-leb, leb-true, leb-false}
-use Rattle.names.specs.Bytes.{same, member, same-eq, same-refl, equal-same, both-ways}
+use Rattle.names.specs.Bytes.{same, member, same-eq, equal-same, both-ways}
 use Rattle.names.specs.Prefix.{startsWith, child, childFile}
-use Rattle.bundle.specs.Bundle.{Text, Remapping}
+use Rattle.bundle.specs.Bundle.{Text}
 use Rattle.bundle.specs.Limits.{header}
 use Rattle.bundle.specs.Scan.{text}
 use Rattle.bundle.specs.Decode.{each, after, afterRemapping, afterFile, remappingAt, fileAt, decode}
 use Rattle.resolution.specs.Lists.{Lists, listsOf}
-use Rattle.resolution.specs.Longest.{tried, only, longer, longest}
+use Rattle.resolution.specs.Longest.{only, longer, longest}
 use Rattle.resolution.specs.LongestLaws.{tried-longest}
-use Rattle.resolution.specs.Resolution.{packageRoots, getPackageRoot, applies, remappingFor, found, missing, inFolder, noPath, buildAndVerifyPath}
+use Rattle.resolution.specs.Resolution.{packageRoots, getPackageRoot, applies, remappingFor, buildAndVerifyPath}
 use Rattle.resolution.specs.Call.{position}
-use Rattle.resolution.specs.Layouts.{listsAt, mapped, sizeAt, AtPlace, AsFolder, NotListed, located, Tells}
+use Rattle.resolution.specs.Layouts.{listsAt, mapped, sizeAt, AtPlace, located, Tells}
 use Rattle.resolution.specs.declared.Layout.{Layout}
 use Rattle.resolution.specs.declared.Lookup.{Lookup}
 use Rattle.resolution.specs.declared.Lookup.the-variants.{File, Folder, InFolder, NoPath}

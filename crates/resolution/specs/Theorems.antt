@@ -1,26 +1,25 @@
 -- What resolution promises of every bundle's lists. Assumes nothing.
-use Prim.Native.Nat.{ℕ, suc, _≤_, _<_}
+use Prim.Native.Nat.{ℕ, _≤_}
 use native.Mathlib.Omega.{arith}
 use mathlib.Core.Bool.{Bool, true, false, cond, _&&_, _||_, not}
 use mathlib.Core.Logic.{_⊎_, inl, inr, ⊎-elim}
 use mathlib.Core.Path.{_≡_, refl, sym, ap, _∙_}
-use mathlib.Core.List.{List, [], _∷_, _++_, map, List·Memᴰ, List·Memᴰ·head, List·Memᴰ·tail, List·Memᴰ·cases-cons, List·Memᴰ·not-nil, Memᴰ·cast}
+use mathlib.Core.List.{List, [], _∷_, _++_, map, List·Memᴰ, List·Memᴰ·head, List·Memᴰ·tail, List·Memᴰ·cases-cons, List·Memᴰ·not-nil}
 use mathlib.Core.Option.{Option, none, some}
 use lib.Dec.{eqb, leb}
-use lib.ListN.{length, getD, length-append}
-use borrow.Author.Tests.{eq-eqb, ne-eqb, eqb-true, eqb-false}
-use Rattle.names.specs.Bytes.{ascii, slash, same, member, all, all-each, same-eq, same-refl, same-differs, and-left, and-right, false-true, not-true}
+use lib.ListN.{length, length-append}
+use borrow.Author.Tests.{eq-eqb, ne-eqb, eqb-true}
+use Rattle.names.specs.Bytes.{ascii, slash, same, member, all, all-each, same-eq, same-refl, and-left, and-right, false-true}
 use Rattle.names.specs.Path.{root, isPath, components, wellFormed}
 use Rattle.names.specs.Prefix.{startsWith, directlyIn, child, childFile}
 use Rattle.names.specs.Identifier.{isIdentifier, class, letter, digit, inside, name-limit}
 use Rattle.names.specs.Keywords.{isCrate}
-use Rattle.names.specs.PathTheorems.{starts-with-refl, starts-with-trans, starts-with-root, equal-prefixes, not-below, form}
+use Rattle.names.specs.PathTheorems.{starts-with-trans, starts-with-root, equal-prefixes, not-below, form}
 use Rattle.names.specs.FolderTheorems.{Plain, child-below}
 use Rattle.bundle.specs.Bundle.{Text, Remapping}
 use Rattle.resolution.specs.Lists.{Lists}
-use Rattle.resolution.specs.Longest.{tried}
 use Rattle.resolution.specs.LongestLaws.{none-some, Best, found-tried, any-order}
-use Rattle.resolution.specs.Resolution.{packageRoots, getPackageRoot, applies, remappingFor, Missing, inFolder, noPath, Lookup, found, missing, buildAndVerifyPath, Fault, Resolved, to, fails, orItself, resolveBelow, resolveCratePath, sameRoot, checkLocalFileImportedAsExternal, external, resolveExternalPath, resolvePathInternal, noRoot, noFile, ownFile, emptyUse, unknownLibrary, noLibraryFile}
+use Rattle.resolution.specs.Resolution.{packageRoots, getPackageRoot, applies, remappingFor, Missing, noPath, Lookup, found, missing, buildAndVerifyPath, Fault, to, fails, orItself, resolveBelow, resolveCratePath, sameRoot, checkLocalFileImportedAsExternal, external, resolveExternalPath, resolvePathInternal, noFile, ownFile}
 
 -- the same elements, in whatever order
 pub record Same {A : Type 0} (l k : List A) : Type 0 where

@@ -1,23 +1,22 @@
 -- Each way through the code that resolves a use. Assumes nothing.
-use Prim.Native.Nat.{ℕ, zero, suc, _+_, _-_, _≤_, _<_, _^_}
+use Prim.Native.Nat.{ℕ, suc, _-_, _<_, _^_}
 use native.Mathlib.Omega.{arith}
 use mathlib.Core.Bool.{Bool, true, false, cond}
-use mathlib.Core.List.{List, [], _∷_}
-use mathlib.Core.Option.{Option, none, some}
-use mathlib.Core.Path.{_≡_, refl, sym, ap, _∙_}
+use mathlib.Core.List.{List, _∷_}
+use mathlib.Core.Option.{none, some}
+use mathlib.Core.Path.{_≡_, refl}
 use lib.ListN.{length, List·getD-eq-default}
-use Rattle.names.specs.Bytes.{same, member}
+use Rattle.names.specs.Bytes.{member}
 use Rattle.names.specs.Prefix.{directlyIn}
 use Rattle.names.specs.Keywords.{isCrate}
 use Rattle.bundle.specs.Bundle.{Text, Remapping}
 use Rattle.bundle.specs.Scan.{byte, text}
 use Rattle.bundle.specs.Decode.{each, after}
 use Rattle.resolution.specs.Lists.{Lists}
-use Rattle.resolution.specs.Resolution.{getPackageRoot, remappingFor, found, missing, inFolder, noPath, buildAndVerifyPath, resolveCratePath, checkLocalFileImportedAsExternal, external, resolvePathInternal}
+use Rattle.resolution.specs.Resolution.{getPackageRoot, remappingFor, found, missing, buildAndVerifyPath, resolveCratePath, checkLocalFileImportedAsExternal, external, resolvePathInternal}
 use Rattle.resolution.specs.Resolution as rule
-use Rattle.resolution.specs.Call.{answer, position, resolveIn}
-use Rattle.resolution.specs.Layouts.{AtPlace, AsFolder, Tells, Importer, itselfIn}
-use Rattle.resolution.specs.SearchLaws.{length-each}
+use Rattle.resolution.specs.Call.{answer, resolveIn}
+use Rattle.resolution.specs.Layouts.{Tells, Importer, itselfIn}
 use Rattle.resolution.specs.declared.Lookup.the-variants as lookup
 use Rattle.resolution.specs.declared.Resolution.{Resolution}
 use Rattle.resolution.specs.declared.Resolution.the-variants.{File, Folder, Refused}

@@ -6,53 +6,10 @@ use libc::STDIN_FILENO;
 use libc::STDOUT_FILENO;
 use resolution::Resolution;
 
-// The value of a hexadecimal digit; 0 of any other byte.
-fn digit(b: u8) -> u8
-    ensures { λ r. ⌜ r < 16 ⌝ }
-{
-    if b < 48 {
-        return 0;
-    }
-    if b <= 57 {
-        return b - 48;
-    }
-    if b < 97 {
-        return 0;
-    }
-    if b <= 102 {
-        return b - 87;
-    }
-    0
-}
-
 fn wide(x: u8) -> usize
     ensures { λ r. ⌜ r < 256 ⌝ }
 {
     x as usize
-}
-
-// Where the first byte `stop` from `at` on is, or the end.
-fn end_of(s: &[u8], at: usize, stop: u8) -> usize
-    ensures { λ r. ⌜ at ≤ r ⌝ }
-{
-    let mut e = at;
-    while e < s.len() {
-        if s[e] == stop {
-            return e;
-        }
-        e += 1;
-    }
-    e
-}
-
-// The bytes from a to e, or none where these are no such places.
-fn part(s: &[u8], a: usize, e: usize) -> &[u8] {
-    if e <= s.len() {
-        if a <= e {
-            return &s[a..e];
-        }
-    }
-    &s[..0]
 }
 
 // What follows the byte at w.
@@ -65,11 +22,11 @@ fn rest_of(s: &[u8], w: usize) -> &[u8] {
 
 // The first n bytes, or none where there are not so many.
 fn use_head(a: &[u8; 4096], n: usize) -> &[u8] {
-    part(a, 0, n)
+    lines::part(a, 0, n)
 }
 
 fn bundle_head(a: &[u8; 32768], n: usize) -> &[u8] {
-    part(a, 0, n)
+    lines::part(a, 0, n)
 }
 
 // The bytes that a word spells in hexadecimal, as many as there is room for.
@@ -82,7 +39,7 @@ fn unhex(s: &[u8], out: &mut [u8; 32768]) -> usize
         if s.len() <= at + 1 {
             return n;
         }
-        out[n] = digit(s[at]) * 16 + digit(s[at + 1]);
+        out[n] = lines::digit(s[at]) * 16 + lines::digit(s[at + 1]);
         n += 1;
         at += 2;
     }
@@ -125,8 +82,8 @@ fn encode(path: &[u8], out: &mut [u8; 4096]) -> usize {
     let mut a = 1;
     let mut at = 0;
     while at < path.len() {
-        let e = end_of(path, at, 58);
-        a = put(part(path, at, e), out, a);
+        let e = lines::end_of(path, at, 58);
+        a = put(lines::part(path, at, e), out, a);
         count += 1;
         if path.len() <= e {
             out[0] = low(count);
@@ -232,12 +189,12 @@ fn tell_bundle(s: &[u8]) {
 
 fn ask(s: &[u8], text: &[u8]) {
     let mut u = [0u8; 4096];
-    let e = end_of(text, 0, 32);
+    let e = lines::end_of(text, 0, 32);
     if text.len() <= e {
         return;
     }
-    let n = encode(part(text, e + 1, text.len()), &mut u);
-    let importer = part(text, 0, e);
+    let n = encode(lines::part(text, e + 1, text.len()), &mut u);
+    let importer = lines::part(text, 0, e);
     if names::same_bytes(importer, b"-") {
         tell(s, b"", use_head(&u, n));
         return;
@@ -250,10 +207,10 @@ fn answer_all(s: &[u8]) {
     let mut len = 0;
     let mut at = 0;
     while at < s.len() {
-        let e = end_of(s, at, 10);
-        let line = part(s, at, e);
-        let w = end_of(line, 0, 32);
-        let word = part(line, 0, w);
+        let e = lines::end_of(s, at, 10);
+        let line = lines::part(s, at, e);
+        let w = lines::end_of(line, 0, 32);
+        let word = lines::part(line, 0, w);
         if names::same_bytes(word, b"bundle") {
             len = unhex(rest_of(line, w), &mut lent);
             tell_bundle(bundle_head(&lent, len));

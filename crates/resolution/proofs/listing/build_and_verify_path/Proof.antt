@@ -1,12 +1,11 @@
 use borrow.Author.Needs.{needs}
 use native.Mathlib.Omega.{arith}
-use Prim.Native.Nat.{ℕ, suc, _+_, _-_, _*_, _≤_, _<_, _^_}
-use mathlib.Core.Bool.{Bool, true, false}
-use mathlib.Core.Path.{_≡_, refl, sym, ap, _∙_}
+use Prim.Native.Nat.{_+_, _-_, _*_, _≤_, _<_, _^_}
+use mathlib.Core.Path.{_≡_, sym, _∙_}
 use Rattle.bundle.specs.Scan.{text}
 use Rattle.bundle.specs.Decode.{each, after}
 use Rattle.resolution.specs.Resolution.{buildAndVerifyPath}
-use Rattle.resolution.specs.Layouts.{listsAt, FoundIs, AtPlace}
+use Rattle.resolution.specs.Layouts.{listsAt}
 use Rattle.resolution.specs.SearchLaws.{enters-folder, names-file, runs-out}
 use Rattle.resolution.proofs.listing.build_and_verify_path.Statement.{statement}
 use Rattle.resolution.proofs.listing.build_and_verify_path.Tie as tie

@@ -1,17 +1,15 @@
 use borrow.Author.Needs.{needs}
 use native.Mathlib.Omega.{arith}
-use Prim.Native.Nat.{ℕ, suc, _+_, _-_, _*_, _≤_, _<_, _^_}
-use mathlib.Core.Bool.{Bool, true, false}
-use mathlib.Core.Path.{_≡_, refl, sym, ap, _∙_}
+use Prim.Native.Nat.{_+_, _-_, _*_, _≤_}
+use mathlib.Core.Path.{_≡_, ap, _∙_}
 use Rattle.bundle.specs.Decode.{after}
 use Rattle.resolution.specs.SearchLaws.{longest-turn, longest-end, root-is}
-use mathlib.Core.Option.{none}
 use Rattle.bundle.specs.Decode.{each, afterRemapping}
 use Rattle.bundle.specs.Scan.{text}
 use Rattle.names.specs.Prefix.{startsWith}
 use Rattle.resolution.specs.Longest.{longer, longest}
 use Rattle.resolution.specs.Layouts.{place, SmallPlace, sizeAt}
-use Rattle.resolution.specs.SearchLaws.{targetAt, rootPlaces, isRootOf, package-root, longest-more, longest-done}
+use Rattle.resolution.specs.SearchLaws.{targetAt}
 use Rattle.resolution.proofs.package.get_package_root.Statement.{statement}
 use Rattle.resolution.proofs.package.get_package_root.Tie as tie
 

@@ -1,15 +1,14 @@
 use borrow.Author.Needs.{needs}
 use native.Mathlib.Omega.{arith}
-use Prim.Native.Nat.{ℕ, suc, _+_, _-_, _*_, _≤_, _<_, _^_}
-use mathlib.Core.Bool.{Bool, true, false}
-use mathlib.Core.Path.{_≡_, refl, sym, ap, _∙_}
+use Prim.Native.Nat.{_+_, _-_, _*_, _≤_}
+use mathlib.Core.Path.{_≡_, refl, _∙_}
 use Rattle.resolution.specs.SearchLaws.{longest-turn, longest-end}
 use mathlib.Core.Option.{none}
 use Rattle.bundle.specs.Decode.{each, afterRemapping, remappingAt}
 use Rattle.resolution.specs.Longest.{longer, longest}
 use Rattle.resolution.specs.Resolution.{applies}
 use Rattle.resolution.specs.Layouts.{place, SmallPlace, sizeAt}
-use Rattle.resolution.specs.SearchLaws.{remappingPlaces, appliesAt, taken-remapping, longest-more, longest-done}
+use Rattle.resolution.specs.SearchLaws.{taken-remapping}
 use Rattle.resolution.proofs.package.remapping_for.Statement.{statement}
 use Rattle.resolution.proofs.package.remapping_for.Tie as tie
 

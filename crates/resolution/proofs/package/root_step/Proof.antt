@@ -1,10 +1,5 @@
 use borrow.Author.Needs.{needs}
-use native.Mathlib.Omega.{arith}
-use Prim.Native.Nat.{ℕ, suc, _+_, _-_, _*_, _≤_, _<_, _^_}
-use mathlib.Core.Bool.{Bool, true, false}
-use mathlib.Core.Path.{_≡_, refl, sym, ap, _∙_}
-use Rattle.names.specs.Prefix.{startsWith}
-use Rattle.bundle.specs.Scan.{text}
+use mathlib.Core.Path.{sym, _∙_}
 use Rattle.resolution.specs.SearchLaws.{longer-none}
 use borrow.Author.Needs.{needs}
 use Rattle.resolution.proofs.package.root_step.Statement.{statement}

@@ -1,8 +1,4 @@
 use borrow.Author.Needs.{needs}
-use native.Mathlib.Omega.{arith}
-use Prim.Native.Nat.{ℕ, suc, _+_, _-_, _*_, _≤_, _<_, _^_}
-use mathlib.Core.Bool.{Bool, true, false}
-use mathlib.Core.Path.{_≡_, refl, sym, ap, _∙_}
 use Rattle.resolution.specs.SearchLaws.{layout-lists}
 use borrow.Author.Needs.{needs}
 use Rattle.resolution.proofs.positions.layout_of.Statement.{statement}

@@ -1,8 +1,7 @@
 use borrow.Author.Needs.{needs}
 use native.Mathlib.Omega.{arith}
-use Prim.Native.Nat.{ℕ, suc, _+_, _-_, _*_, _≤_, _<_, _^_}
-use mathlib.Core.Bool.{Bool, true, false}
-use mathlib.Core.Path.{_≡_, refl, sym, ap, _∙_}
+use Prim.Native.Nat.{_-_}
+use mathlib.Core.Path.{_≡_, sym, _∙_}
 use Rattle.bundle.specs.Scan.{times}
 use Rattle.resolution.specs.Call.{scanSegment}
 use Rattle.bundle.specs.Steps.{times-next, times-bad, times-done}

@@ -1,8 +1,6 @@
 use borrow.Author.Needs.{needs}
 use native.Mathlib.Omega.{arith}
-use Prim.Native.Nat.{ℕ, suc, _+_, _-_, _*_, _≤_, _<_, _^_}
-use mathlib.Core.Bool.{Bool, true, false}
-use mathlib.Core.Path.{_≡_, refl, sym, ap, _∙_}
+use mathlib.Core.Path.{_∙_}
 use borrow.Author.Needs.{needs}
 use Rattle.resolution.proofs.uses.check_local_file_imported_as_external.Statement.{
   statement,

@@ -1,10 +1,6 @@
 use borrow.Author.Needs.{needs}
 use native.Mathlib.Omega.{arith}
-use Prim.Native.Nat.{ℕ, suc, _+_, _-_, _*_, _≤_, _<_, _^_}
-use mathlib.Core.Bool.{Bool, true, false}
-use mathlib.Core.Path.{_≡_, refl, sym, ap, _∙_}
-use Rattle.bundle.specs.Scan.{text}
-use Rattle.bundle.specs.Decode.{each, after}
+use mathlib.Core.Path.{sym, _∙_}
 use Rattle.resolution.specs.Layouts.{listsAt}
 use Rattle.bundle.specs.Decode.{remappingAt}
 use Rattle.resolution.specs.UseLaws.{use-empty, use-crate, use-unknown, use-external}
