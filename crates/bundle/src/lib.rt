@@ -36,7 +36,7 @@ pub use access::use_elements;
 pub use access::use_segments;
 pub use conflicts::next_remapping;
 ghost use mathlib.Core.Path.{_≡_};
-ghost use Rattle.bundle.specs.Read.{numberOf, placeOf, verdict};
+ghost use Rattle.bundle.specs.Read.{verdict};
 
 // What the check of a bundle answers: a refusal has document 01's number, 1 to 13, and the place.
 pub enum Checked {
@@ -73,29 +73,5 @@ pub fn check(s: &[u8]) -> Checked
     match formed {
         Checked::Refused(n, p) => Checked::Refused(n, p),
         Checked::Ok => conflicts::conflicts(s),
-    }
-}
-
-// For Rust or C: the number, 0 for a bundle.
-#[no_mangle]
-pub extern "C" fn bundle_number(s: &[u8]) -> u8
-    ensures { λ r. ⌜ r ≡ numberOf (verdict (now (s .entry))) ⌝ }
-{
-    let told = check(s);
-    match told {
-        Checked::Ok => 0,
-        Checked::Refused(n, _) => n,
-    }
-}
-
-// And the place, 0 for a bundle.
-#[no_mangle]
-pub extern "C" fn bundle_place(s: &[u8]) -> usize
-    ensures { λ r. ⌜ r ≡ placeOf (verdict (now (s .entry))) ⌝ }
-{
-    let told = check(s);
-    match told {
-        Checked::Ok => 0,
-        Checked::Refused(_, p) => p,
     }
 }

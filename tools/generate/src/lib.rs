@@ -5,7 +5,7 @@ mod families;
 pub mod link;
 mod lookup;
 mod project;
-mod rng;
+pub mod rng;
 mod stats;
 mod tree;
 

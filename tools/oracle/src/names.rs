@@ -38,12 +38,14 @@ pub fn answer(line: &str) -> Option<String> {
         },
         // As `resolve_crate_path` tests it.
         ("in", [path, folder]) => truth(as_path(path).parent() == Some(as_path(folder))),
-        ("child", [folder, segment]) => to_hex(joined(folder, segment).as_os_str().as_bytes()),
+        ("child", [path, folder, segment]) => {
+            truth(joined(folder, segment).as_os_str().as_bytes() == *path)
+        }
         // As `build_and_verify_path` names the file.
-        ("simf", [folder, segment]) => {
+        ("simf", [path, folder, segment]) => {
             let mut file = joined(folder, segment);
             file.set_extension("simf");
-            to_hex(file.as_os_str().as_bytes())
+            truth(file.as_os_str().as_bytes() == *path)
         }
         _ => return None,
     })
