@@ -88,10 +88,14 @@ fn main() {
             generate(&package, &out, &files);
             println!("cargo:rustc-cfg=original");
         }
-        Err(problem) => println!(
-            "cargo:rustc-env=ORIGINAL_PROBLEM={problem}; set SIMPLICITYHL_SRC to a checkout of \
-             BlockstreamResearch/SimplicityHL at commit {COMMIT} and build again"
-        ),
+        Err(problem) => {
+            println!(
+                "cargo:rustc-env=ORIGINAL_PROBLEM={problem}; set SIMPLICITYHL_SRC to a checkout \
+                 of BlockstreamResearch/SimplicityHL at commit {COMMIT} and build again"
+            );
+            // A file that is never there: the next build looks again, whatever the files' times.
+            println!("cargo:rerun-if-changed={}", out.join("none").display());
+        }
     }
 }
 

@@ -1,14 +1,14 @@
 -- The parts of items, and where they stand. What the layers above need of the bytes is said here once. Assumes nothing.
 use Prim.Native.Nat.{ℕ, zero, suc, _+_, _-_, _≤_, _<_}
 use native.Mathlib.Omega.{arith}
-use mathlib.Core.Bool.{Bool, true, false, cond}
-use mathlib.Core.Path.{_≡_, refl, sym, ap, _∙_}
+use mathlib.Core.Bool.{Bool, true, false}
+use mathlib.Core.Path.{_≡_, refl, sym, _∙_}
 use mathlib.Core.List.{List, []}
-use lib.Dec.{eqb, ltb}
+use lib.Dec.{eqb}
 use borrow.Author.Tests.{lt-ltb, le-ltb, eqb-true, eqb-false, eq-eqb, ne-eqb}
 use Rattle.bundle.specs.Bundle.{Text, Element, Items, none, named, use-of, module-of, ignored}
 use Rattle.bundle.specs.Limits.{use-kind, module-kind, ignored-kind}
-use Rattle.bundle.specs.Scan.{byte, word, text}
+use Rattle.bundle.specs.Scan.{byte, text}
 use Rattle.bundle.specs.Decode.{counted, after, afterElement, afterLength, afterList, elementAt, itemAt, itemsBy, itemsAt}
 
 -- OF THE FIRST ITEM: its kind, mark, visibility, name; a use's segments and elements; a module's items; and the items after it

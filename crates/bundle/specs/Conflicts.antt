@@ -1,6 +1,6 @@
 -- The refusals 7 to 13, of a bundle that passes 1 to 6. Assumes nothing.
-use Prim.Native.Nat.{ℕ, _+_}
-use mathlib.Core.Bool.{Bool, true, false, cond, _&&_, _||_, not}
+use Prim.Native.Nat.{ℕ}
+use mathlib.Core.Bool.{Bool, false, cond, _&&_, _||_, not}
 use mathlib.Core.List.{List, [], _∷_, _++_, map}
 use Rattle.names.specs.Bytes.{same, member}
 use Rattle.names.specs.Path.{root}

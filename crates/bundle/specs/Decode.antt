@@ -3,7 +3,7 @@ use Prim.Native.Nat.{ℕ, zero, suc, _+_, _-_}
 use mathlib.Core.Bool.{cond}
 use mathlib.Core.List.{List, [], _∷_}
 use lib.Dec.{eqb, ltb}
-use Rattle.bundle.specs.Bundle.{Text, Element, Items, none, named, use-of, module-of, ignored, Remapping, File, Bundle}
+use Rattle.bundle.specs.Bundle.{Element, Items, none, named, use-of, module-of, ignored, Remapping, File, Bundle}
 use Rattle.bundle.specs.Limits.{header, depth-limit, use-kind, module-kind, ignored-kind}
 use Rattle.bundle.specs.Scan.{byte, word, text}
 

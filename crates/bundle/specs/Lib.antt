@@ -11,3 +11,15 @@ pub mod ListLaws
 pub mod Access
 pub mod Read
 pub mod Cases
+pub mod Form
+pub mod Stand
+pub mod Sound
+pub mod SoundItems
+pub mod SoundBundle
+pub mod Free
+pub mod Complete
+pub mod CompleteItems
+pub mod CompleteBundle
+pub mod Marks
+pub mod Theorems
+pub mod Numbers

@@ -2,9 +2,10 @@
 use Prim.Native.Nat.{ℕ, zero, suc, _+_, _-_, _*_, _≤_, _<_}
 use native.Mathlib.Omega.{arith}
 use native.Mathlib.Numerals.{add-one}
-use mathlib.Core.Bool.{Bool, true, false, cond, _&&_, _||_}
+use mathlib.Core.Bool.{Bool, true, false, cond, _||_}
+use lib.ListN.{length, getD}
 use mathlib.Core.Path.{_≡_, refl, sym, ap, _∙_}
-use mathlib.Core.List.{List, [], _∷_, _++_, map, append-nil, append-assoc}
+use mathlib.Core.List.{List, [], _∷_, _++_, append-nil, append-assoc}
 use Rattle.names.specs.Bytes.{same, member}
 use Rattle.names.specs.Path.{root}
 use Rattle.names.specs.Prefix.{directlyIn}
@@ -186,3 +187,15 @@ conflicts-split s f r g nf nr ng ef enf er enr eg eng =
     let er' : r ≡ remappingsAt s = er ∙ rw (enf, ef) in
     let eg' : g ≡ filesAt s = eg ∙ rw (far-thrice s nr (r + 1)) (rw (enr, er')) in
     split-at s (foldersAt s) (remappingsAt s) (filesAt s) ∙ rw (enf, enr, eng, ef, er', eg')
+
+-- THE i-th of n values
+pub each-at : {A : Type 0} (next : ℕ → ℕ) (get : ℕ → A) (n i at : ℕ) (d : A) → i < n → getD (each next get n at) i d ≡ get (far next i at)
+unfolding each far
+each-at next get zero i at d h = absurd (omega arith)
+each-at next get (suc n) zero at d h = refl
+each-at next get (suc n) (suc i) at d h = each-at next get n i (next at) d (omega arith)
+
+pub each-length : {A : Type 0} (next : ℕ → ℕ) (get : ℕ → A) (n at : ℕ) → length (each next get n at) ≡ n
+unfolding each
+each-length next get zero at = refl
+each-length next get (suc n) at = ap suc (each-length next get n (next at))

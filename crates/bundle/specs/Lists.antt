@@ -1,6 +1,6 @@
 -- The lists of a bundle from where their counts stand. Assumes nothing.
 use Prim.Native.Nat.{ℕ}
-use mathlib.Core.Bool.{Bool, true, false, cond}
+use mathlib.Core.Bool.{Bool, true, false}
 use mathlib.Core.List.{List, [], _∷_}
 use Rattle.names.specs.Path.{root}
 use Rattle.bundle.specs.Bundle.{Text}

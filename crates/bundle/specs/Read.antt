@@ -44,6 +44,15 @@ form s = after (scanHeader s) (λ root. after (scanPath s (length s) root) (list
 unfoldable pub verdict : List ℕ → Checked
 verdict s = orElse (form s) (conflicts s)
 
+-- the number and the place of an answer; 0 where nothing is told
+unfoldable pub numberOf : Checked → ℕ
+numberOf Ok = 0
+numberOf (Refused n p) = n
+
+unfoldable pub placeOf : Checked → ℕ
+placeOf Ok = 0
+placeOf (Refused n p) = p
+
 pub data Reading : Type 0 where
   value : Bundle → Reading
   refused : ℕ → ℕ → Reading

@@ -7,7 +7,7 @@ use lib.ListN.{length, getD, take, drop}
 use lib.Dec.{eqb, ltb, leb}
 use Rattle.names.specs.Path.{isPath}
 use Rattle.names.specs.Identifier.{isIdentifier}
-use Rattle.bundle.specs.Limits.{version, header, folder-limit, remapping-limit, file-limit, item-limit, use-limit, segment-limit, element-limit, depth-limit, use-kind, module-kind, ignored-kind}
+use Rattle.bundle.specs.Limits.{version, header, item-limit, use-limit, segment-limit, element-limit, depth-limit, use-kind, module-kind, ignored-kind}
 use Rattle.bundle.specs.declared.Scan.{Scan}
 use Rattle.bundle.specs.declared.Scan.the-variants.{Next, Bad}
 use Rattle.bundle.specs.declared.Walk.{Walk}

@@ -1,22 +1,20 @@
 -- Laws of the scans: what a field that was read passed, and where it ends.
 -- Assumes nothing.
-use Prim.Native.Nat.{ℕ, zero, suc, _+_, _-_, _≤_, _<_}
+use Prim.Native.Nat.{ℕ, suc, _+_, _-_, _≤_, _<_}
 use native.Mathlib.Omega.{arith}
 use mathlib.Core.Bool.{Bool, true, false, cond, _&&_}
-use mathlib.Core.Path.{_≡_, refl, sym, ap, _∙_}
+use mathlib.Core.Path.{_≡_, refl, sym, _∙_}
 use mathlib.Core.List.{List}
-use lib.ListN.{length, getD, take, drop, length-drop}
+use lib.ListN.{length, take, drop, length-drop}
 use lib.Seq.{take-all}
 use lib.Dec.{eqb, ltb, leb}
-use borrow.Author.Tests.{ltb-true, leb-true, eqb-true, lt-ltb, le-ltb, le-leb, lt-leb}
-use Rattle.bundle.specs.Limits.{item-limit, use-limit, use-kind, module-kind, ignored-kind, segment-limit, element-limit, depth-limit}
-use Rattle.bundle.specs.Scan.{byte, word, text, andThen, times, scanString, scanFormed, scanPath, scanName, scanAlias, scanField, scanCount, scanList, scanUse, scanLength, scanMark, usesAfter, scanHead, scanBody, scanEnd, walkOn, walkThen, scanItemWith, siblings, scanModule, scanItem, scanItems, scanFile, scanFiles}
+use borrow.Author.Tests.{ltb-true, leb-true, eqb-true}
+use Rattle.bundle.specs.Limits.{item-limit, use-limit}
+use Rattle.bundle.specs.Scan.{byte, word, text, andThen, times, scanString, scanFormed, scanCount, scanLength, scanMark, usesAfter, scanHead, scanEnd, walkOn, walkThen}
 use Rattle.bundle.specs.declared.Scan.{Scan}
 use Rattle.bundle.specs.declared.Scan.the-variants.{Next, Bad}
 use Rattle.bundle.specs.declared.Walk.{Walk}
 use Rattle.bundle.specs.declared.Walk.the-variants.{Past, Fault}
-use Rattle.bundle.specs.declared.Field.{Field}
-use Rattle.bundle.specs.declared.Field.the-variants.{Path, Name, Element, Remapping}
 
 -- STRINGS
 pub text-cut : (s : List ℕ) (at n : ℕ) → n ≡ byte s at → length s - (at + 1) < n → take (length s - (at + 1)) (drop (at + 1) s) ≡ text s at

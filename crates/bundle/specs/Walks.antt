@@ -3,17 +3,14 @@
 use Prim.Native.Nat.{ℕ, zero, suc, _+_, _-_, _≤_, _<_}
 use native.Mathlib.Omega.{arith}
 use mathlib.Core.Bool.{Bool, true, false, cond}
-use mathlib.Core.Path.{_≡_, refl, sym, ap, _∙_}
+use mathlib.Core.Path.{_≡_, refl}
 use mathlib.Core.List.{List}
-use lib.Dec.{eqb, ltb, leb}
-use lib.ListN.{length}
-use borrow.Author.Tests.{ltb-true, leb-true, eqb-true, lt-ltb, le-ltb, eq-eqb, ne-eqb}
+use lib.Dec.{eqb, ltb}
+use borrow.Author.Tests.{eqb-true, lt-ltb, le-ltb, eq-eqb, ne-eqb}
 use Rattle.names.specs.Identifier.{isIdentifier}
-use Rattle.names.specs.Path.{isPath}
 use Rattle.bundle.specs.Limits.{item-limit, use-limit, use-kind, module-kind, depth-limit}
-use Rattle.bundle.specs.Scan.{byte, word, andThen, scanName, scanPath, scanLength, usesAfter, scanHead, scanBody, scanEnd, walkOn, walkThen, scanItemWith, siblings, scanModule, scanItem, scanItems, scanFile, scanFiles}
+use Rattle.bundle.specs.Scan.{byte, andThen, scanName, scanPath, scanLength, usesAfter, scanHead, scanBody, scanEnd, walkOn, walkThen, scanItemWith, siblings, scanModule, scanItem, scanItems, scanFile, scanFiles}
 use Rattle.bundle.specs.Steps.{string-next, formed-next, length-next, end-next, Head, head-next, read-then, walked-on, walked-then}
-use Rattle.bundle.specs.declared.Scan.{Scan}
 use Rattle.bundle.specs.declared.Scan.the-variants.{Next, Bad}
 use Rattle.bundle.specs.declared.Walk.{Walk}
 use Rattle.bundle.specs.declared.Walk.the-variants.{Past, Fault}

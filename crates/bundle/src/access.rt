@@ -2,6 +2,8 @@
 // value that is. None of them needs a checked bundle: of other bytes they give the parts of what `decode` makes of them.
 ghost use mathlib.Core.Path.{_≡_};
 ghost use Prim.Native.Nat.{ℕ, suc, _+_, _<_, _≤_, _^_};
+ghost use lib.ListN.{length, getD};
+ghost use Rattle.bundle.specs.Bundle.{Text, Remapping, File};
 ghost use Rattle.bundle.specs.Limits.{depth-limit, use-kind, module-kind, ignored-kind};
 ghost use Rattle.bundle.specs.Scan.{text};
 ghost use Rattle.bundle.specs.Decode.{each, after, afterElement, afterRemapping, afterFile, elementAt, remappingAt, fileAt, itemsAt, decode, foldersAt, remappingsAt, filesAt};
@@ -10,6 +12,7 @@ use crate::bytes::after_length;
 use crate::bytes::after_string;
 use crate::bytes::byte_at;
 use crate::bytes::text_at;
+use crate::conflicts::after_files;
 use crate::conflicts::after_strings;
 use crate::conflicts::next_path;
 use crate::limits::HEADER;
@@ -85,6 +88,31 @@ pub fn files(s: &[u8]) -> Listed
         first: at + 1,
         count: n,
     }
+}
+
+// The positions of the i-th folder, remapping and file.
+pub fn folder_at(s: &[u8], i: usize) -> usize
+    requires { ⌜ i < 256 ⌝ }
+    ensures { λ r. ⌜ ((d : Text) → i < length (decode (now (s .entry)) .folders) → getD (decode (now (s .entry)) .folders) i d ≡ text (now (s .entry)) r) × (r < 2 ^ 20) ⌝ }
+{
+    let at = folders_at(s);
+    after_strings(s, at + 1, i)
+}
+
+pub fn remapping_at(s: &[u8], i: usize) -> usize
+    requires { ⌜ i < 256 ⌝ }
+    ensures { λ r. ⌜ ((d : Remapping) → i < length (decode (now (s .entry)) .remappings) → getD (decode (now (s .entry)) .remappings) i d ≡ remappingAt (now (s .entry)) r) × (r < 2 ^ 20) ⌝ }
+{
+    let at = remappings_at(s);
+    after_strings(s, at + 1, 3 * i)
+}
+
+pub fn file_at(s: &[u8], i: usize) -> usize
+    requires { ⌜ i < 256 ⌝ }
+    ensures { λ r. ⌜ ((d : File) → i < length (decode (now (s .entry)) .files) → getD (decode (now (s .entry)) .files) i d ≡ fileAt (now (s .entry)) r) × (r < 2 ^ 26) ⌝ }
+{
+    let at = files_at(s);
+    after_files(s, at + 1, i)
 }
 
 // The string at a position: a folder, a segment.

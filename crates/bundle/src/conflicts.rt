@@ -6,7 +6,7 @@ ghost use Prim.Native.Nat.{_+_, _*_, _<_, _≤_, _^_};
 ghost use Rattle.names.specs.Bytes.{member};
 ghost use Rattle.names.specs.Prefix.{directlyIn};
 ghost use Rattle.bundle.specs.Scan.{text};
-ghost use Rattle.bundle.specs.Decode.{each, far, after, afterRemapping};
+ghost use Rattle.bundle.specs.Decode.{each, far, after, afterFile, afterRemapping};
 ghost use Rattle.bundle.specs.Conflicts.{any, listed, located, named, sameRemapping, remapped, conflicts as Conflicts·conflicts, placedAt, placedRemappingAt};
 ghost use Rattle.bundle.specs.Lists.{skip, foldersFrom, filesFrom, before, remappingTold};
 use crate::Checked;
@@ -245,6 +245,20 @@ pub fn after_strings(s: &[u8], at: usize, n: usize) -> usize
     let mut i = 0;
     while i < n {
         a = after_string(s, a);
+        i += 1;
+    }
+    a
+}
+
+// Past n files.
+pub fn after_files(s: &[u8], at: usize, n: usize) -> usize
+    requires { ⌜ (at < 2 ^ 60) × (n < 1024) ⌝ }
+    ensures { λ r. ⌜ (r ≡ far (afterFile (now (s .entry))) n at) × (r ≤ at + n * 66000) ⌝ }
+{
+    let mut a = at;
+    let mut i = 0;
+    while i < n {
+        a = next_path(s, true, a);
         i += 1;
     }
     a

@@ -1,5 +1,5 @@
 -- Byte strings: words in ASCII, and equality as a test. Assumes nothing.
-use Prim.Native.Nat.{ℕ, zero, suc, _<_, _≤_, _-_, suc-le-suc}
+use Prim.Native.Nat.{ℕ, zero, suc, _<_, _-_, suc-le-suc}
 use native.Mathlib.Nat.{not-suc-le-zero, le-of-suc-le-suc}
 use Prim.Native.Char.{code}
 use Prim.Native.String.{String, [] as no-text, _∷_ as _then_}

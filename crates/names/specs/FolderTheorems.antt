@@ -1,17 +1,16 @@
 -- Folders and what lies directly in them. Assumes nothing.
-use Prim.Native.Nat.{ℕ, zero, suc, _+_, _≤_, _<_, suc-le-suc}
+use Prim.Native.Nat.{ℕ, suc, _≤_, _<_}
 use native.Mathlib.Omega.{arith}
 use mathlib.Core.Bool.{Bool, true, false, cond, _&&_}
-use mathlib.Core.Logic.{_⊎_, inl, inr, ⊎-elim}
 use mathlib.Core.Path.{_≡_, refl, sym, ap, _∙_}
-use mathlib.Core.List.{List, [], _∷_, _++_, append-nil, append-assoc}
+use mathlib.Core.List.{List, [], _∷_, _++_, append-assoc}
 use lib.Dec.{eqb, leb}
 use lib.ListN.{length, getD, take, drop, length-append}
 use lib.Seq.{take-append-seam}
 use borrow.Author.Tests.{eq-eqb, eqb-true, le-leb, leb-true}
-use Rattle.names.specs.Bytes.{ascii, slash, same, same-refl, same-eq, same-differs, different, all, and-left, and-right, false-true}
+use Rattle.names.specs.Bytes.{slash, same, same-refl, same-eq, different, all, and-left, and-right, false-true}
 use Rattle.names.specs.Path.{split, components, led, render, root, isComponent, wellFormed, isPath, component-limit}
-use Rattle.names.specs.Prefix.{begins, startsWith, depth, directlyIn, init, parent, stemOf, child, childFile}
+use Rattle.names.specs.Prefix.{begins, startsWith, depth, directlyIn, init, parent, stemOf, child}
 use Rattle.names.specs.Split.{split-one, split-join, init-snoc}
 use Rattle.names.specs.PathTheorems.{form, render-components, components-render}
 

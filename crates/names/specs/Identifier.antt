@@ -18,6 +18,7 @@ name-limit = 32
 abbrev pub between : ℕ → ℕ → ℕ → Bool
 between low high b = leb low b && leb b high
 
+-- a letter or `_`
 unfoldable pub letter : ℕ → Bool
 letter b = between 65 90 b || (between 97 122 b || eqb b 95)
 

@@ -1,13 +1,12 @@
 -- Names as values stand for their bytes, and unit names are names. Assumes nothing.
 use Prim.Native.Nat.{ℕ, zero, suc, _+_, _≤_, _<_, _/_, _%_}
-use native.Mathlib.Nat.{not-suc-le-zero}
 use native.Mathlib.Omega.{arith}
 use native.Mathlib.Decide.{decLt}
-use mathlib.Core.Bool.{Bool, true, false, cond, _&&_}
-use mathlib.Core.Path.{_≡_, refl, sym, ap, _∙_}
+use mathlib.Core.Bool.{Bool, true, false, cond}
+use mathlib.Core.Path.{_≡_, refl, ap}
 use mathlib.Core.List.{List, [], _∷_, _++_}
-use lib.Dec.{eqb, leb, ltb}
-use lib.ListN.{length, getD, length-append, List·getD-eq-default}
+use lib.Dec.{ltb}
+use lib.ListN.{length, getD, List·getD-eq-default}
 use borrow.Author.Tests.{le-leb}
 use Rattle.names.specs.Bytes.{ascii, same, same-eq, same-refl, both-ways, all, and-left, and-right}
 use Rattle.names.specs.Identifier.{isIdentifier, class, letter, digit, class-digit, inside, name-limit, identifier-short, identifier-bytes}

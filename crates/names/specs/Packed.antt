@@ -1,16 +1,16 @@
 -- A name as a value: its bytes packed into four words, big-endian, zero past the end. Two names without a zero byte, of at
 -- most 32 bytes, have the same words only where they are the same. Assumes nothing.
 use Prim.Native.Nat.{ℕ, zero, suc, _+_, _*_, _-_, _^_, _≤_, _<_}
-use native.Mathlib.Nat.{not-suc-le-zero, add-zero, le-refl}
+use native.Mathlib.Nat.{not-suc-le-zero, le-refl}
 use native.Mathlib.Omega.{arith}
 use native.Mathlib.Numerals.{add-one}
 use native.Mathlib.Decide.{decLt, decLe}
-use mathlib.Core.Path.{_≡_, refl, ap, sym, _∙_}
-use mathlib.Core.List.{List, [], _∷_}
-use mathlib.Core.Bool.{Bool, true, false, _&&_, and-false}
-use borrow.Author.Tests.{eq-eqb, ne-eqb, eqb-true}
+use mathlib.Core.Path.{_≡_, refl, ap, sym}
+use mathlib.Core.List.{List}
+use mathlib.Core.Bool.{Bool, true, _&&_}
+use borrow.Author.Tests.{eq-eqb, eqb-true}
 use Rattle.names.specs.Bytes.{and-left, and-right}
-use lib.Dec.{lit≤, lit<, eqb}
+use lib.Dec.{lit≤, eqb}
 use lib.ListN.{getD, length, List·getD-eq-default}
 use lib.Seq.{ext-getD}
 use Rattle.names.specs.declared.Name.{Name}

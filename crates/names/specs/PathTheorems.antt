@@ -1,20 +1,19 @@
 -- Paths as bytes and as lists of components, and what lies below what. Assumes nothing.
-use Prim.Native.Nat.{ℕ, zero, suc, _+_, _≤_, _<_, suc-le-suc}
-use native.Mathlib.Nat.{not-suc-le-zero, le-of-suc-le-suc}
+use Prim.Native.Nat.{ℕ, _≤_, _<_}
 use native.Mathlib.Omega.{arith}
 use mathlib.Core.Bool.{Bool, true, false, cond, _&&_, not}
 use mathlib.Core.Logic.{_⊎_, inl, inr, ⊎-elim}
-use mathlib.Core.Path.{_≡_, refl, sym, ap, subst, _∙_}
-use mathlib.Core.List.{List, [], _∷_, _++_, append-nil, append-assoc}
+use mathlib.Core.Path.{_≡_, refl, sym, ap, _∙_}
+use mathlib.Core.List.{List, [], _∷_, _++_, append-nil}
 use lib.Dec.{eqb, leb}
 use lib.ListN.{length, getD, take, drop, length-append, length-drop}
 use borrow.Author.Tests.{eq-eqb, ne-eqb, eqb-true, le-leb, leb-true}
-use Rattle.names.specs.Bytes.{ascii, slash, same, same-refl, same-eq, same-differs, different, not-true, all, all-each, and-left, and-right, false-true}
+use Rattle.names.specs.Bytes.{slash, same, same-refl, same-eq, same-differs, different, not-true, all, all-each, and-left, and-right, false-true}
 use Rattle.names.specs.Identifier.{between}
 use Rattle.names.specs.Path.{split, components, led, render, root, printable, isComponent, wellFormed, isPath, component-limit, path-limit}
-use Rattle.names.specs.Prefix.{begins, startsWith, depth, directlyIn, init, parent, stemOf, child, childFile}
+use Rattle.names.specs.Prefix.{begins, startsWith}
 use Rattle.names.specs.Pieces.{leads, begins-leads, split-is}
-use Rattle.names.specs.Split.{split-one, split-join, render-split, init-snoc}
+use Rattle.names.specs.Split.{split-one, split-join, render-split}
 
 -- THE FORM, TAKEN APART
 

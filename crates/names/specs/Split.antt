@@ -1,6 +1,5 @@
 -- Laws of the pieces between slashes: joined again, cut in two, counted. Assumes nothing.
-use Prim.Native.Nat.{ℕ, zero, suc, _+_, _-_, _≤_, _<_, suc-le-suc}
-use native.Mathlib.Nat.{not-suc-le-zero, le-of-suc-le-suc}
+use Prim.Native.Nat.{ℕ, suc, _+_, _≤_, _<_, suc-le-suc}
 use native.Mathlib.Omega.{arith}
 use native.Mathlib.Numerals.{add-one}
 use mathlib.Core.Bool.{Bool, true, false, cond}
@@ -13,7 +12,7 @@ use borrow.Author.Tests.{eq-eqb, ne-eqb, eqb-true}
 use Rattle.names.specs.Bytes.{slash}
 use Rattle.names.specs.Path.{split, onto, led, render}
 use Rattle.names.specs.Prefix.{init}
-use Rattle.names.specs.Pieces.{firstSlash, later, split-is}
+use Rattle.names.specs.Pieces.{split-is}
 
 -- the pieces, each led by a slash, are the bytes led by a slash
 pub led-split : (s : List ℕ) → led (split s) ≡ slash ∷ s

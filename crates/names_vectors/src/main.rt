@@ -35,30 +35,6 @@ fn digit(b: u8) -> u8
     0
 }
 
-// Where the first byte `stop` from `at` on is, or the end.
-fn end_of(s: &[u8], at: usize, stop: u8) -> usize
-    ensures { λ r. ⌜ at ≤ r ⌝ }
-{
-    let mut e = at;
-    while e < s.len() {
-        if s[e] == stop {
-            return e;
-        }
-        e += 1;
-    }
-    e
-}
-
-// The bytes from a to e, or none where these are no such places.
-fn part(s: &[u8], a: usize, e: usize) -> &[u8] {
-    if e <= s.len() {
-        if a <= e {
-            return &s[a..e];
-        }
-    }
-    &s[..0]
-}
-
 // The bytes that a word spells in hexadecimal, as many as there is room for.
 fn unhex(s: &[u8], out: &mut [u8; 512]) -> usize
     ensures { λ r. ⌜ r ≤ 512 ⌝ }
@@ -78,14 +54,14 @@ fn unhex(s: &[u8], out: &mut [u8; 512]) -> usize
 
 // The first n bytes, or none where there are not so many.
 fn head(a: &[u8; 512], n: usize) -> &[u8] {
-    part(a, 0, n)
+    lines::part(a, 0, n)
 }
 
 fn read_operand(s: &[u8], at: usize, out: &mut [u8; 512]) -> Operand
     ensures { λ r. ⌜ (r .len ≤ 512) × (at ≤ r .next) ⌝ }
 {
-    let e = end_of(s, at, 32);
-    let n = unhex(part(s, at, e), out);
+    let e = lines::end_of(s, at, 32);
+    let n = unhex(lines::part(s, at, e), out);
     if e < s.len() {
         return Operand {
             len: n,
@@ -184,9 +160,9 @@ fn compare(word: &[u8], a: &[u8], b: &[u8], c: &[u8]) {
 
 // Answers the line at `at`, which ends at `end`.
 fn line(s: &[u8], at: usize, end: usize) {
-    let text = part(s, at, end);
-    let e = end_of(text, 0, 32);
-    let word = part(text, 0, e);
+    let text = lines::part(s, at, end);
+    let e = lines::end_of(text, 0, 32);
+    let word = lines::part(text, 0, e);
     let mut first = [0u8; 512];
     let mut second = [0u8; 512];
     let mut third = [0u8; 512];
@@ -194,7 +170,7 @@ fn line(s: &[u8], at: usize, end: usize) {
         return;
     }
     if names::same_bytes(word, b"unit") {
-        tell_unit(number(part(text, e + 1, text.len())));
+        tell_unit(number(lines::part(text, e + 1, text.len())));
         return;
     }
     let a = read_operand(text, e + 1, &mut first);
@@ -212,7 +188,7 @@ fn line(s: &[u8], at: usize, end: usize) {
 fn answer_all(s: &[u8]) {
     let mut at = 0;
     while at < s.len() {
-        let e = end_of(s, at, 10);
+        let e = lines::end_of(s, at, 10);
         line(s, at, e);
         if s.len() <= e {
             return;

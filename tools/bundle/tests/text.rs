@@ -63,7 +63,7 @@ fn damaged_text() {
             }
             let at = rng.below(text.len());
             match rng.below(5) {
-                0 => text[at] = rng.next() as u8,
+                0 => text[at] = rng.next_u64() as u8,
                 1 => text[at] = *rng.pick(stock),
                 2 => text.insert(at, *rng.pick(stock)),
                 3 => drop(text.drain(at..(at + 4).min(text.len()))),
@@ -109,7 +109,7 @@ fn random_text() {
             .collect();
         try_text(text.as_bytes());
         try_text(format!("bundle 1 root / file /m {{ {text}").as_bytes());
-        let bytes: Vec<u8> = (0..rng.below(50)).map(|_| rng.next() as u8).collect();
+        let bytes: Vec<u8> = (0..rng.below(50)).map(|_| rng.next_u64() as u8).collect();
         try_text(&bytes);
     }
 }

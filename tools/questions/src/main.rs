@@ -84,9 +84,26 @@ fn edges() -> Vec<String> {
     }
     for last in [30, 31, 32] {
         let long = [b"/".as_slice(), &[b'y'; 31]].concat().repeat(7);
-        lines.push(format!("path {}", hex(&[&long[..], b"/", &vec![b'z'; last]].concat())));
+        lines.push(format!(
+            "path {}",
+            hex(&[&long[..], b"/", &vec![b'z'; last]].concat())
+        ));
     }
-    for id in [0, 1, 9, 10, 63, 64, 99, 100, 511, 512, 65_535, 4_294_967_296u64, 18_446_744_073_709_551_609] {
+    for id in [
+        0,
+        1,
+        9,
+        10,
+        63,
+        64,
+        99,
+        100,
+        511,
+        512,
+        65_535,
+        4_294_967_296u64,
+        18_446_744_073_709_551_609,
+    ] {
         lines.push(format!("unit {id}"));
     }
     lines
@@ -94,31 +111,52 @@ fn edges() -> Vec<String> {
 
 fn drawn(rng: &mut Rng) -> String {
     match rng.below(9) {
-        0 => format!("path {}", hex(&{ let p = path(rng); damaged(rng, p) })),
-        1 => format!("identifier {}", hex(&{ let n = name(rng); damaged(rng, n) })),
+        0 => format!(
+            "path {}",
+            hex(&{
+                let p = path(rng);
+                damaged(rng, p)
+            })
+        ),
+        1 => format!(
+            "identifier {}",
+            hex(&{
+                let n = name(rng);
+                damaged(rng, n)
+            })
+        ),
         2 | 3 => {
             let below = path(rng);
             let cut = rng.between(1, below.len());
-            let prefix = Some(below[..cut].to_vec()).filter(|prefix| is_path(prefix) && rng.chance(60));
+            let prefix =
+                Some(below[..cut].to_vec()).filter(|prefix| is_path(prefix) && rng.chance(60));
             let prefix = prefix.unwrap_or_else(|| path(rng));
             format!("prefix {} {}", hex(&below), hex(&prefix))
         }
         4 => {
             let folder = path(rng);
-            let inside = if rng.chance(60) { child(&folder, &name(rng)) } else { path(rng) };
+            let inside = if rng.chance(60) {
+                child(&folder, &name(rng))
+            } else {
+                path(rng)
+            };
             format!("in {} {}", hex(&inside), hex(&folder))
         }
         5 => format!("parent {}", hex(&path(rng))),
         6 | 7 => {
             let (folder, segment) = (path(rng), name(rng));
-            let (word, end) = if rng.chance(50) { ("child", "") } else { ("simf", ".simf") };
+            let (word, end) = if rng.chance(50) {
+                ("child", "")
+            } else {
+                ("simf", ".simf")
+            };
             let mut found = [&child(&folder, &segment)[..], end.as_bytes()].concat();
             if rng.chance(40) {
                 found = damaged(rng, found);
             }
             format!("{word} {} {} {}", hex(&found), hex(&folder), hex(&segment))
         }
-        _ => format!("unit {}", rng.next() >> rng.between(1, 63)),
+        _ => format!("unit {}", rng.next_u64() >> rng.between(1, 63)),
     }
 }
 

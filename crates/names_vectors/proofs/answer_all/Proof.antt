@@ -1,7 +1,6 @@
 -- `names_vectors::answer_all` is safe and ends: each line ends at or after its start. Assumes nothing.
 use borrow.Author.Needs.{needs}
-use Prim.Native.Nat.{ℕ, _≤_, _<_, _-_, _+_}
-use native.Mathlib.Omega.{arith}
+use Prim.Native.Nat.{_≤_, _-_}
 use lib.ListN.{length}
 use Rattle.names_vectors.proofs.answer_all.Statement.{statement}
 use Rattle.names_vectors.proofs.answer_all.Tie as tie

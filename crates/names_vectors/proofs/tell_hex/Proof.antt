@@ -1,7 +1,6 @@
 -- `names_vectors::tell_hex` is safe and ends. Assumes nothing.
 use borrow.Author.Needs.{needs}
-use Prim.Native.Nat.{ℕ, _≤_, _<_, _-_, _+_}
-use native.Mathlib.Omega.{arith}
+use Prim.Native.Nat.{_≤_, _-_}
 use lib.ListN.{length}
 use Rattle.names_vectors.proofs.tell_hex.Statement.{statement}
 use Rattle.names_vectors.proofs.tell_hex.Tie as tie

@@ -1,7 +1,6 @@
 -- `names_vectors::unhex` meets its contract. Assumes nothing.
 use borrow.Author.Needs.{needs}
-use Prim.Native.Nat.{ℕ, _≤_, _<_, _-_, _+_}
-use native.Mathlib.Omega.{arith}
+use Prim.Native.Nat.{_≤_, _-_}
 use lib.ListN.{length}
 use Rattle.names_vectors.proofs.unhex.Statement.{statement}
 use Rattle.names_vectors.proofs.unhex.Tie as tie

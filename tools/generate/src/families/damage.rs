@@ -35,7 +35,7 @@ pub fn changed(rng: &mut Rng) -> Vec<u8> {
             1 => byte.wrapping_sub(1),
             2 => *byte ^ 1 << rng.below(8),
             3 => *rng.pick(b"abfgmTU_/\x00\x01\x02"),
-            _ => rng.next() as u8,
+            _ => rng.next_u64() as u8,
         };
     }
     bytes
@@ -95,7 +95,7 @@ pub fn lengths(rng: &mut Rng) -> Vec<u8> {
     let mut bytes = encode(any_project(rng));
     let bundle = Bundle::decode(&bytes).expect("a project is well formed");
     let off = |rng: &mut Rng| match rng.below(4) {
-        0 => rng.next() as i16,
+        0 => rng.next_u64() as i16,
         1 => -1,
         _ => 1,
     };
@@ -205,7 +205,7 @@ pub fn spliced(rng: &mut Rng) -> Vec<u8> {
 pub fn noise(rng: &mut Rng) -> Vec<u8> {
     let mut bytes: Vec<u8> = (0..rng.below(60))
         .map(|_| match rng.below(3) {
-            0 => rng.next() as u8,
+            0 => rng.next_u64() as u8,
             1 => rng.below(8) as u8,
             _ => *rng.pick(b"/arm"),
         })

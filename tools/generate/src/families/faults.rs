@@ -243,11 +243,13 @@ fn odd_name(rng: &mut Rng) -> Vec<u8> {
         1 => b"9a".to_vec(),
         2 => vec![b'x'; rng.between(33, 255)],
         3 => (0..rng.between(1, 6))
-            .map(|_| rng.next() as u8 | 0x80)
+            .map(|_| rng.next_u64() as u8 | 0x80)
             .collect(),
         4 => b"a-b".to_vec(),
         5 => "\u{e9}\u{20ac}".as_bytes().to_vec(),
-        6 => (0..rng.between(1, 40)).map(|_| rng.next() as u8).collect(),
+        6 => (0..rng.between(1, 40))
+            .map(|_| rng.next_u64() as u8)
+            .collect(),
         _ => {
             let keyword = rng.word(&forms::KEYWORDS);
             let keyword = if keyword == b"crate" {
@@ -276,7 +278,7 @@ fn odd_path(rng: &mut Rng, path: &[u8]) -> Vec<u8> {
         10 => path.push(0x7f),
         _ => {
             let at = rng.below(path.len());
-            path[at] = rng.next() as u8;
+            path[at] = rng.next_u64() as u8;
         }
     }
     path
@@ -350,7 +352,7 @@ pub fn kinds(rng: &mut Rng) -> Vec<u8> {
         bytes[at] = match rng.below(4) {
             0 => 0,
             1 => 7,
-            2 => rng.next() as u8,
+            2 => rng.next_u64() as u8,
             _ => 2,
         };
     }

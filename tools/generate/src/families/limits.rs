@@ -175,7 +175,7 @@ pub fn counts(rng: &mut Rng) -> Vec<u8> {
 /// Lengths of components, paths and names; components of a path.
 pub fn lengths(rng: &mut Rng) -> Vec<u8> {
     let mut bundle = two_files(vec![empty_use(), main()], vec![function(true, b"f")]);
-    let component = vec![b'c'; limits::NAME];
+    let component = [b'c'; limits::NAME];
     match rng.below(3) {
         0 => {
             let name = vec![b'n'; edge(rng, limits::NAME)];
@@ -281,7 +281,7 @@ pub fn total(rng: &mut Rng) -> Vec<u8> {
     let mut bytes = encode(bundle);
     if rng.chance(40) {
         for _ in 0..rng.between(1, 3) {
-            bytes.push(rng.next() as u8);
+            bytes.push(rng.next_u64() as u8);
         }
     }
     bytes

@@ -1,11 +1,7 @@
+-- `bundle::access::element_alias` meets its contract, way by way. Assumes nothing.
 use borrow.Author.Needs.{needs}
-use mathlib.Core.Path.{_≡_, refl, sym, ap, _∙_}
-use native.Mathlib.Omega.{arith}
-use Prim.Native.Nat.{ℕ, suc, _+_, _-_, _*_, _≤_, _<_}
-use Rattle.bundle.specs.Scan.{byte, text}
-use Rattle.bundle.specs.Decode.{each, far, after, afterElement, afterRemapping, elementAt, remappingAt, fileAt, decode}
-use Rattle.bundle.specs.ListLaws.{far-thrice}
-use Rattle.bundle.specs.Access.{first-kind, first-visibility, first-rest, first-name, first-segments, first-elements, first-inner}
+use mathlib.Core.Path.{_∙_}
+use Rattle.bundle.specs.Decode.{elementAt}
 use Rattle.bundle.proofs.access.element_alias.Statement.{statement}
 use Rattle.bundle.proofs.access.element_alias.Tie as tie
 
@@ -17,7 +13,7 @@ text-at-requires c κs = search needs
 
 returns : tie.Need-returns
 unfolding elementAt
-returns c = (c .text-at) .ensures ∙ rw ((c .before .after-string) .ensures .0)
+returns c = c .text-at .ensures ∙ rw (c .before .after-string .ensures .0)
 
 pub element-alias-spec : {M : Type 1} → statement M
 element-alias-spec = tie.close (tie.spec after-string-requires text-at-requires returns)

@@ -1,11 +1,6 @@
+-- `bundle::access::element_name` meets its contract, way by way. Assumes nothing.
 use borrow.Author.Needs.{needs}
-use mathlib.Core.Path.{_≡_, refl, sym, ap, _∙_}
-use native.Mathlib.Omega.{arith}
-use Prim.Native.Nat.{ℕ, suc, _+_, _-_, _*_, _≤_, _<_}
-use Rattle.bundle.specs.Scan.{byte, text}
-use Rattle.bundle.specs.Decode.{each, far, after, afterElement, afterRemapping, elementAt, remappingAt, fileAt, decode}
-use Rattle.bundle.specs.ListLaws.{far-thrice}
-use Rattle.bundle.specs.Access.{first-kind, first-visibility, first-rest, first-name, first-segments, first-elements, first-inner}
+use Rattle.bundle.specs.Decode.{elementAt}
 use Rattle.bundle.proofs.access.element_name.Statement.{statement}
 use Rattle.bundle.proofs.access.element_name.Tie as tie
 
@@ -14,7 +9,7 @@ text-at-requires c κs = search needs
 
 returns : tie.Need-returns
 unfolding elementAt
-returns c = (c .text-at) .ensures
+returns c = c .text-at .ensures
 
 pub element-name-spec : {M : Type 1} → statement M
 element-name-spec = tie.close (tie.spec text-at-requires returns)

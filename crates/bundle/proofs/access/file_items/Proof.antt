@@ -1,11 +1,7 @@
+-- `bundle::access::file_items` meets its contract, way by way. Assumes nothing.
 use borrow.Author.Needs.{needs}
-use mathlib.Core.Path.{_≡_, refl, sym, ap, _∙_}
 use native.Mathlib.Omega.{arith}
-use Prim.Native.Nat.{ℕ, suc, _+_, _-_, _*_, _≤_, _<_}
-use Rattle.bundle.specs.Scan.{byte, text}
-use Rattle.bundle.specs.Decode.{each, far, after, afterElement, afterRemapping, elementAt, remappingAt, fileAt, decode}
-use Rattle.bundle.specs.ListLaws.{far-thrice}
-use Rattle.bundle.specs.Access.{first-kind, first-visibility, first-rest, first-name, first-segments, first-elements, first-inner}
+use Rattle.bundle.specs.Decode.{fileAt}
 use Rattle.bundle.proofs.access.file_items.Statement.{statement}
 use Rattle.bundle.proofs.access.file_items.Tie as tie
 
@@ -20,7 +16,7 @@ add-t5 c = search needs
 
 returns : tie.Need-returns
 unfolding fileAt
-returns c = (rw ((c .after-length) .ensures .0, (c .before .after-string) .ensures .0), omega arith)
+returns c = (rw (c .after-length .ensures .0, c .before .after-string .ensures .0), omega arith)
 
 pub file-items-spec : {M : Type 1} → statement M
 file-items-spec = tie.close (tie.spec after-string-requires after-length-requires add-t5 returns)

@@ -1,11 +1,8 @@
+-- `bundle::access::files_at` meets its contract, way by way. Assumes nothing.
 use borrow.Author.Needs.{needs}
-use mathlib.Core.Path.{_≡_, refl, sym, ap, _∙_}
+use mathlib.Core.Path.{_∙_}
 use native.Mathlib.Omega.{arith}
-use Prim.Native.Nat.{ℕ, suc, _+_, _-_, _*_, _≤_, _<_}
-use Rattle.bundle.specs.Scan.{byte, text}
-use Rattle.bundle.specs.Decode.{each, far, after, afterElement, afterRemapping, elementAt, remappingAt, fileAt, decode}
 use Rattle.bundle.specs.ListLaws.{far-thrice}
-use Rattle.bundle.specs.Access.{first-kind, first-visibility, first-rest, first-name, first-segments, first-elements, first-inner}
 use Rattle.bundle.proofs.access.files_at.Statement.{statement}
 use Rattle.bundle.proofs.access.files_at.Tie as tie
 
@@ -25,7 +22,11 @@ after-strings-requires : tie.Need-after-strings-requires
 after-strings-requires c κs = search needs
 
 returns : tie.Need-returns
-returns c = ((c .after-strings) .ensures .0 ∙ far-thrice ((c .before .before .before .before) .args .s .now) _ _ ∙ rw ((c .before .byte-at) .ensures .0, (c .before .before .remappings-at) .ensures .0), omega arith)
+returns c =
+    let start' = c .before .before .before .before in
+    let remappings-at' = c .before .before .remappings-at in
+    let byte-at' = c .before .byte-at in
+    (c .after-strings .ensures .0 ∙ far-thrice (start' .args .s .now) _ _ ∙ rw (byte-at' .ensures .0, remappings-at' .ensures .0), omega arith)
 
 pub files-at-spec : {M : Type 1} → statement M
 files-at-spec =

@@ -1,11 +1,7 @@
+-- `bundle::access::folders` meets its contract, way by way. Assumes nothing.
 use borrow.Author.Needs.{needs}
-use mathlib.Core.Path.{_≡_, refl, sym, ap, _∙_}
 use native.Mathlib.Omega.{arith}
-use Prim.Native.Nat.{ℕ, suc, _+_, _-_, _*_, _≤_, _<_}
-use Rattle.bundle.specs.Scan.{byte, text}
-use Rattle.bundle.specs.Decode.{each, far, after, afterElement, afterRemapping, elementAt, remappingAt, fileAt, decode}
-use Rattle.bundle.specs.ListLaws.{far-thrice}
-use Rattle.bundle.specs.Access.{first-kind, first-visibility, first-rest, first-name, first-segments, first-elements, first-inner}
+use Rattle.bundle.specs.Decode.{decode}
 use Rattle.bundle.proofs.access.folders.Statement.{statement}
 use Rattle.bundle.proofs.access.folders.Tie as tie
 
@@ -20,7 +16,7 @@ add-t4 c = search needs
 
 returns : tie.Need-returns
 unfolding decode
-returns c = (rw ((c .byte-at) .ensures .0, (c .before .folders-at) .ensures .0), omega arith)
+returns c = (rw (c .byte-at .ensures .0, c .before .folders-at .ensures .0), omega arith)
 
 pub folders-spec : {M : Type 1} → statement M
 folders-spec = tie.close (tie.spec folders-at-requires byte-at-requires add-t4 returns)

@@ -1,11 +1,7 @@
+-- `bundle::access::item_kind` meets its contract, way by way. Assumes nothing.
 use borrow.Author.Needs.{needs}
-use mathlib.Core.Path.{_≡_, refl, sym, ap, _∙_}
-use native.Mathlib.Omega.{arith}
-use Prim.Native.Nat.{ℕ, suc, _+_, _-_, _*_, _≤_, _<_}
-use Rattle.bundle.specs.Scan.{byte, text}
-use Rattle.bundle.specs.Decode.{each, far, after, afterElement, afterRemapping, elementAt, remappingAt, fileAt, decode}
-use Rattle.bundle.specs.ListLaws.{far-thrice}
-use Rattle.bundle.specs.Access.{first-kind, first-visibility, first-rest, first-name, first-segments, first-elements, first-inner}
+use mathlib.Core.Path.{sym, _∙_}
+use Rattle.bundle.specs.Access.{first-kind}
 use Rattle.bundle.proofs.access.item_kind.Statement.{statement}
 use Rattle.bundle.proofs.access.item_kind.Tie as tie
 
@@ -16,7 +12,7 @@ byte-at-requires : tie.Need-byte-at-requires
 byte-at-requires c κs = search needs
 
 returns : tie.Need-returns
-returns c = λ depth end h. (c .byte-at) .ensures .0 ∙ sym (first-kind depth ((c .before .before) .args .s .now) end ((c .before .before) .args .at) h)
+returns c = λ depth end h. c .byte-at .ensures .0 ∙ sym (first-kind depth (c .before .before .args .s .now) end (c .before .before .args .at) h)
 
 pub item-kind-spec : {M : Type 1} → statement M
 item-kind-spec = tie.close (tie.spec add-byte-at byte-at-requires returns)

@@ -1,11 +1,7 @@
+-- `bundle::access::next_element` meets its contract, way by way. Assumes nothing.
 use borrow.Author.Needs.{needs}
-use mathlib.Core.Path.{_≡_, refl, sym, ap, _∙_}
+use mathlib.Core.Path.{_∙_}
 use native.Mathlib.Omega.{arith}
-use Prim.Native.Nat.{ℕ, suc, _+_, _-_, _*_, _≤_, _<_}
-use Rattle.bundle.specs.Scan.{byte, text}
-use Rattle.bundle.specs.Decode.{each, far, after, afterElement, afterRemapping, elementAt, remappingAt, fileAt, decode}
-use Rattle.bundle.specs.ListLaws.{far-thrice}
-use Rattle.bundle.specs.Access.{first-kind, first-visibility, first-rest, first-name, first-segments, first-elements, first-inner}
 use Rattle.bundle.proofs.access.next_element.Statement.{statement}
 use Rattle.bundle.proofs.access.next_element.Tie as tie
 
@@ -16,7 +12,7 @@ after-string-requires-2 : tie.Need-after-string-requires-2
 after-string-requires-2 c κs = search needs
 
 returns : tie.Need-returns
-returns c = ((c .after-string2) .ensures .0 ∙ rw ((c .before .after-string) .ensures .0), omega arith)
+returns c = (c .after-string2 .ensures .0 ∙ rw (c .before .after-string .ensures .0), omega arith)
 
 pub next-element-spec : {M : Type 1} → statement M
 next-element-spec = tie.close (tie.spec after-string-requires after-string-requires-2 returns)

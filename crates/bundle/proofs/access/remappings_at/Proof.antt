@@ -1,11 +1,7 @@
+-- `bundle::access::remappings_at` meets its contract, way by way. Assumes nothing.
 use borrow.Author.Needs.{needs}
-use mathlib.Core.Path.{_≡_, refl, sym, ap, _∙_}
+use mathlib.Core.Path.{_∙_}
 use native.Mathlib.Omega.{arith}
-use Prim.Native.Nat.{ℕ, suc, _+_, _-_, _*_, _≤_, _<_}
-use Rattle.bundle.specs.Scan.{byte, text}
-use Rattle.bundle.specs.Decode.{each, far, after, afterElement, afterRemapping, elementAt, remappingAt, fileAt, decode}
-use Rattle.bundle.specs.ListLaws.{far-thrice}
-use Rattle.bundle.specs.Access.{first-kind, first-visibility, first-rest, first-name, first-segments, first-elements, first-inner}
 use Rattle.bundle.proofs.access.remappings_at.Statement.{statement}
 use Rattle.bundle.proofs.access.remappings_at.Tie as tie
 
@@ -22,7 +18,7 @@ after-strings-requires : tie.Need-after-strings-requires
 after-strings-requires c κs = search needs
 
 returns : tie.Need-returns
-returns c = ((c .after-strings) .ensures .0 ∙ rw ((c .before .byte-at) .ensures .0, (c .before .before .folders-at) .ensures .0), omega arith)
+returns c = (c .after-strings .ensures .0 ∙ rw (c .before .byte-at .ensures .0, c .before .before .folders-at .ensures .0), omega arith)
 
 pub remappings-at-spec : {M : Type 1} → statement M
 remappings-at-spec =

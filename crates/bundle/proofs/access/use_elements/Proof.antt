@@ -1,11 +1,11 @@
+-- `bundle::access::use_elements` meets its contract, way by way. Assumes nothing.
 use borrow.Author.Needs.{needs}
-use mathlib.Core.Path.{_≡_, refl, sym, ap, _∙_}
+use mathlib.Core.Path.{_≡_, _∙_}
 use native.Mathlib.Omega.{arith}
-use Prim.Native.Nat.{ℕ, suc, _+_, _-_, _*_, _≤_, _<_}
-use Rattle.bundle.specs.Scan.{byte, text}
-use Rattle.bundle.specs.Decode.{each, far, after, afterElement, afterRemapping, elementAt, remappingAt, fileAt, decode}
-use Rattle.bundle.specs.ListLaws.{far-thrice}
-use Rattle.bundle.specs.Access.{first-kind, first-visibility, first-rest, first-name, first-segments, first-elements, first-inner}
+use Prim.Native.Nat.{_+_}
+use Rattle.bundle.specs.Scan.{byte}
+use Rattle.bundle.specs.Decode.{far, after}
+use Rattle.bundle.specs.Access.{first-elements}
 use Rattle.bundle.proofs.access.use_elements.Statement.{statement}
 use Rattle.bundle.proofs.access.use_elements.Tie as tie
 
@@ -28,7 +28,13 @@ add-t6 : tie.Need-add-t6
 add-t6 c = search needs
 
 returns : tie.Need-returns
-returns c = let z : ((c .before .before .before .before) .args .at) + 5 ≡ ((c .before .before .before .before) .args .at) + 4 + 1 = omega arith in let e : (c .before .after-strings) .result ≡ far (after ((c .before .before .before .before) .args .s .now)) (byte ((c .before .before .before .before) .args .s .now) (((c .before .before .before .before) .args .at) + 4)) (((c .before .before .before .before) .args .at) + 4 + 1) = (c .before .after-strings) .ensures .0 ∙ rw (z, (c .before .before .byte-at) .ensures .0) in (λ depth end h k. rw (first-elements depth ((c .before .before .before .before) .args .s .now) end ((c .before .before .before .before) .args .at) h k) (rw ((c .byte-at2) .ensures .0, e)), omega arith)
+returns c =
+    let start' = c .before .before .before .before in
+    let byte-at' = c .before .before .byte-at in
+    let after-strings' = c .before .after-strings in
+    let z : (start' .args .at) + 5 ≡ (start' .args .at) + 4 + 1 = omega arith in
+    let e : after-strings' .result ≡ far (after (start' .args .s .now)) (byte (start' .args .s .now) ((start' .args .at) + 4)) ((start' .args .at) + 4 + 1) = after-strings' .ensures .0 ∙ rw (z, byte-at' .ensures .0) in
+    (λ depth end h k. rw (first-elements depth (start' .args .s .now) end (start' .args .at) h k) (rw (c .byte-at2 .ensures .0, e)), omega arith)
 
 pub use-elements-spec : {M : Type 1} → statement M
 use-elements-spec =

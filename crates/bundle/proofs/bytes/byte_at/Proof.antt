@@ -1,9 +1,8 @@
+-- `bundle::bytes::byte_at` meets its contract, way by way. Assumes nothing.
 use borrow.Author.Needs.{needs}
-use mathlib.Core.Path.{_≡_, refl, sym, ap, _∙_}
+use mathlib.Core.Path.{sym}
 use native.Mathlib.Omega.{arith}
-use Prim.Native.Nat.{ℕ, _+_, _-_, _≤_, _<_}
-use lib.ListN.{length, getD, take, drop, List·getD-eq-default, length-drop}
-use lib.Seq.{take-all}
+use lib.ListN.{List·getD-eq-default}
 use Rattle.bundle.proofs.bytes.byte_at.Statement.{statement}
 use Rattle.bundle.proofs.bytes.byte_at.Tie as tie
 
@@ -17,7 +16,7 @@ returns : tie.Need-returns
 returns c = search needs
 
 returns-2 : tie.Need-returns-2
-returns-2 c = let z = List·getD-eq-default ((c .before .before) .args .s .now) 0 {n = (c .before .before) .args .at} ((c .if1) .left) in (sym z, omega arith)
+returns-2 c = let z = List·getD-eq-default (c .before .before .args .s .now) 0 {n = c .before .before .args .at} (c .if1 .left) in (sym z, omega arith)
 
 pub byte-at-spec : {M : Type 1} → statement M
 byte-at-spec = tie.close (tie.spec shared-slice-read-wide wide-requires returns returns-2)

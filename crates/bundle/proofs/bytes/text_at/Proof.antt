@@ -1,9 +1,6 @@
+-- `bundle::bytes::text_at` meets its contract, way by way. Assumes nothing.
 use borrow.Author.Needs.{needs}
-use mathlib.Core.Path.{_≡_, refl, sym, ap, _∙_}
-use native.Mathlib.Omega.{arith}
-use Prim.Native.Nat.{ℕ, _+_, _-_, _≤_, _<_}
-use lib.ListN.{length, getD, take, drop, List·getD-eq-default, length-drop}
-use lib.Seq.{take-all}
+use lib.ListN.{List·getD-eq-default}
 use Rattle.bundle.specs.Steps.{text-cut, text-whole}
 use Rattle.bundle.proofs.bytes.text_at.Statement.{statement}
 use Rattle.bundle.proofs.bytes.text_at.Tie as tie
@@ -12,7 +9,7 @@ slice-aggregate-result : tie.Need-slice-aggregate-result
 slice-aggregate-result c = search needs
 
 returns : tie.Need-returns
-returns c = let z = List·getD-eq-default ((c .before .before .before) .args .s .now) 0 {n = (c .before .before .before) .args .at} ((c .before .if1) .taken) in rw z
+returns c = let z = List·getD-eq-default (c .before .before .before .args .s .now) 0 {n = c .before .before .before .args .at} (c .before .if1 .taken) in rw z
 
 shared-slice-read-wide : tie.Need-shared-slice-read-wide
 shared-slice-read-wide c = search needs
@@ -36,7 +33,11 @@ part-result-end : tie.Need-part-result-end
 part-result-end c = search needs
 
 returns-2 : tie.Need-returns-2
-returns-2 c = text-cut ((c .before .before .before .before .before .before) .args .s .now) ((c .before .before .before .before .before .before) .args .at) _ ((c .before .before .wide) .ensures .0) ((c .before .if2) .taken)
+returns-2 c =
+    let start' = c .before .before .before .before .before .before in
+    let wide' = c .before .before .wide in
+    let if2' = c .before .if2 in
+    text-cut (start' .args .s .now) (start' .args .at) _ (wide' .ensures .0) (if2' .taken)
 
 add-e : tie.Need-add-e
 add-e c = search needs
@@ -51,7 +52,10 @@ part-result-end-2 : tie.Need-part-result-end-2
 part-result-end-2 c = search needs
 
 returns-3 : tie.Need-returns-3
-returns-3 c = text-whole ((c .before .before .before .before .before .before) .args .s .now) ((c .before .before .before .before .before .before) .args .at) _ ((c .before .before .wide) .ensures .0)
+returns-3 c =
+    let start' = c .before .before .before .before .before .before in
+    let wide' = c .before .before .wide in
+    text-whole (start' .args .s .now) (start' .args .at) _ (wide' .ensures .0)
 
 pub text-at-spec : {M : Type 1} → statement M
 text-at-spec =

@@ -1,19 +1,14 @@
+-- `bundle::conflicts::among` meets its contract, way by way. Assumes nothing.
 use borrow.Author.Needs.{needs}
-use mathlib.Core.Path.{_≡_, refl, sym, ap, _∙_}
-use mathlib.Core.Bool.{Bool, true, false}
-use mathlib.Core.List.{List, [], _∷_, _++_, append-nil}
+use mathlib.Core.Path.{_≡_, sym, _∙_}
 use native.Mathlib.Omega.{arith}
-use Prim.Native.Nat.{ℕ, suc, _+_, _-_, _*_, _≤_, _<_}
-use lib.ListN.{length, getD}
-use borrow.Author.Tests.{lt-ltb, le-ltb, le-leb, lt-leb, eq-eqb, ne-eqb, not-true, not-false}
+use Prim.Native.Nat.{_+_, _-_, _*_, _≤_}
 use Rattle.names.specs.Bytes.{same, member}
-use Rattle.names.specs.Path.{root}
-use Rattle.names.specs.Prefix.{directlyIn}
-use Rattle.bundle.specs.Scan.{byte, text}
-use Rattle.bundle.specs.Decode.{each, far, after, afterRemapping}
-use Rattle.bundle.specs.Conflicts.{any, listed, located, named, sameRemapping, remapped, conflicts, placedAt, placedRemappingAt}
-use Rattle.bundle.specs.Lists.{skip, foldersFrom, filesFrom, before, remappingTold}
-use Rattle.bundle.specs.ListLaws.{member-any, member-append, search-more, search-found, search-done, far-more, twice-base, twice-list, orphan, listed-more, listed-done, remapping-told, remapping-again, remapping-more, remapping-done, texts-each, listed-append, far-thrice}
+use Rattle.bundle.specs.Scan.{text}
+use Rattle.bundle.specs.Decode.{each}
+use Rattle.bundle.specs.Conflicts.{any}
+use Rattle.bundle.specs.Lists.{skip}
+use Rattle.bundle.specs.ListLaws.{member-any, search-more, search-found, search-done}
 use Rattle.bundle.proofs.conflicts.among.Statement.{statement}
 use Rattle.bundle.proofs.conflicts.among.Tie as tie
 
@@ -24,19 +19,28 @@ abbrev μ-loop : tie.MeasureT-loop
 μ-loop s files at n t a₀ i₀ a i = n - i
 
 loop-holds : tie.Need-loop-holds Inv-loop μ-loop
-loop-holds c = let z : ((c .before .before) .args .n) - 0 ≡ ((c .before .before) .args .n) = omega arith in (omega arith, rw z (sym (member-any ((c .before .before) .args .t .now) (each (skip ((c .before .before) .args .files) ((c .before .before) .args .s .now)) (text ((c .before .before) .args .s .now)) ((c .before .before) .args .n) ((c .before .before) .args .at)))))
+loop-holds c =
+    let start' = c .before .before in
+    let z : (start' .args .n) - 0 ≡ (start' .args .n) = omega arith in
+    (omega arith, rw z (sym (member-any (start' .args .t .now) (each (skip (start' .args .files) (start' .args .s .now)) (text (start' .args .s .now)) (start' .args .n) (start' .args .at)))))
 
 text-at-requires : tie.Need-text-at-requires Inv-loop μ-loop
-text-at-requires c κs = omega (arith, (c .before .before .before .before) .pre)
+text-at-requires c κs = omega (arith, c .before .before .before .before .pre)
 
 same-bytes-requires : tie.Need-same-bytes-requires Inv-loop μ-loop
 same-bytes-requires c κs = search needs
 
 returns : tie.Need-returns Inv-loop μ-loop
-returns c = sym (search-found (same ((c .before .before .before .before .before .before .before) .args .t .now)) (skip ((c .before .before .before .before .before .before .before) .args .files) ((c .before .before .before .before .before .before .before) .args .s .now)) (text ((c .before .before .before .before .before .before .before) .args .s .now)) ((c .before .before .before .before .before .before .before) .args .n) ((c .before .before .before .before .loop) .i) ((c .before .before .before .before .loop) .a) ((c .before .before .before .loop-test) .taken) (rw (← (c .before .before .text-at) .ensures) (sym ((c .before .same-bytes) .ensures) ∙ (c .if1) .taken))) ∙ (c .before .before .before .before .loop) .inv .1
+returns c =
+    let start' = c .before .before .before .before .before .before .before in
+    let loop' = c .before .before .before .before .loop in
+    let loop-test' = c .before .before .before .loop-test in
+    let text-at' = c .before .before .text-at in
+    let same-bytes' = c .before .same-bytes in
+    sym (search-found (same (start' .args .t .now)) (skip (start' .args .files) (start' .args .s .now)) (text (start' .args .s .now)) (start' .args .n) (loop' .i) (loop' .a) (loop-test' .taken) (rw (← text-at' .ensures) (sym (same-bytes' .ensures) ∙ c .if1 .taken))) ∙ loop' .inv .1
 
 next-path-requires : tie.Need-next-path-requires Inv-loop μ-loop
-next-path-requires c κs = omega (arith, (c .before .before .before .before .before .before .before) .pre)
+next-path-requires c κs = omega (arith, c .before .before .before .before .before .before .before .pre)
 
 add-i : tie.Need-add-i Inv-loop μ-loop
 add-i c = search needs
@@ -45,10 +49,20 @@ loop-less : tie.Need-loop-less Inv-loop μ-loop
 loop-less c = search needs
 
 loop-again : tie.Need-loop-again Inv-loop μ-loop
-loop-again c = (omega arith, (rw ((c .next-path) .ensures .0) (sym (search-more (same ((c .before .before .before .before .before .before .before .before) .args .t .now)) (skip ((c .before .before .before .before .before .before .before .before) .args .files) ((c .before .before .before .before .before .before .before .before) .args .s .now)) (text ((c .before .before .before .before .before .before .before .before) .args .s .now)) ((c .before .before .before .before .before .before .before .before) .args .n) ((c .before .before .before .before .before .loop) .i) ((c .before .before .before .before .before .loop) .a) ((c .before .before .before .before .loop-test) .taken) (rw (← (c .before .before .before .text-at) .ensures) (sym ((c .before .before .same-bytes) .ensures) ∙ (c .before .if1) .left))) ∙ (c .before .before .before .before .before .loop) .inv .1)))
+loop-again c =
+    let start' = c .before .before .before .before .before .before .before .before in
+    let loop' = c .before .before .before .before .before .loop in
+    let loop-test' = c .before .before .before .before .loop-test in
+    let text-at' = c .before .before .before .text-at in
+    let same-bytes' = c .before .before .same-bytes in
+    let if1' = c .before .if1 in
+    (omega arith, (rw (c .next-path .ensures .0) (sym (search-more (same (start' .args .t .now)) (skip (start' .args .files) (start' .args .s .now)) (text (start' .args .s .now)) (start' .args .n) (loop' .i) (loop' .a) (loop-test' .taken) (rw (← text-at' .ensures) (sym (same-bytes' .ensures) ∙ if1' .left))) ∙ loop' .inv .1)))
 
 returns-2 : tie.Need-returns-2 Inv-loop μ-loop
-returns-2 c = sym (search-done (same ((c .before .before .before .before) .args .t .now)) (skip ((c .before .before .before .before) .args .files) ((c .before .before .before .before) .args .s .now)) (text ((c .before .before .before .before) .args .s .now)) ((c .before .before .before .before) .args .n) ((c .before .loop) .i) ((c .before .loop) .a) ((c .loop-test) .left)) ∙ (c .before .loop) .inv .1
+returns-2 c =
+    let start' = c .before .before .before .before in
+    let loop' = c .before .loop in
+    sym (search-done (same (start' .args .t .now)) (skip (start' .args .files) (start' .args .s .now)) (text (start' .args .s .now)) (start' .args .n) (loop' .i) (loop' .a) (c .loop-test .left)) ∙ loop' .inv .1
 
 pub among-spec : {M : Type 1} → statement M
 among-spec =

@@ -1,20 +1,7 @@
+-- `bundle::conflicts::conflicts` meets its contract, way by way. Assumes nothing.
 use borrow.Author.Needs.{needs}
-use mathlib.Core.Path.{_≡_, refl, sym, ap, _∙_}
-use mathlib.Core.Bool.{Bool, true, false}
-use mathlib.Core.List.{List, [], _∷_, _++_, append-nil}
-use native.Mathlib.Omega.{arith}
-use Prim.Native.Nat.{ℕ, suc, _+_, _-_, _*_, _≤_, _<_}
-use lib.ListN.{length, getD}
-use borrow.Author.Tests.{lt-ltb, le-ltb, le-leb, lt-leb, eq-eqb, ne-eqb, not-true, not-false}
-use Rattle.names.specs.Bytes.{same, member}
-use Rattle.names.specs.Path.{root}
-use Rattle.names.specs.Prefix.{directlyIn}
-use Rattle.bundle.specs.Scan.{byte, text}
-use Rattle.bundle.specs.Decode.{each, far, after, afterRemapping}
-use Rattle.bundle.specs.Conflicts.{any, listed, located, named, sameRemapping, remapped, conflicts, placedAt, placedRemappingAt}
-use Rattle.bundle.specs.Lists.{skip, foldersFrom, filesFrom, before, remappingTold}
-use Rattle.bundle.specs.ListLaws.{conflicts-split, conflictsAt, member-any, member-append, search-more, search-found, search-done, far-more, twice-base, twice-list, orphan, listed-more, listed-done, remapping-told, remapping-again, remapping-more, remapping-done, texts-each, listed-append, far-thrice}
-use Rattle.bundle.specs.Read.{verdict}
+use mathlib.Core.Path.{sym, _∙_}
+use Rattle.bundle.specs.ListLaws.{conflicts-split}
 use Rattle.bundle.proofs.conflicts.conflicts.Statement.{statement}
 use Rattle.bundle.proofs.conflicts.conflicts.Tie as tie
 
@@ -85,16 +72,66 @@ place-verdict-requires : tie.Need-place-verdict-requires
 place-verdict-requires c κs = search needs
 
 returns : tie.Need-returns
-returns c = rw (conflicts-split ((c .before .before .before .before .before .before .before .before .before .before .before) .args .s .now) ((c .before .before .before .before .before .before .before .before .before .after-string) .result) ((c .before .before .before .before .before .before .before .after-strings) .result) ((c .before .before .before .before .before .after-strings2) .result) ((c .before .before .before .before .before .before .before .before .byte-at) .result) ((c .before .before .before .before .before .before .byte-at2) .result) ((c .before .before .before .before .byte-at3) .result) ((c .before .before .before .before .before .before .before .before .before .after-string) .ensures .0) ((c .before .before .before .before .before .before .before .before .byte-at) .ensures .0) ((c .before .before .before .before .before .before .before .after-strings) .ensures .0) ((c .before .before .before .before .before .before .byte-at2) .ensures .0) ((c .before .before .before .before .before .after-strings2) .ensures .0) ((c .before .before .before .before .byte-at3) .ensures .0)) (rw (sym ((c .before .before .before .list-verdict) .ensures) ∙ (c .before .first) .given .1))
+returns c =
+    let start' = c .before .before .before .before .before .before .before .before .before .before .before in
+    let after-string' = c .before .before .before .before .before .before .before .before .before .after-string in
+    let byte-at' = c .before .before .before .before .before .before .before .before .byte-at in
+    let after-strings' = c .before .before .before .before .before .before .before .after-strings in
+    let byte-at2' = c .before .before .before .before .before .before .byte-at2 in
+    let after-strings2' = c .before .before .before .before .before .after-strings2 in
+    let byte-at3' = c .before .before .before .before .byte-at3 in
+    let list-verdict' = c .before .before .before .list-verdict in
+    let first' = c .before .first in
+    rw (conflicts-split (start' .args .s .now) (after-string' .result) (after-strings' .result) (after-strings2' .result) (byte-at' .result) (byte-at2' .result) (byte-at3' .result) (after-string' .ensures .0) (byte-at' .ensures .0) (after-strings' .ensures .0) (byte-at2' .ensures .0) (after-strings2' .ensures .0) (byte-at3' .ensures .0)) (rw (sym (list-verdict' .ensures) ∙ first' .given .1))
 
 returns-2 : tie.Need-returns-2
-returns-2 c = rw (conflicts-split ((c .before .before .before .before .before .before .before .before .before .before .before .before .before .before) .args .s .now) ((c .before .before .before .before .before .before .before .before .before .before .before .before .after-string) .result) ((c .before .before .before .before .before .before .before .before .before .before .after-strings) .result) ((c .before .before .before .before .before .before .before .before .after-strings2) .result) ((c .before .before .before .before .before .before .before .before .before .before .before .byte-at) .result) ((c .before .before .before .before .before .before .before .before .before .byte-at2) .result) ((c .before .before .before .before .before .before .before .byte-at3) .result) ((c .before .before .before .before .before .before .before .before .before .before .before .before .after-string) .ensures .0) ((c .before .before .before .before .before .before .before .before .before .before .before .byte-at) .ensures .0) ((c .before .before .before .before .before .before .before .before .before .before .after-strings) .ensures .0) ((c .before .before .before .before .before .before .before .before .before .byte-at2) .ensures .0) ((c .before .before .before .before .before .before .before .before .after-strings2) .ensures .0) ((c .before .before .before .before .before .before .before .byte-at3) .ensures .0)) (rw (sym ((c .before .before .before .before .before .before .list-verdict) .ensures) ∙ (c .before .before .before .before .enum-told) .given .1, sym ((c .before .before .before .list-verdict2) .ensures) ∙ (c .before .second) .given .1))
+returns-2 c =
+    let start' = c .before .before .before .before .before .before .before .before .before .before .before .before .before .before in
+    let after-string' = c .before .before .before .before .before .before .before .before .before .before .before .before .after-string in
+    let byte-at' = c .before .before .before .before .before .before .before .before .before .before .before .byte-at in
+    let after-strings' = c .before .before .before .before .before .before .before .before .before .before .after-strings in
+    let byte-at2' = c .before .before .before .before .before .before .before .before .before .byte-at2 in
+    let after-strings2' = c .before .before .before .before .before .before .before .before .after-strings2 in
+    let byte-at3' = c .before .before .before .before .before .before .before .byte-at3 in
+    let list-verdict' = c .before .before .before .before .before .before .list-verdict in
+    let enum-told' = c .before .before .before .before .enum-told in
+    let list-verdict2' = c .before .before .before .list-verdict2 in
+    let second' = c .before .second in
+    rw (conflicts-split (start' .args .s .now) (after-string' .result) (after-strings' .result) (after-strings2' .result) (byte-at' .result) (byte-at2' .result) (byte-at3' .result) (after-string' .ensures .0) (byte-at' .ensures .0) (after-strings' .ensures .0) (byte-at2' .ensures .0) (after-strings2' .ensures .0) (byte-at3' .ensures .0)) (rw (sym (list-verdict' .ensures) ∙ enum-told' .given .1, sym (list-verdict2' .ensures) ∙ second' .given .1))
 
 returns-3 : tie.Need-returns-3
-returns-3 c = rw (conflicts-split ((c .before .before .before .before .before .before .before .before .before .before .before .before .before .before .before .before .before) .args .s .now) ((c .before .before .before .before .before .before .before .before .before .before .before .before .before .before .before .after-string) .result) ((c .before .before .before .before .before .before .before .before .before .before .before .before .before .after-strings) .result) ((c .before .before .before .before .before .before .before .before .before .before .before .after-strings2) .result) ((c .before .before .before .before .before .before .before .before .before .before .before .before .before .before .byte-at) .result) ((c .before .before .before .before .before .before .before .before .before .before .before .before .byte-at2) .result) ((c .before .before .before .before .before .before .before .before .before .before .byte-at3) .result) ((c .before .before .before .before .before .before .before .before .before .before .before .before .before .before .before .after-string) .ensures .0) ((c .before .before .before .before .before .before .before .before .before .before .before .before .before .before .byte-at) .ensures .0) ((c .before .before .before .before .before .before .before .before .before .before .before .before .before .after-strings) .ensures .0) ((c .before .before .before .before .before .before .before .before .before .before .before .before .byte-at2) .ensures .0) ((c .before .before .before .before .before .before .before .before .before .before .before .after-strings2) .ensures .0) ((c .before .before .before .before .before .before .before .before .before .before .byte-at3) .ensures .0)) (rw (sym ((c .before .before .before .before .before .before .before .before .before .list-verdict) .ensures) ∙ (c .before .before .before .before .before .before .before .enum-told) .given .1, sym ((c .before .before .before .before .before .before .list-verdict2) .ensures) ∙ (c .before .before .before .before .enum-told2) .given .1, sym ((c .before .before .before .remappings-verdict) .ensures) ∙ (c .before .third) .given .1))
+returns-3 c =
+    let start' = c .before .before .before .before .before .before .before .before .before .before .before .before .before .before .before .before .before in
+    let after-string' = c .before .before .before .before .before .before .before .before .before .before .before .before .before .before .before .after-string in
+    let byte-at' = c .before .before .before .before .before .before .before .before .before .before .before .before .before .before .byte-at in
+    let after-strings' = c .before .before .before .before .before .before .before .before .before .before .before .before .before .after-strings in
+    let byte-at2' = c .before .before .before .before .before .before .before .before .before .before .before .before .byte-at2 in
+    let after-strings2' = c .before .before .before .before .before .before .before .before .before .before .before .after-strings2 in
+    let byte-at3' = c .before .before .before .before .before .before .before .before .before .before .byte-at3 in
+    let list-verdict' = c .before .before .before .before .before .before .before .before .before .list-verdict in
+    let enum-told' = c .before .before .before .before .before .before .before .enum-told in
+    let list-verdict2' = c .before .before .before .before .before .before .list-verdict2 in
+    let enum-told2' = c .before .before .before .before .enum-told2 in
+    let remappings-verdict' = c .before .before .before .remappings-verdict in
+    let third' = c .before .third in
+    rw (conflicts-split (start' .args .s .now) (after-string' .result) (after-strings' .result) (after-strings2' .result) (byte-at' .result) (byte-at2' .result) (byte-at3' .result) (after-string' .ensures .0) (byte-at' .ensures .0) (after-strings' .ensures .0) (byte-at2' .ensures .0) (after-strings2' .ensures .0) (byte-at3' .ensures .0)) (rw (sym (list-verdict' .ensures) ∙ enum-told' .given .1, sym (list-verdict2' .ensures) ∙ enum-told2' .given .1, sym (remappings-verdict' .ensures) ∙ third' .given .1))
 
 returns-4 : tie.Need-returns-4
-returns-4 c = rw (conflicts-split ((c .before .before .before .before .before .before .before .before .before .before .before .before .before .before .before .before .before) .args .s .now) ((c .before .before .before .before .before .before .before .before .before .before .before .before .before .before .before .after-string) .result) ((c .before .before .before .before .before .before .before .before .before .before .before .before .before .after-strings) .result) ((c .before .before .before .before .before .before .before .before .before .before .before .after-strings2) .result) ((c .before .before .before .before .before .before .before .before .before .before .before .before .before .before .byte-at) .result) ((c .before .before .before .before .before .before .before .before .before .before .before .before .byte-at2) .result) ((c .before .before .before .before .before .before .before .before .before .before .byte-at3) .result) ((c .before .before .before .before .before .before .before .before .before .before .before .before .before .before .before .after-string) .ensures .0) ((c .before .before .before .before .before .before .before .before .before .before .before .before .before .before .byte-at) .ensures .0) ((c .before .before .before .before .before .before .before .before .before .before .before .before .before .after-strings) .ensures .0) ((c .before .before .before .before .before .before .before .before .before .before .before .before .byte-at2) .ensures .0) ((c .before .before .before .before .before .before .before .before .before .before .before .after-strings2) .ensures .0) ((c .before .before .before .before .before .before .before .before .before .before .byte-at3) .ensures .0)) (rw (sym ((c .before .before .before .before .before .before .before .before .before .list-verdict) .ensures) ∙ (c .before .before .before .before .before .before .before .enum-told) .given .1, sym ((c .before .before .before .before .before .before .list-verdict2) .ensures) ∙ (c .before .before .before .before .enum-told2) .given .1, sym ((c .before .before .before .remappings-verdict) .ensures) ∙ (c .before .enum-told3) .given .1) ((c .place-verdict) .ensures))
+returns-4 c =
+    let start' = c .before .before .before .before .before .before .before .before .before .before .before .before .before .before .before .before .before in
+    let after-string' = c .before .before .before .before .before .before .before .before .before .before .before .before .before .before .before .after-string in
+    let byte-at' = c .before .before .before .before .before .before .before .before .before .before .before .before .before .before .byte-at in
+    let after-strings' = c .before .before .before .before .before .before .before .before .before .before .before .before .before .after-strings in
+    let byte-at2' = c .before .before .before .before .before .before .before .before .before .before .before .before .byte-at2 in
+    let after-strings2' = c .before .before .before .before .before .before .before .before .before .before .before .after-strings2 in
+    let byte-at3' = c .before .before .before .before .before .before .before .before .before .before .byte-at3 in
+    let list-verdict' = c .before .before .before .before .before .before .before .before .before .list-verdict in
+    let enum-told' = c .before .before .before .before .before .before .before .enum-told in
+    let list-verdict2' = c .before .before .before .before .before .before .list-verdict2 in
+    let enum-told2' = c .before .before .before .before .enum-told2 in
+    let remappings-verdict' = c .before .before .before .remappings-verdict in
+    let enum-told3' = c .before .enum-told3 in
+    rw (conflicts-split (start' .args .s .now) (after-string' .result) (after-strings' .result) (after-strings2' .result) (byte-at' .result) (byte-at2' .result) (byte-at3' .result) (after-string' .ensures .0) (byte-at' .ensures .0) (after-strings' .ensures .0) (byte-at2' .ensures .0) (after-strings2' .ensures .0) (byte-at3' .ensures .0)) (rw (sym (list-verdict' .ensures) ∙ enum-told' .given .1, sym (list-verdict2' .ensures) ∙ enum-told2' .given .1, sym (remappings-verdict' .ensures) ∙ enum-told3' .given .1) (c .place-verdict .ensures))
 
 pub conflicts-spec : {M : Type 1} → statement M
 conflicts-spec =

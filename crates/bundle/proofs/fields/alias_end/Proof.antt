@@ -1,12 +1,7 @@
+-- `bundle::fields::alias_end` meets its contract, way by way. Assumes nothing.
 use borrow.Author.Needs.{needs}
-use mathlib.Core.Path.{_≡_, refl, sym, ap, _∙_}
-use native.Mathlib.Omega.{arith}
-use Prim.Native.Nat.{ℕ, _+_, _-_, _≤_, _<_}
-use lib.ListN.{length, getD}
-use borrow.Author.Tests.{lt-ltb, le-ltb, le-leb, lt-leb, eq-eqb, ne-eqb}
-use Rattle.bundle.specs.declared.Scan.the-variants.{Next, Bad}
-use Rattle.bundle.specs.Steps.{string-next}
-use Rattle.bundle.specs.Scan.{byte, word, text, scanString, scanFormed, scanPath, scanName, scanAlias, scanField, scanCount, scanList, scanUse, scanLength, scanMark, scanEnd, times}
+use borrow.Author.Tests.{lt-ltb, le-ltb, eq-eqb, ne-eqb}
+use Rattle.bundle.specs.Scan.{scanAlias}
 use Rattle.bundle.proofs.fields.alias_end.Statement.{statement}
 use Rattle.bundle.proofs.fields.alias_end.Tie as tie
 
@@ -15,7 +10,7 @@ name-end-requires c κs = search needs
 
 returns : tie.Need-returns
 unfolding scanAlias
-returns c = simp (le-ltb _ _ ((c .before .if1) .taken)) ((c .name-end) .ensures)
+returns c = simp (le-ltb _ _ (c .before .if1 .taken)) (c .name-end .ensures)
 
 byte-at-requires : tie.Need-byte-at-requires
 byte-at-requires c κs = search needs
@@ -25,14 +20,18 @@ add-t6 c = search needs
 
 returns-2 : tie.Need-returns-2
 unfolding scanAlias
-returns-2 c = simp (lt-ltb _ _ ((c .before .before .if1) .left), ← (c .before .byte-at) .ensures .0, eq-eqb _ _ ((c .if2) .taken))
+returns-2 c = simp (lt-ltb _ _ (c .before .before .if1 .left), ← c .before .byte-at .ensures .0, eq-eqb _ _ (c .if2 .taken))
 
 name-end-requires-2 : tie.Need-name-end-requires-2
 name-end-requires-2 c κs = search needs
 
 returns-3 : tie.Need-returns-3
 unfolding scanAlias
-returns-3 c = simp (lt-ltb _ _ ((c .before .before .before .if1) .left), ← (c .before .before .byte-at) .ensures .0, ne-eqb _ _ ((c .before .if2) .left)) ((c .name-end2) .ensures)
+returns-3 c =
+    let if1' = c .before .before .before .if1 in
+    let byte-at' = c .before .before .byte-at in
+    let if2' = c .before .if2 in
+    simp (lt-ltb _ _ (if1' .left), ← byte-at' .ensures .0, ne-eqb _ _ (if2' .left)) (c .name-end2 .ensures)
 
 pub alias-end-spec : {M : Type 1} → statement M
 alias-end-spec =

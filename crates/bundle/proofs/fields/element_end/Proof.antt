@@ -1,12 +1,7 @@
+-- `bundle::fields::element_end` meets its contract, way by way. Assumes nothing.
 use borrow.Author.Needs.{needs}
-use mathlib.Core.Path.{_≡_, refl, sym, ap, _∙_}
-use native.Mathlib.Omega.{arith}
-use Prim.Native.Nat.{ℕ, _+_, _-_, _≤_, _<_}
-use lib.ListN.{length, getD}
-use borrow.Author.Tests.{lt-ltb, le-ltb, le-leb, lt-leb, eq-eqb, ne-eqb}
-use Rattle.bundle.specs.declared.Scan.the-variants.{Next, Bad}
-use Rattle.bundle.specs.Steps.{string-next}
-use Rattle.bundle.specs.Scan.{byte, word, text, scanString, scanFormed, scanPath, scanName, scanAlias, scanField, scanCount, scanList, scanUse, scanLength, scanMark, scanEnd, times}
+use mathlib.Core.Path.{sym, _∙_}
+use Rattle.bundle.specs.Scan.{scanField}
 use Rattle.bundle.proofs.fields.element_end.Statement.{statement}
 use Rattle.bundle.proofs.fields.element_end.Tie as tie
 
@@ -24,11 +19,11 @@ alias-end-requires c κs = search needs
 
 returns : tie.Need-returns
 unfolding scanField
-returns c = rw (sym ((c .before .before .before .name-end) .ensures) ∙ (c .before .name) .given .1)
+returns c = rw (sym (c .before .before .before .name-end .ensures) ∙ c .before .name .given .1)
 
 returns-2 : tie.Need-returns-2
 unfolding scanField
-returns-2 c = rw (sym ((c .before .before .before .before .name-end) .ensures) ∙ (c .before .before .name2) .given .1) ((c .alias-end) .ensures)
+returns-2 c = rw (sym (c .before .before .before .before .name-end .ensures) ∙ c .before .before .name2 .given .1) (c .alias-end .ensures)
 
 pub element-end-spec : {M : Type 1} → statement M
 element-end-spec =

@@ -1,12 +1,6 @@
+-- `bundle::fields::field_end` meets its contract, way by way. Assumes nothing.
 use borrow.Author.Needs.{needs}
-use mathlib.Core.Path.{_≡_, refl, sym, ap, _∙_}
-use native.Mathlib.Omega.{arith}
-use Prim.Native.Nat.{ℕ, _+_, _-_, _≤_, _<_}
-use lib.ListN.{length, getD}
-use borrow.Author.Tests.{lt-ltb, le-ltb, le-leb, lt-leb, eq-eqb, ne-eqb}
-use Rattle.bundle.specs.declared.Scan.the-variants.{Next, Bad}
-use Rattle.bundle.specs.Steps.{string-next}
-use Rattle.bundle.specs.Scan.{byte, word, text, scanString, scanFormed, scanPath, scanName, scanAlias, scanField, scanCount, scanList, scanUse, scanLength, scanMark, scanEnd, times}
+use Rattle.bundle.specs.Scan.{scanField}
 use Rattle.bundle.proofs.fields.field_end.Statement.{statement}
 use Rattle.bundle.proofs.fields.field_end.Tie as tie
 
@@ -36,17 +30,17 @@ remapping-end-requires c κs = search needs
 
 returns : tie.Need-returns
 unfolding scanField
-returns c = rw ((c .before .enum-told) .given .1) ((c .path-end) .ensures)
+returns c = rw (c .before .enum-told .given .1) (c .path-end .ensures)
 
 returns-2 : tie.Need-returns-2
 unfolding scanField
-returns-2 c = rw ((c .before .enum-told2) .given .1) ((c .name-end) .ensures)
+returns-2 c = rw (c .before .enum-told2 .given .1) (c .name-end .ensures)
 
 returns-3 : tie.Need-returns-3
-returns-3 c = rw ((c .before .enum-told3) .given .1) ((c .element-end) .ensures)
+returns-3 c = rw (c .before .enum-told3 .given .1) (c .element-end .ensures)
 
 returns-4 : tie.Need-returns-4
-returns-4 c = rw ((c .before .enum-told4) .given .1) ((c .remapping-end) .ensures)
+returns-4 c = rw (c .before .enum-told4 .given .1) (c .remapping-end .ensures)
 
 pub field-end-spec : {M : Type 1} → statement M
 field-end-spec =

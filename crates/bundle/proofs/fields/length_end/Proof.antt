@@ -1,12 +1,7 @@
+-- `bundle::fields::length_end` meets its contract, way by way. Assumes nothing.
 use borrow.Author.Needs.{needs}
-use mathlib.Core.Path.{_≡_, refl, sym, ap, _∙_}
-use native.Mathlib.Omega.{arith}
-use Prim.Native.Nat.{ℕ, _+_, _-_, _≤_, _<_}
-use lib.ListN.{length, getD}
-use borrow.Author.Tests.{lt-ltb, le-ltb, le-leb, lt-leb, eq-eqb, ne-eqb}
-use Rattle.bundle.specs.declared.Scan.the-variants.{Next, Bad}
-use Rattle.bundle.specs.Steps.{string-next}
-use Rattle.bundle.specs.Scan.{byte, word, text, scanString, scanFormed, scanPath, scanName, scanAlias, scanField, scanCount, scanList, scanUse, scanLength, scanMark, scanEnd, times}
+use borrow.Author.Tests.{le-leb, lt-leb}
+use Rattle.bundle.specs.Scan.{scanLength}
 use Rattle.bundle.proofs.fields.length_end.Statement.{statement}
 use Rattle.bundle.proofs.fields.length_end.Tie as tie
 
@@ -30,15 +25,15 @@ add-t11 c = search needs
 
 returns : tie.Need-returns
 unfolding scanLength
-returns c = simp (le-leb _ _ ((c .before .before .if1) .taken), ← (c .before .word-at) .ensures .0, le-leb _ _ ((c .if2) .taken))
+returns c = simp (le-leb _ _ (c .before .before .if1 .taken), ← c .before .word-at .ensures .0, le-leb _ _ (c .if2 .taken))
 
 returns-2 : tie.Need-returns-2
 unfolding scanLength
-returns-2 c = simp (le-leb _ _ ((c .before .before .if1) .taken), ← (c .before .word-at) .ensures .0, lt-leb _ _ ((c .if2) .left))
+returns-2 c = simp (le-leb _ _ (c .before .before .if1 .taken), ← c .before .word-at .ensures .0, lt-leb _ _ (c .if2 .left))
 
 returns-3 : tie.Need-returns-3
 unfolding scanLength
-returns-3 c = simp (lt-leb _ _ ((c .if1) .left))
+returns-3 c = simp (lt-leb _ _ (c .if1 .left))
 
 pub length-end-spec : {M : Type 1} → statement M
 length-end-spec =

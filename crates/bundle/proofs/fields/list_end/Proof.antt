@@ -1,12 +1,7 @@
+-- `bundle::fields::list_end` meets its contract, way by way. Assumes nothing.
 use borrow.Author.Needs.{needs}
-use mathlib.Core.Path.{_≡_, refl, sym, ap, _∙_}
-use native.Mathlib.Omega.{arith}
-use Prim.Native.Nat.{ℕ, _+_, _-_, _≤_, _<_}
-use lib.ListN.{length, getD}
-use borrow.Author.Tests.{lt-ltb, le-ltb, le-leb, lt-leb, eq-eqb, ne-eqb}
-use Rattle.bundle.specs.declared.Scan.the-variants.{Next, Bad}
-use Rattle.bundle.specs.Steps.{string-next}
-use Rattle.bundle.specs.Scan.{byte, word, text, scanString, scanFormed, scanPath, scanName, scanAlias, scanField, scanCount, scanList, scanUse, scanLength, scanMark, scanEnd, times}
+use mathlib.Core.Path.{sym, _∙_}
+use Rattle.bundle.specs.Scan.{scanList}
 use Rattle.bundle.proofs.fields.list_end.Statement.{statement}
 use Rattle.bundle.proofs.fields.list_end.Tie as tie
 
@@ -27,11 +22,15 @@ fields-end-requires c κs = search needs
 
 returns : tie.Need-returns
 unfolding scanList
-returns c = rw (sym ((c .before .before .before .count-end) .ensures) ∙ (c .before .count) .given .1)
+returns c = rw (sym (c .before .before .before .count-end .ensures) ∙ c .before .count .given .1)
 
 returns-2 : tie.Need-returns-2
 unfolding scanList
-returns-2 c = rw (sym ((c .before .before .before .before .before .count-end) .ensures) ∙ (c .before .before .before .count2) .given .1) (rw (sym ((c .before .byte-at) .ensures .0)) ((c .fields-end) .ensures))
+returns-2 c =
+    let count-end' = c .before .before .before .before .before .count-end in
+    let count2' = c .before .before .before .count2 in
+    let byte-at' = c .before .byte-at in
+    rw (sym (count-end' .ensures) ∙ count2' .given .1) (rw (sym (byte-at' .ensures .0)) (c .fields-end .ensures))
 
 pub list-end-spec : {M : Type 1} → statement M
 list-end-spec =

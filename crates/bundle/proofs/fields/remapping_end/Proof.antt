@@ -1,12 +1,7 @@
+-- `bundle::fields::remapping_end` meets its contract, way by way. Assumes nothing.
 use borrow.Author.Needs.{needs}
-use mathlib.Core.Path.{_≡_, refl, sym, ap, _∙_}
-use native.Mathlib.Omega.{arith}
-use Prim.Native.Nat.{ℕ, _+_, _-_, _≤_, _<_}
-use lib.ListN.{length, getD}
-use borrow.Author.Tests.{lt-ltb, le-ltb, le-leb, lt-leb, eq-eqb, ne-eqb}
-use Rattle.bundle.specs.declared.Scan.the-variants.{Next, Bad}
-use Rattle.bundle.specs.Steps.{string-next}
-use Rattle.bundle.specs.Scan.{byte, word, text, scanString, scanFormed, scanPath, scanName, scanAlias, scanField, scanCount, scanList, scanUse, scanLength, scanMark, scanEnd, times}
+use mathlib.Core.Path.{sym, _∙_}
+use Rattle.bundle.specs.Scan.{scanField}
 use Rattle.bundle.proofs.fields.remapping_end.Statement.{statement}
 use Rattle.bundle.proofs.fields.remapping_end.Tie as tie
 
@@ -33,15 +28,25 @@ path-end-requires-2 c κs = search needs
 
 returns : tie.Need-returns
 unfolding scanField
-returns c = rw (sym ((c .before .before .before .path-end) .ensures) ∙ (c .before .context) .given .1)
+returns c = rw (sym (c .before .before .before .path-end .ensures) ∙ c .before .context .given .1)
 
 returns-2 : tie.Need-returns-2
 unfolding scanField
-returns-2 c = rw (sym ((c .before .before .before .before .before .before .before .path-end) .ensures) ∙ (c .before .before .before .before .before .context2) .given .1, sym ((c .before .before .before .string-end) .ensures) ∙ (c .before .name) .given .1)
+returns-2 c =
+    let path-end' = c .before .before .before .before .before .before .before .path-end in
+    let context2' = c .before .before .before .before .before .context2 in
+    let string-end' = c .before .before .before .string-end in
+    let name' = c .before .name in
+    rw (sym (path-end' .ensures) ∙ context2' .given .1, sym (string-end' .ensures) ∙ name' .given .1)
 
 returns-3 : tie.Need-returns-3
 unfolding scanField
-returns-3 c = rw (sym ((c .before .before .before .before .before .before .before .before .path-end) .ensures) ∙ (c .before .before .before .before .before .before .context2) .given .1, sym ((c .before .before .before .before .string-end) .ensures) ∙ (c .before .before .name2) .given .1) ((c .path-end2) .ensures)
+returns-3 c =
+    let path-end' = c .before .before .before .before .before .before .before .before .path-end in
+    let context2' = c .before .before .before .before .before .before .context2 in
+    let string-end' = c .before .before .before .before .string-end in
+    let name2' = c .before .before .name2 in
+    rw (sym (path-end' .ensures) ∙ context2' .given .1, sym (string-end' .ensures) ∙ name2' .given .1) (c .path-end2 .ensures)
 
 pub remapping-end-spec : {M : Type 1} → statement M
 remapping-end-spec =

@@ -1,18 +1,13 @@
+-- `bundle::fields::string_end` meets its contract, way by way. Assumes nothing.
 use borrow.Author.Needs.{needs}
-use mathlib.Core.Path.{_≡_, refl, sym, ap, _∙_}
-use native.Mathlib.Omega.{arith}
-use Prim.Native.Nat.{ℕ, _+_, _-_, _≤_, _<_}
-use lib.ListN.{length, getD}
-use borrow.Author.Tests.{lt-ltb, le-ltb, le-leb, lt-leb, eq-eqb, ne-eqb}
-use Rattle.bundle.specs.declared.Scan.the-variants.{Next, Bad}
-use Rattle.bundle.specs.Steps.{string-next}
-use Rattle.bundle.specs.Scan.{byte, word, text, scanString, scanFormed, scanPath, scanName, scanAlias, scanField, scanCount, scanList, scanUse, scanLength, scanMark, scanEnd, times}
+use borrow.Author.Tests.{lt-ltb, le-ltb, le-leb, lt-leb}
+use Rattle.bundle.specs.Scan.{scanString}
 use Rattle.bundle.proofs.fields.string_end.Statement.{statement}
 use Rattle.bundle.proofs.fields.string_end.Tie as tie
 
 returns : tie.Need-returns
 unfolding scanString
-returns c = simp (le-ltb _ _ ((c .if1) .taken))
+returns c = simp (le-ltb _ _ (c .if1 .taken))
 
 byte-at-requires : tie.Need-byte-at-requires
 byte-at-requires c κs = search needs
@@ -31,11 +26,11 @@ add-t10 c = search needs
 
 returns-2 : tie.Need-returns-2
 unfolding scanString
-returns-2 c = simp (lt-ltb _ _ ((c .before .before .if1) .left), ← (c .before .byte-at) .ensures .0, le-leb _ _ ((c .if2) .taken))
+returns-2 c = simp (lt-ltb _ _ (c .before .before .if1 .left), ← c .before .byte-at .ensures .0, le-leb _ _ (c .if2 .taken))
 
 returns-3 : tie.Need-returns-3
 unfolding scanString
-returns-3 c = simp (lt-ltb _ _ ((c .before .before .if1) .left), ← (c .before .byte-at) .ensures .0, lt-leb _ _ ((c .if2) .left))
+returns-3 c = simp (lt-ltb _ _ (c .before .before .if1 .left), ← c .before .byte-at .ensures .0, lt-leb _ _ (c .if2 .left))
 
 pub string-end-spec : {M : Type 1} → statement M
 string-end-spec =

@@ -1,12 +1,7 @@
+-- `bundle::fields::use_end` meets its contract, way by way. Assumes nothing.
 use borrow.Author.Needs.{needs}
-use mathlib.Core.Path.{_≡_, refl, sym, ap, _∙_}
-use native.Mathlib.Omega.{arith}
-use Prim.Native.Nat.{ℕ, _+_, _-_, _≤_, _<_}
-use lib.ListN.{length, getD}
-use borrow.Author.Tests.{lt-ltb, le-ltb, le-leb, lt-leb, eq-eqb, ne-eqb}
-use Rattle.bundle.specs.declared.Scan.the-variants.{Next, Bad}
-use Rattle.bundle.specs.Steps.{string-next}
-use Rattle.bundle.specs.Scan.{byte, word, text, scanString, scanFormed, scanPath, scanName, scanAlias, scanField, scanCount, scanList, scanUse, scanLength, scanMark, scanEnd, times}
+use mathlib.Core.Path.{sym, _∙_}
+use Rattle.bundle.specs.Scan.{scanUse}
 use Rattle.bundle.proofs.fields.use_end.Statement.{statement}
 use Rattle.bundle.proofs.fields.use_end.Tie as tie
 
@@ -24,11 +19,11 @@ list-end-requires-2 c κs = search needs
 
 returns : tie.Need-returns
 unfolding scanUse
-returns c = rw (sym ((c .before .before .before .list-end) .ensures) ∙ (c .before .segments) .given .1)
+returns c = rw (sym (c .before .before .before .list-end .ensures) ∙ c .before .segments .given .1)
 
 returns-2 : tie.Need-returns-2
 unfolding scanUse
-returns-2 c = rw (sym ((c .before .before .before .before .list-end) .ensures) ∙ (c .before .before .segments2) .given .1) ((c .list-end2) .ensures)
+returns-2 c = rw (sym (c .before .before .before .before .list-end .ensures) ∙ c .before .before .segments2 .given .1) (c .list-end2 .ensures)
 
 pub use-end-spec : {M : Type 1} → statement M
 use-end-spec =

@@ -1,15 +1,10 @@
+-- `bundle::form::file_end` meets its contract, way by way. Assumes nothing.
 use borrow.Author.Needs.{needs}
-use mathlib.Core.Path.{_≡_, refl, sym, ap, _∙_}
+use mathlib.Core.Path.{sym, _∙_}
 use native.Mathlib.Omega.{arith}
-use Prim.Native.Nat.{ℕ, suc, _+_, _-_, _*_, _≤_, _<_}
-use lib.ListN.{length, getD}
-use borrow.Author.Tests.{lt-ltb, le-ltb, le-leb, lt-leb, eq-eqb, ne-eqb}
-use Rattle.bundle.specs.Limits.{item-limit, use-limit}
 use Rattle.bundle.specs.Steps.{length-next, formed-next, string-next}
 use Rattle.names.specs.Path.{isPath}
-use Rattle.bundle.specs.Walks.{file-goes, files-next, files-fault, files-done}
-use Rattle.bundle.specs.Scan.{scanFile, scanFiles, scanHeader}
-use Rattle.bundle.specs.Read.{files, lists, form}
+use Rattle.bundle.specs.Scan.{scanFile}
 use Rattle.bundle.proofs.form.file_end.Statement.{statement}
 use Rattle.bundle.proofs.form.file_end.Tie as tie
 
@@ -23,7 +18,13 @@ enum-known-path-2 : tie.Need-enum-known-path-2
 enum-known-path-2 c = search needs
 
 length-end-requires : tie.Need-length-end-requires
-length-end-requires c κs = let n = formed-next ((c .before .before .before .before .before) .args .s .now) ((c .before .before .before .before .before) .args .end) ((c .before .before .before .before .before) .args .at) isPath 4 (sym ((c .before .before .before .path-end) .ensures) ∙ (c .before .path2) .given .1) in let b = string-next ((c .before .before .before .before .before) .args .s .now) ((c .before .before .before .before .before) .args .end) ((c .before .before .before .before .before) .args .at) (n .0) in (b .2, (c .before .before .before .before .before) .pre .0)
+length-end-requires c κs =
+    let start' = c .before .before .before .before .before in
+    let path-end' = c .before .before .before .path-end in
+    let path2' = c .before .path2 in
+    let n = formed-next (start' .args .s .now) (start' .args .end) (start' .args .at) isPath 4 (sym (path-end' .ensures) ∙ path2' .given .1) in
+    let b = string-next (start' .args .s .now) (start' .args .end) (start' .args .at) (n .0) in
+    (b .2, start' .pre .0)
 
 enum-known-size : tie.Need-enum-known-size
 enum-known-size c = search needs
@@ -32,22 +33,50 @@ enum-known-size-2 : tie.Need-enum-known-size-2
 enum-known-size-2 c = search needs
 
 add-items : tie.Need-add-items
-add-items c = let n = formed-next ((c .before .before .before .before .before .before .before .before .before) .args .s .now) ((c .before .before .before .before .before .before .before .before .before) .args .end) ((c .before .before .before .before .before .before .before .before .before) .args .at) isPath 4 (sym ((c .before .before .before .before .before .before .before .path-end) .ensures) ∙ (c .before .before .before .before .before .path2) .given .1) in let b = string-next ((c .before .before .before .before .before .before .before .before .before) .args .s .now) ((c .before .before .before .before .before .before .before .before .before) .args .end) ((c .before .before .before .before .before .before .before .before .before) .args .at) (n .0) in let l = length-next ((c .before .before .before .before .before .before .before .before .before) .args .s .now) ((c .before .before .before .before .before .before .before .before .before) .args .end) ((c .before .before .before .before .before .path2) .given .0 .0) (sym ((c .before .before .before .length-end) .ensures) ∙ (c .before .size2) .given .1) in omega (arith, (c .before .before .before .before .before .before .before .before .before) .pre .0, (c .before .before .before .before .before .before .before .before .before) .good .0)
+add-items c =
+    let start' = c .before .before .before .before .before .before .before .before .before in
+    let path-end' = c .before .before .before .before .before .before .before .path-end in
+    let path2' = c .before .before .before .before .before .path2 in
+    let length-end' = c .before .before .before .length-end in
+    let size2' = c .before .size2 in
+    let n = formed-next (start' .args .s .now) (start' .args .end) (start' .args .at) isPath 4 (sym (path-end' .ensures) ∙ path2' .given .1) in
+    let b = string-next (start' .args .s .now) (start' .args .end) (start' .args .at) (n .0) in
+    let l = length-next (start' .args .s .now) (start' .args .end) (path2' .given .0 .0) (sym (length-end' .ensures) ∙ size2' .given .1) in
+    omega (arith, start' .pre .0, start' .good .0)
 
 items-requires : tie.Need-items-requires
-items-requires c κs = let n = formed-next ((c .before .before .before .before .before .before .before .before .before) .args .s .now) ((c .before .before .before .before .before .before .before .before .before) .args .end) ((c .before .before .before .before .before .before .before .before .before) .args .at) isPath 4 (sym ((c .before .before .before .before .before .before .before .path-end) .ensures) ∙ (c .before .before .before .before .before .path2) .given .1) in let b = string-next ((c .before .before .before .before .before .before .before .before .before) .args .s .now) ((c .before .before .before .before .before .before .before .before .before) .args .end) ((c .before .before .before .before .before .before .before .before .before) .args .at) (n .0) in let l = length-next ((c .before .before .before .before .before .before .before .before .before) .args .s .now) ((c .before .before .before .before .before .before .before .before .before) .args .end) ((c .before .before .before .before .before .path2) .given .0 .0) (sym ((c .before .before .before .length-end) .ensures) ∙ (c .before .size2) .given .1) in ((omega arith, omega (arith, (c .before .before .before .before .before .before .before .before .before) .pre .0)), (c .before .before .before .before .before .before .before .before .before) .pre .1)
+items-requires c κs =
+    let start' = c .before .before .before .before .before .before .before .before .before in
+    let path-end' = c .before .before .before .before .before .before .before .path-end in
+    let path2' = c .before .before .before .before .before .path2 in
+    let length-end' = c .before .before .before .length-end in
+    let size2' = c .before .size2 in
+    let n = formed-next (start' .args .s .now) (start' .args .end) (start' .args .at) isPath 4 (sym (path-end' .ensures) ∙ path2' .given .1) in
+    let b = string-next (start' .args .s .now) (start' .args .end) (start' .args .at) (n .0) in
+    let l = length-next (start' .args .s .now) (start' .args .end) (path2' .given .0 .0) (sym (length-end' .ensures) ∙ size2' .given .1) in
+    ((omega arith, omega (arith, start' .pre .0)), start' .pre .1)
 
 returns : tie.Need-returns
 unfolding scanFile
-returns c = rw (sym ((c .before .before .before .path-end) .ensures) ∙ (c .before .path) .given .1)
+returns c = rw (sym (c .before .before .before .path-end .ensures) ∙ c .before .path .given .1)
 
 returns-2 : tie.Need-returns-2
 unfolding scanFile
-returns-2 c = rw ((sym ((c .before .before .before .before .before .before .before .path-end) .ensures) ∙ (c .before .before .before .before .before .path2) .given .1), sym ((c .before .before .before .length-end) .ensures) ∙ (c .before .size) .given .1)
+returns-2 c =
+    let path-end' = c .before .before .before .before .before .before .before .path-end in
+    let path2' = c .before .before .before .before .before .path2 in
+    let length-end' = c .before .before .before .length-end in
+    let size' = c .before .size in
+    rw ((sym (path-end' .ensures) ∙ path2' .given .1), sym (length-end' .ensures) ∙ size' .given .1)
 
 returns-3 : tie.Need-returns-3
 unfolding scanFile
-returns-3 c = rw ((sym ((c .before .before .before .before .before .before .before .before .path-end) .ensures) ∙ (c .before .before .before .before .before .before .path2) .given .1), (sym ((c .before .before .before .before .length-end) .ensures) ∙ (c .before .before .size2) .given .1)) ((c .items) .ensures)
+returns-3 c =
+    let path-end' = c .before .before .before .before .before .before .before .before .path-end in
+    let path2' = c .before .before .before .before .before .before .path2 in
+    let length-end' = c .before .before .before .before .length-end in
+    let size2' = c .before .before .size2 in
+    rw ((sym (path-end' .ensures) ∙ path2' .given .1), (sym (length-end' .ensures) ∙ size2' .given .1)) (c .items .ensures)
 
 pub file-end-spec : {M : Type 1} → statement M
 file-end-spec =

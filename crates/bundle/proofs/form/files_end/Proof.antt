@@ -1,15 +1,11 @@
+-- `bundle::form::files_end` meets its contract, way by way. Assumes nothing.
 use borrow.Author.Needs.{needs}
-use mathlib.Core.Path.{_≡_, refl, sym, ap, _∙_}
+use mathlib.Core.Path.{_≡_, sym, _∙_}
 use native.Mathlib.Omega.{arith}
-use Prim.Native.Nat.{ℕ, suc, _+_, _-_, _*_, _≤_, _<_}
-use lib.ListN.{length, getD}
-use borrow.Author.Tests.{lt-ltb, le-ltb, le-leb, lt-leb, eq-eqb, ne-eqb}
+use Prim.Native.Nat.{_-_, _≤_}
 use Rattle.bundle.specs.Limits.{item-limit, use-limit}
-use Rattle.bundle.specs.Steps.{length-next, formed-next, string-next}
-use Rattle.names.specs.Path.{isPath}
 use Rattle.bundle.specs.Walks.{file-goes, files-next, files-fault, files-done}
-use Rattle.bundle.specs.Scan.{scanFile, scanFiles, scanHeader}
-use Rattle.bundle.specs.Read.{files, lists, form}
+use Rattle.bundle.specs.Scan.{scanFiles}
 use Rattle.bundle.proofs.form.files_end.Statement.{statement}
 use Rattle.bundle.proofs.form.files_end.Tie as tie
 
@@ -20,16 +16,22 @@ abbrev μ-loop : tie.MeasureT-loop
 μ-loop s at end n a₀ c₀ u₀ i₀ a c u i = n - i
 
 loop-holds : tie.Need-loop-holds Inv-loop μ-loop
-loop-holds c = let z : ((c .before) .args .n) - 0 ≡ ((c .before) .args .n) = omega arith in (omega arith, rw z)
+loop-holds c = let z : (c .before .args .n) - 0 ≡ (c .before .args .n) = omega arith in (omega arith, rw z)
 
 file-end-requires : tie.Need-file-end-requires Inv-loop μ-loop
-file-end-requires c κs = ((c .before .before .before) .pre, ((c .before .loop) .inv .0 .0, (c .before .loop) .inv .0 .1))
+file-end-requires c κs = (c .before .before .before .pre, (c .before .loop .inv .0 .0, c .before .loop .inv .0 .1))
 
 enum-known-one : tie.Need-enum-known-one Inv-loop μ-loop
 enum-known-one c = search needs
 
 returns : tie.Need-returns Inv-loop μ-loop
-returns c = sym (files-fault ((c .before .before .before .before .before .before .before) .args .s .now) ((c .before .before .before .before .before .before .before) .args .end) ((c .before .before .before .before .before .before .before) .args .n) ((c .before .before .before .before .before .loop) .i) ((c .before .before .before .before .before .loop) .a) ((c .before .before .before .before .before .loop) .c) ((c .before .before .before .before .before .loop) .u) _ _ ((c .before .before .before .before .loop-test) .taken) (sym ((c .before .before .before .file-end) .ensures) ∙ (c .before .one) .given .1)) ∙ (c .before .before .before .before .before .loop) .inv .1
+returns c =
+    let start' = c .before .before .before .before .before .before .before in
+    let loop' = c .before .before .before .before .before .loop in
+    let loop-test' = c .before .before .before .before .loop-test in
+    let file-end' = c .before .before .before .file-end in
+    let one' = c .before .one in
+    sym (files-fault (start' .args .s .now) (start' .args .end) (start' .args .n) (loop' .i) (loop' .a) (loop' .c) (loop' .u) _ _ (loop-test' .taken) (sym (file-end' .ensures) ∙ one' .given .1)) ∙ loop' .inv .1
 
 enum-known-one-2 : tie.Need-enum-known-one-2 Inv-loop μ-loop
 enum-known-one-2 c = search needs
@@ -41,10 +43,20 @@ loop-less : tie.Need-loop-less Inv-loop μ-loop
 loop-less c = search needs
 
 loop-again : tie.Need-loop-again Inv-loop μ-loop
-loop-again c = let w = file-goes ((c .before .before .before .before .before .before .before) .args .s .now) ((c .before .before .before .before .before .before .before) .args .end) ((c .before .before .before .before .before .loop) .a) ((c .before .before .before .before .before .loop) .c) ((c .before .before .before .before .before .loop) .u) ((c .before .one2) .given .0 .0) ((c .before .one2) .given .0 .1 .0) ((c .before .one2) .given .0 .1 .1 .0) ((c .before .before .before .before .before .loop) .inv .0 .0) ((c .before .before .before .before .before .loop) .inv .0 .1) (sym ((c .before .before .before .file-end) .ensures) ∙ (c .before .one2) .given .1) in ((w .1, w .2), sym (files-next ((c .before .before .before .before .before .before .before) .args .s .now) ((c .before .before .before .before .before .before .before) .args .end) ((c .before .before .before .before .before .before .before) .args .n) ((c .before .before .before .before .before .loop) .i) ((c .before .before .before .before .before .loop) .a) ((c .before .before .before .before .before .loop) .c) ((c .before .before .before .before .before .loop) .u) ((c .before .one2) .given .0 .0) ((c .before .one2) .given .0 .1 .0) ((c .before .one2) .given .0 .1 .1 .0) ((c .before .before .before .before .loop-test) .taken) (sym ((c .before .before .before .file-end) .ensures) ∙ (c .before .one2) .given .1)) ∙ (c .before .before .before .before .before .loop) .inv .1)
+loop-again c =
+    let start' = c .before .before .before .before .before .before .before in
+    let loop' = c .before .before .before .before .before .loop in
+    let loop-test' = c .before .before .before .before .loop-test in
+    let file-end' = c .before .before .before .file-end in
+    let one2' = c .before .one2 in
+    let w = file-goes (start' .args .s .now) (start' .args .end) (loop' .a) (loop' .c) (loop' .u) (one2' .given .0 .0) (one2' .given .0 .1 .0) (one2' .given .0 .1 .1 .0) (loop' .inv .0 .0) (loop' .inv .0 .1) (sym (file-end' .ensures) ∙ one2' .given .1) in
+    ((w .1, w .2), sym (files-next (start' .args .s .now) (start' .args .end) (start' .args .n) (loop' .i) (loop' .a) (loop' .c) (loop' .u) (one2' .given .0 .0) (one2' .given .0 .1 .0) (one2' .given .0 .1 .1 .0) (loop-test' .taken) (sym (file-end' .ensures) ∙ one2' .given .1)) ∙ loop' .inv .1)
 
 returns-2 : tie.Need-returns-2 Inv-loop μ-loop
-returns-2 c = sym (files-done ((c .before .before .before) .args .s .now) ((c .before .before .before) .args .end) ((c .before .before .before) .args .n) ((c .before .loop) .i) ((c .before .loop) .a) ((c .before .loop) .c) ((c .before .loop) .u) ((c .loop-test) .left)) ∙ (c .before .loop) .inv .1
+returns-2 c =
+    let start' = c .before .before .before in
+    let loop' = c .before .loop in
+    sym (files-done (start' .args .s .now) (start' .args .end) (start' .args .n) (loop' .i) (loop' .a) (loop' .c) (loop' .u) (c .loop-test .left)) ∙ loop' .inv .1
 
 pub files-end-spec : {M : Type 1} → statement M
 files-end-spec =

@@ -1,15 +1,7 @@
+-- `bundle::form::files_form` meets its contract, way by way. Assumes nothing.
 use borrow.Author.Needs.{needs}
-use mathlib.Core.Path.{_≡_, refl, sym, ap, _∙_}
-use native.Mathlib.Omega.{arith}
-use Prim.Native.Nat.{ℕ, suc, _+_, _-_, _*_, _≤_, _<_}
-use lib.ListN.{length, getD}
-use borrow.Author.Tests.{lt-ltb, le-ltb, le-leb, lt-leb, eq-eqb, ne-eqb}
-use Rattle.bundle.specs.Limits.{item-limit, use-limit}
-use Rattle.bundle.specs.Steps.{length-next, formed-next, string-next}
-use Rattle.names.specs.Path.{isPath}
-use Rattle.bundle.specs.Walks.{file-goes, files-next, files-fault, files-done}
-use Rattle.bundle.specs.Scan.{scanFile, scanFiles, scanHeader}
-use Rattle.bundle.specs.Read.{files, lists, form}
+use mathlib.Core.Path.{sym, _∙_}
+use Rattle.bundle.specs.Read.{files}
 use Rattle.bundle.proofs.form.files_form.Statement.{statement}
 use Rattle.bundle.proofs.form.files_form.Tie as tie
 
@@ -45,19 +37,40 @@ enum-told c = search needs
 
 returns : tie.Need-returns
 unfolding files
-returns c = rw (sym ((c .before .before .before .count-end) .ensures) ∙ (c .before .count) .given .1)
+returns c = rw (sym (c .before .before .before .count-end .ensures) ∙ c .before .count .given .1)
 
 returns-2 : tie.Need-returns-2
 unfolding files
-returns-2 c = rw (sym ((c .before .before .before .before .before .before .before .before .count-end) .ensures) ∙ (c .before .before .before .before .before .before .count2) .given .1, sym ((c .before .before .before .before .byte-at) .ensures .0), sym ((c .before .before .before .files-end) .ensures) ∙ (c .before .all) .given .1)
+returns-2 c =
+    let count-end' = c .before .before .before .before .before .before .before .before .count-end in
+    let count2' = c .before .before .before .before .before .before .count2 in
+    let byte-at' = c .before .before .before .before .byte-at in
+    let files-end' = c .before .before .before .files-end in
+    let all' = c .before .all in
+    rw (sym (count-end' .ensures) ∙ count2' .given .1, sym (byte-at' .ensures .0), sym (files-end' .ensures) ∙ all' .given .1)
 
 returns-3 : tie.Need-returns-3
 unfolding files
-returns-3 c = rw (sym ((c .before .before .before .before .before .before .before .before .before .before .before .before .count-end) .ensures) ∙ (c .before .before .before .before .before .before .before .before .before .before .count2) .given .1, sym ((c .before .before .before .before .before .before .before .before .byte-at) .ensures .0), sym ((c .before .before .before .before .before .before .before .files-end) .ensures) ∙ (c .before .before .before .before .before .all2) .given .1, sym ((c .before .before .before .nothing-left) .ensures) ∙ (c .before .left) .given .1)
+returns-3 c =
+    let count-end' = c .before .before .before .before .before .before .before .before .before .before .before .before .count-end in
+    let count2' = c .before .before .before .before .before .before .before .before .before .before .count2 in
+    let byte-at' = c .before .before .before .before .before .before .before .before .byte-at in
+    let files-end' = c .before .before .before .before .before .before .before .files-end in
+    let all2' = c .before .before .before .before .before .all2 in
+    let nothing-left' = c .before .before .before .nothing-left in
+    let left' = c .before .left in
+    rw (sym (count-end' .ensures) ∙ count2' .given .1, sym (byte-at' .ensures .0), sym (files-end' .ensures) ∙ all2' .given .1, sym (nothing-left' .ensures) ∙ left' .given .1)
 
 returns-4 : tie.Need-returns-4
 unfolding files
-returns-4 c = rw (sym ((c .before .before .before .before .before .before .before .before .before .before .before .count-end) .ensures) ∙ (c .before .before .before .before .before .before .before .before .before .count2) .given .1, sym ((c .before .before .before .before .before .before .before .byte-at) .ensures .0), sym ((c .before .before .before .before .before .before .files-end) .ensures) ∙ (c .before .before .before .before .all2) .given .1, sym ((c .before .before .nothing-left) .ensures) ∙ (c .enum-told) .given .1)
+returns-4 c =
+    let count-end' = c .before .before .before .before .before .before .before .before .before .before .before .count-end in
+    let count2' = c .before .before .before .before .before .before .before .before .before .count2 in
+    let byte-at' = c .before .before .before .before .before .before .before .byte-at in
+    let files-end' = c .before .before .before .before .before .before .files-end in
+    let all2' = c .before .before .before .before .all2 in
+    let nothing-left' = c .before .before .nothing-left in
+    rw (sym (count-end' .ensures) ∙ count2' .given .1, sym (byte-at' .ensures .0), sym (files-end' .ensures) ∙ all2' .given .1, sym (nothing-left' .ensures) ∙ c .enum-told .given .1)
 
 pub files-form-spec : {M : Type 1} → statement M
 files-form-spec =

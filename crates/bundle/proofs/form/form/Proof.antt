@@ -1,15 +1,7 @@
+-- `bundle::form::form` meets its contract, way by way. Assumes nothing.
 use borrow.Author.Needs.{needs}
-use mathlib.Core.Path.{_≡_, refl, sym, ap, _∙_}
-use native.Mathlib.Omega.{arith}
-use Prim.Native.Nat.{ℕ, suc, _+_, _-_, _*_, _≤_, _<_}
-use lib.ListN.{length, getD}
-use borrow.Author.Tests.{lt-ltb, le-ltb, le-leb, lt-leb, eq-eqb, ne-eqb}
-use Rattle.bundle.specs.Limits.{item-limit, use-limit}
-use Rattle.bundle.specs.Steps.{length-next, formed-next, string-next}
-use Rattle.names.specs.Path.{isPath}
-use Rattle.bundle.specs.Walks.{file-goes, files-next, files-fault, files-done}
-use Rattle.bundle.specs.Scan.{scanFile, scanFiles, scanHeader}
-use Rattle.bundle.specs.Read.{files, lists, form}
+use mathlib.Core.Path.{sym, _∙_}
+use Rattle.bundle.specs.Read.{form}
 use Rattle.bundle.proofs.form.form.Statement.{statement}
 use Rattle.bundle.proofs.form.form.Tie as tie
 
@@ -36,15 +28,25 @@ lists-form-requires c κs = search needs
 
 returns : tie.Need-returns
 unfolding form
-returns c = rw (sym ((c .before .before .before .header-end) .ensures) ∙ (c .before .header) .given .1)
+returns c = rw (sym (c .before .before .before .header-end .ensures) ∙ c .before .header .given .1)
 
 returns-2 : tie.Need-returns-2
 unfolding form
-returns-2 c = rw (sym ((c .before .before .before .before .before .before .before .header-end) .ensures) ∙ (c .before .before .before .before .before .header2) .given .1, sym ((c .before .before .before .path-end) .ensures) ∙ (c .before .path) .given .1)
+returns-2 c =
+    let header-end' = c .before .before .before .before .before .before .before .header-end in
+    let header2' = c .before .before .before .before .before .header2 in
+    let path-end' = c .before .before .before .path-end in
+    let path' = c .before .path in
+    rw (sym (header-end' .ensures) ∙ header2' .given .1, sym (path-end' .ensures) ∙ path' .given .1)
 
 returns-3 : tie.Need-returns-3
 unfolding form
-returns-3 c = rw (sym ((c .before .before .before .before .before .before .before .before .header-end) .ensures) ∙ (c .before .before .before .before .before .before .header2) .given .1, sym ((c .before .before .before .before .path-end) .ensures) ∙ (c .before .before .path2) .given .1) ((c .lists-form) .ensures)
+returns-3 c =
+    let header-end' = c .before .before .before .before .before .before .before .before .header-end in
+    let header2' = c .before .before .before .before .before .before .header2 in
+    let path-end' = c .before .before .before .before .path-end in
+    let path2' = c .before .before .path2 in
+    rw (sym (header-end' .ensures) ∙ header2' .given .1, sym (path-end' .ensures) ∙ path2' .given .1) (c .lists-form .ensures)
 
 pub form-spec : {M : Type 1} → statement M
 form-spec =

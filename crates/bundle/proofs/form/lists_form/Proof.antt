@@ -1,15 +1,7 @@
+-- `bundle::form::lists_form` meets its contract, way by way. Assumes nothing.
 use borrow.Author.Needs.{needs}
-use mathlib.Core.Path.{_≡_, refl, sym, ap, _∙_}
-use native.Mathlib.Omega.{arith}
-use Prim.Native.Nat.{ℕ, suc, _+_, _-_, _*_, _≤_, _<_}
-use lib.ListN.{length, getD}
-use borrow.Author.Tests.{lt-ltb, le-ltb, le-leb, lt-leb, eq-eqb, ne-eqb}
-use Rattle.bundle.specs.Limits.{item-limit, use-limit}
-use Rattle.bundle.specs.Steps.{length-next, formed-next, string-next}
-use Rattle.names.specs.Path.{isPath}
-use Rattle.bundle.specs.Walks.{file-goes, files-next, files-fault, files-done}
-use Rattle.bundle.specs.Scan.{scanFile, scanFiles, scanHeader}
-use Rattle.bundle.specs.Read.{files, lists, form}
+use mathlib.Core.Path.{sym, _∙_}
+use Rattle.bundle.specs.Read.{lists}
 use Rattle.bundle.proofs.form.lists_form.Statement.{statement}
 use Rattle.bundle.proofs.form.lists_form.Tie as tie
 
@@ -36,15 +28,25 @@ files-form-requires c κs = search needs
 
 returns : tie.Need-returns
 unfolding lists
-returns c = rw (sym ((c .before .before .before .list-end) .ensures) ∙ (c .before .folders) .given .1)
+returns c = rw (sym (c .before .before .before .list-end .ensures) ∙ c .before .folders .given .1)
 
 returns-2 : tie.Need-returns-2
 unfolding lists
-returns-2 c = rw (sym ((c .before .before .before .before .before .before .before .list-end) .ensures) ∙ (c .before .before .before .before .before .folders2) .given .1, sym ((c .before .before .before .list-end2) .ensures) ∙ (c .before .remappings) .given .1)
+returns-2 c =
+    let list-end' = c .before .before .before .before .before .before .before .list-end in
+    let folders2' = c .before .before .before .before .before .folders2 in
+    let list-end2' = c .before .before .before .list-end2 in
+    let remappings' = c .before .remappings in
+    rw (sym (list-end' .ensures) ∙ folders2' .given .1, sym (list-end2' .ensures) ∙ remappings' .given .1)
 
 returns-3 : tie.Need-returns-3
 unfolding lists
-returns-3 c = rw (sym ((c .before .before .before .before .before .before .before .before .list-end) .ensures) ∙ (c .before .before .before .before .before .before .folders2) .given .1, sym ((c .before .before .before .before .list-end2) .ensures) ∙ (c .before .before .remappings2) .given .1) ((c .files-form) .ensures)
+returns-3 c =
+    let list-end' = c .before .before .before .before .before .before .before .before .list-end in
+    let folders2' = c .before .before .before .before .before .before .folders2 in
+    let list-end2' = c .before .before .before .before .list-end2 in
+    let remappings2' = c .before .before .remappings2 in
+    rw (sym (list-end' .ensures) ∙ folders2' .given .1, sym (list-end2' .ensures) ∙ remappings2' .given .1) (c .files-form .ensures)
 
 pub lists-form-spec : {M : Type 1} → statement M
 lists-form-spec =

@@ -1,17 +1,15 @@
+-- `bundle::items::item` and `bundle::items::items` meet their contracts: the depth falls from one to the other. Assumes nothing.
 use borrow.Author.Needs.{needs}
-use Prim.Native.Nat.{ℕ, _<_}
 use borrow.Fn.Kinds.{In}
 use borrow.Fn.PlainCycle.{Measures, is, falls, and}
-use mathlib.Core.Path.{_≡_, refl, sym, ap, _∙_}
+use mathlib.Core.Path.{_≡_, refl, sym, _∙_}
 use native.Mathlib.Omega.{arith}
-use Prim.Native.Nat.{ℕ, suc, _+_, _-_, _*_, _≤_, _<_}
-use lib.ListN.{length, getD}
-use borrow.Author.Tests.{lt-ltb, le-ltb, le-leb, lt-leb, eq-eqb, ne-eqb}
+use Prim.Native.Nat.{ℕ, _+_, _-_, _*_, _<_, _≤_}
 use Rattle.bundle.specs.Limits.{item-limit, use-limit}
-use Rattle.bundle.specs.Steps.{length-next, mark-next, Head, head-next, formed-next, string-next}
+use Rattle.bundle.specs.Steps.{head-next, formed-next, string-next}
 use Rattle.names.specs.Identifier.{isIdentifier}
-use Rattle.bundle.specs.Walks.{Went, goes, siblings-next, siblings-fault, siblings-done, head-fault, too-deep, name-fault, enters, leaf-fault, leaf-past}
-use Rattle.bundle.specs.Scan.{usesAfter, scanHead, scanBody, scanEnd, scanItem, scanItems, siblings}
+use Rattle.bundle.specs.Walks.{goes, siblings-next, siblings-fault, siblings-done, head-fault, too-deep, name-fault, enters, leaf-fault, leaf-past}
+use Rattle.bundle.specs.Scan.{scanItem, scanItems}
 use Rattle.bundle.proofs.items.item.Reads as item
 use Rattle.bundle.proofs.items.item.Kinds as item-kinds
 use Rattle.bundle.proofs.items.+item+items.Lts-item as item-lts
@@ -106,7 +104,12 @@ item-add-byte-at : (t : ℕ) → item-lts.Need-add-byte-at (
   uses-after-reads.Asked,
   uses-after-reads.Learnt,
 ) (item-at t) item.Post
-item-add-byte-at t c = let hd = head-next ((c .before .before .before .before .before) .args .s .now) ((c .before .before .before .before .before) .args .end) ((c .before .before .before .before .before) .args .at) ((c .before .before .before .before .before) .args .count) ((c .before .before .before .before .before) .args .uses) (sym ((c .before .before .before .head-end) .ensures) ∙ (c .before .head2) .given .1) in omega (arith, hd .long, hd .within, (c .before .before .before .before .before) .pre .1, (c .before .before .before .before .before) .good .0)
+item-add-byte-at t c =
+    let start' = c .before .before .before .before .before in
+    let head-end' = c .before .before .before .head-end in
+    let head2' = c .before .head2 in
+    let hd = head-next (start' .args .s .now) (start' .args .end) (start' .args .at) (start' .args .count) (start' .args .uses) (sym (head-end' .ensures) ∙ head2' .given .1) in
+    omega (arith, hd .long, hd .within, start' .pre .1, start' .good .0)
 
 item-byte-at-requires : (t : ℕ) → item-lts.Need-byte-at-requires (
   head-end-reads.Asked,
@@ -138,7 +141,13 @@ item-returns : (t : ℕ) → item-lts.Need-returns (
   uses-after-reads.Asked,
   uses-after-reads.Learnt,
 ) (item-at t) item.Post
-item-returns t c = too-deep ((c .before .before .before .before .before .before .before .before) .args .depth) ((c .before .before .before .before .before .before .before .before) .args .s .now) ((c .before .before .before .before .before .before .before .before) .args .end) ((c .before .before .before .before .before .before .before .before) .args .at) ((c .before .before .before .before .before .before .before .before) .args .count) ((c .before .before .before .before .before .before .before .before) .args .uses) ((c .before .before .before .before .head2) .given .0 .0) (sym ((c .before .before .before .before .before .before .head-end) .ensures) ∙ (c .before .before .before .before .head2) .given .1) (sym ((c .before .before .byte-at) .ensures .0) ∙ (c .before .if1) .taken) ((c .if2) .taken)
+item-returns t c =
+    let start' = c .before .before .before .before .before .before .before .before in
+    let head-end' = c .before .before .before .before .before .before .head-end in
+    let head2' = c .before .before .before .before .head2 in
+    let byte-at' = c .before .before .byte-at in
+    let if1' = c .before .if1 in
+    too-deep (start' .args .depth) (start' .args .s .now) (start' .args .end) (start' .args .at) (start' .args .count) (start' .args .uses) (head2' .given .0 .0) (sym (head-end' .ensures) ∙ head2' .given .1) (sym (byte-at' .ensures .0) ∙ if1' .taken) (c .if2 .taken)
 
 item-add-name-end : (t : ℕ) → item-lts.Need-add-name-end (
   head-end-reads.Asked,
@@ -154,7 +163,12 @@ item-add-name-end : (t : ℕ) → item-lts.Need-add-name-end (
   uses-after-reads.Asked,
   uses-after-reads.Learnt,
 ) (item-at t) item.Post
-item-add-name-end t c = let hd = head-next ((c .before .before .before .before .before .before .before .before) .args .s .now) ((c .before .before .before .before .before .before .before .before) .args .end) ((c .before .before .before .before .before .before .before .before) .args .at) ((c .before .before .before .before .before .before .before .before) .args .count) ((c .before .before .before .before .before .before .before .before) .args .uses) (sym ((c .before .before .before .before .before .before .head-end) .ensures) ∙ (c .before .before .before .before .head2) .given .1) in omega (arith, hd .long, hd .within, (c .before .before .before .before .before .before .before .before) .pre .1, (c .before .before .before .before .before .before .before .before) .good .0)
+item-add-name-end t c =
+    let start' = c .before .before .before .before .before .before .before .before in
+    let head-end' = c .before .before .before .before .before .before .head-end in
+    let head2' = c .before .before .before .before .head2 in
+    let hd = head-next (start' .args .s .now) (start' .args .end) (start' .args .at) (start' .args .count) (start' .args .uses) (sym (head-end' .ensures) ∙ head2' .given .1) in
+    omega (arith, hd .long, hd .within, start' .pre .1, start' .good .0)
 
 item-name-end-requires : (t : ℕ) → item-lts.Need-name-end-requires (
   head-end-reads.Asked,
@@ -170,7 +184,12 @@ item-name-end-requires : (t : ℕ) → item-lts.Need-name-end-requires (
   uses-after-reads.Asked,
   uses-after-reads.Learnt,
 ) (item-at t) item.Post
-item-name-end-requires t c κs = let hd = head-next ((c .before .before .before .before .before .before .before .before) .args .s .now) ((c .before .before .before .before .before .before .before .before) .args .end) ((c .before .before .before .before .before .before .before .before) .args .at) ((c .before .before .before .before .before .before .before .before) .args .count) ((c .before .before .before .before .before .before .before .before) .args .uses) (sym ((c .before .before .before .before .before .before .head-end) .ensures) ∙ (c .before .before .before .before .head2) .given .1) in omega (arith, hd .within, (c .before .before .before .before .before .before .before .before) .pre .1, (c .before .before .before .before .before .before .before .before) .good .0)
+item-name-end-requires t c κs =
+    let start' = c .before .before .before .before .before .before .before .before in
+    let head-end' = c .before .before .before .before .before .before .head-end in
+    let head2' = c .before .before .before .before .head2 in
+    let hd = head-next (start' .args .s .now) (start' .args .end) (start' .args .at) (start' .args .count) (start' .args .uses) (sym (head-end' .ensures) ∙ head2' .given .1) in
+    omega (arith, hd .within, start' .pre .1, start' .good .0)
 
 item-enum-known-name : (t : ℕ) → item-lts.Need-enum-known-name (
   head-end-reads.Asked,
@@ -234,7 +253,12 @@ item-add-items : (t : ℕ) → item-lts.Need-add-items (
   uses-after-reads.Asked,
   uses-after-reads.Learnt,
 ) (item-at t) item.Post
-item-add-items t c = let hd = head-next ((c .before .before .before .before .before .before .before .before .before .before .before .before) .args .s .now) ((c .before .before .before .before .before .before .before .before .before .before .before .before) .args .end) ((c .before .before .before .before .before .before .before .before .before .before .before .before) .args .at) ((c .before .before .before .before .before .before .before .before .before .before .before .before) .args .count) ((c .before .before .before .before .before .before .before .before .before .before .before .before) .args .uses) (sym ((c .before .before .before .before .before .before .before .before .before .before .head-end) .ensures) ∙ (c .before .before .before .before .before .before .before .before .head2) .given .1) in omega (arith, hd .count-small)
+item-add-items t c =
+    let start' = c .before .before .before .before .before .before .before .before .before .before .before .before in
+    let head-end' = c .before .before .before .before .before .before .before .before .before .before .head-end in
+    let head2' = c .before .before .before .before .before .before .before .before .head2 in
+    let hd = head-next (start' .args .s .now) (start' .args .end) (start' .args .at) (start' .args .count) (start' .args .uses) (sym (head-end' .ensures) ∙ head2' .given .1) in
+    omega (arith, hd .count-small)
 
 item-items-requires : (t : ℕ) → item-lts.Need-items-requires (
   head-end-reads.Asked,
@@ -250,10 +274,17 @@ item-items-requires : (t : ℕ) → item-lts.Need-items-requires (
   uses-after-reads.Asked,
   uses-after-reads.Learnt,
 ) (item-at t) item.Post
-item-items-requires t c κs = let hd = head-next ((c .before .before .before .before .before .before .before .before .before .before .before .before) .args .s .now) ((c .before .before .before .before .before .before .before .before .before .before .before .before) .args .end) ((c .before .before .before .before .before .before .before .before .before .before .before .before) .args .at) ((c .before .before .before .before .before .before .before .before .before .before .before .before) .args .count) ((c .before .before .before .before .before .before .before .before .before .before .before .before) .args .uses) (sym ((c .before .before .before .before .before .before .before .before .before .before .head-end) .ensures) ∙ (c .before .before .before .before .before .before .before .before .head2) .given .1) in let n = formed-next ((c .before .before .before .before .before .before .before .before .before .before .before .before) .args .s .now) ((c .before .before .before .before .before .before .before .before .head2) .given .0 .0) (((c .before .before .before .before .before .before .before .before .before .before .before .before) .args .at) + 4) isIdentifier 5 (sym ((c .before .before .before .name-end) .ensures) ∙ (c .before .name2) .given .1) in
-    let b = string-next ((c .before .before .before .before .before .before .before .before .before .before .before .before) .args .s .now) ((c .before .before .before .before .before .before .before .before .head2) .given .0 .0) (((c .before .before .before .before .before .before .before .before .before .before .before .before) .args .at) + 4) (n .0) in
-    let t = (c .before .before .before .before .before .before .before .before .before .before .before .before) .pre .0 in
-    (omega arith, ((b .2, omega (arith, hd .within, (c .before .before .before .before .before .before .before .before .before .before .before .before) .pre .1, (c .before .before .before .before .before .before .before .before .before .before .before .before) .good .0)), (omega (arith, hd .count-small), (c .before .before .before .before .before .before .before .before .before .before .before .before) .pre .1 .1 .1)))
+item-items-requires t c κs =
+    let start' = c .before .before .before .before .before .before .before .before .before .before .before .before in
+    let head-end' = c .before .before .before .before .before .before .before .before .before .before .head-end in
+    let head2' = c .before .before .before .before .before .before .before .before .head2 in
+    let name-end' = c .before .before .before .name-end in
+    let name2' = c .before .name2 in
+    let hd = head-next (start' .args .s .now) (start' .args .end) (start' .args .at) (start' .args .count) (start' .args .uses) (sym (head-end' .ensures) ∙ head2' .given .1) in
+    let n = formed-next (start' .args .s .now) (head2' .given .0 .0) ((start' .args .at) + 4) isIdentifier 5 (sym (name-end' .ensures) ∙ name2' .given .1) in
+    let b = string-next (c .before .before .before .before .before .before .before .before .before .before .before .before .args .s .now) (c .before .before .before .before .before .before .before .before .head2 .given .0 .0) ((c .before .before .before .before .before .before .before .before .before .before .before .before .args .at) + 4) (n .0) in
+    let t = c .before .before .before .before .before .before .before .before .before .before .before .before .pre .0 in
+    (omega arith, ((b .2, omega (arith, hd .within, c .before .before .before .before .before .before .before .before .before .before .before .before .pre .1, c .before .before .before .before .before .before .before .before .before .before .before .before .good .0)), (omega (arith, hd .count-small), c .before .before .before .before .before .before .before .before .before .before .before .before .pre .1 .1 .1)))
 
 item-leaf-end-requires : (t : ℕ) → item-lts.Need-leaf-end-requires (
   head-end-reads.Asked,
@@ -269,7 +300,12 @@ item-leaf-end-requires : (t : ℕ) → item-lts.Need-leaf-end-requires (
   uses-after-reads.Asked,
   uses-after-reads.Learnt,
 ) (item-at t) item.Post
-item-leaf-end-requires t c κs = let hd = head-next ((c .before .before .before .before .before .before .before) .args .s .now) ((c .before .before .before .before .before .before .before) .args .end) ((c .before .before .before .before .before .before .before) .args .at) ((c .before .before .before .before .before .before .before) .args .count) ((c .before .before .before .before .before .before .before) .args .uses) (sym ((c .before .before .before .before .before .head-end) .ensures) ∙ (c .before .before .before .head2) .given .1) in (hd .long, omega (arith, hd .within, (c .before .before .before .before .before .before .before) .pre .1, (c .before .before .before .before .before .before .before) .good .0))
+item-leaf-end-requires t c κs =
+    let start' = c .before .before .before .before .before .before .before in
+    let head-end' = c .before .before .before .before .before .head-end in
+    let head2' = c .before .before .before .head2 in
+    let hd = head-next (start' .args .s .now) (start' .args .end) (start' .args .at) (start' .args .count) (start' .args .uses) (sym (head-end' .ensures) ∙ head2' .given .1) in
+    (hd .long, omega (arith, hd .within, start' .pre .1, start' .good .0))
 
 item-enum-known-leaf : (t : ℕ) → item-lts.Need-enum-known-leaf (
   head-end-reads.Asked,
@@ -317,7 +353,12 @@ item-add-t30 : (t : ℕ) → item-lts.Need-add-t30 (
   uses-after-reads.Asked,
   uses-after-reads.Learnt,
 ) (item-at t) item.Post
-item-add-t30 t c = let hd = head-next ((c .before .before .before .before .before .before .before .before .before .before .before) .args .s .now) ((c .before .before .before .before .before .before .before .before .before .before .before) .args .end) ((c .before .before .before .before .before .before .before .before .before .before .before) .args .at) ((c .before .before .before .before .before .before .before .before .before .before .before) .args .count) ((c .before .before .before .before .before .before .before .before .before .before .before) .args .uses) (sym ((c .before .before .before .before .before .before .before .before .before .head-end) .ensures) ∙ (c .before .before .before .before .before .before .before .head2) .given .1) in omega (arith, hd .count-small)
+item-add-t30 t c =
+    let start' = c .before .before .before .before .before .before .before .before .before .before .before in
+    let head-end' = c .before .before .before .before .before .before .before .before .before .head-end in
+    let head2' = c .before .before .before .before .before .before .before .head2 in
+    let hd = head-next (start' .args .s .now) (start' .args .end) (start' .args .at) (start' .args .count) (start' .args .uses) (sym (head-end' .ensures) ∙ head2' .given .1) in
+    omega (arith, hd .count-small)
 
 item-uses-after-requires : (t : ℕ) → item-lts.Need-uses-after-requires (
   head-end-reads.Asked,
@@ -333,7 +374,12 @@ item-uses-after-requires : (t : ℕ) → item-lts.Need-uses-after-requires (
   uses-after-reads.Asked,
   uses-after-reads.Learnt,
 ) (item-at t) item.Post
-item-uses-after-requires t c κs = let hd = head-next ((c .before .before .before .before .before .before .before .before .before .before .before) .args .s .now) ((c .before .before .before .before .before .before .before .before .before .before .before) .args .end) ((c .before .before .before .before .before .before .before .before .before .before .before) .args .at) ((c .before .before .before .before .before .before .before .before .before .before .before) .args .count) ((c .before .before .before .before .before .before .before .before .before .before .before) .args .uses) (sym ((c .before .before .before .before .before .before .before .before .before .head-end) .ensures) ∙ (c .before .before .before .before .before .before .before .head2) .given .1) in (omega (arith, hd .long, hd .within, (c .before .before .before .before .before .before .before .before .before .before .before) .pre .1, (c .before .before .before .before .before .before .before .before .before .before .before) .good .0), (c .before .before .before .before .before .before .before .before .before .before .before) .pre .1 .1 .1)
+item-uses-after-requires t c κs =
+    let start' = c .before .before .before .before .before .before .before .before .before .before .before in
+    let head-end' = c .before .before .before .before .before .before .before .before .before .head-end in
+    let head2' = c .before .before .before .before .before .before .before .head2 in
+    let hd = head-next (start' .args .s .now) (start' .args .end) (start' .args .at) (start' .args .count) (start' .args .uses) (sym (head-end' .ensures) ∙ head2' .given .1) in
+    (omega (arith, hd .long, hd .within, start' .pre .1, start' .good .0), start' .pre .1 .1 .1)
 
 item-returns-2 : (t : ℕ) → item-lts.Need-returns-2 (
   head-end-reads.Asked,
@@ -349,7 +395,11 @@ item-returns-2 : (t : ℕ) → item-lts.Need-returns-2 (
   uses-after-reads.Asked,
   uses-after-reads.Learnt,
 ) (item-at t) item.Post
-item-returns-2 t c = head-fault ((c .before .before .before .before .before) .args .depth) ((c .before .before .before .before .before) .args .s .now) ((c .before .before .before .before .before) .args .end) ((c .before .before .before .before .before) .args .at) ((c .before .before .before .before .before) .args .count) ((c .before .before .before .before .before) .args .uses) _ _ (sym ((c .before .before .before .head-end) .ensures) ∙ (c .before .head) .given .1)
+item-returns-2 t c =
+    let start' = c .before .before .before .before .before in
+    let head-end' = c .before .before .before .head-end in
+    let head' = c .before .head in
+    head-fault (start' .args .depth) (start' .args .s .now) (start' .args .end) (start' .args .at) (start' .args .count) (start' .args .uses) _ _ (sym (head-end' .ensures) ∙ head' .given .1)
 
 item-returns-3 : (t : ℕ) → item-lts.Need-returns-3 (
   head-end-reads.Asked,
@@ -365,7 +415,16 @@ item-returns-3 : (t : ℕ) → item-lts.Need-returns-3 (
   uses-after-reads.Asked,
   uses-after-reads.Learnt,
 ) (item-at t) item.Post
-item-returns-3 t c = name-fault ((c .before .before .before .before .before .before .before .before .before .before .before .before) .args .depth) ((c .before .before .before .before .before .before .before .before .before .before .before .before) .args .s .now) ((c .before .before .before .before .before .before .before .before .before .before .before .before) .args .end) ((c .before .before .before .before .before .before .before .before .before .before .before .before) .args .at) ((c .before .before .before .before .before .before .before .before .before .before .before .before) .args .count) ((c .before .before .before .before .before .before .before .before .before .before .before .before) .args .uses) ((c .before .before .before .before .before .before .before .before .head2) .given .0 .0) (sym ((c .before .before .before .before .before .before .before .before .before .before .head-end) .ensures) ∙ (c .before .before .before .before .before .before .before .before .head2) .given .1) _ _ (sym ((c .before .before .before .before .before .before .byte-at) .ensures .0) ∙ (c .before .before .before .before .before .if1) .taken) ((c .before .before .before .before .if2) .left) (sym ((c .before .before .before .name-end) .ensures) ∙ (c .before .name) .given .1)
+item-returns-3 t c =
+    let start' = c .before .before .before .before .before .before .before .before .before .before .before .before in
+    let head-end' = c .before .before .before .before .before .before .before .before .before .before .head-end in
+    let head2' = c .before .before .before .before .before .before .before .before .head2 in
+    let byte-at' = c .before .before .before .before .before .before .byte-at in
+    let if1' = c .before .before .before .before .before .if1 in
+    let if2' = c .before .before .before .before .if2 in
+    let name-end' = c .before .before .before .name-end in
+    let name' = c .before .name in
+    name-fault (start' .args .depth) (start' .args .s .now) (start' .args .end) (start' .args .at) (start' .args .count) (start' .args .uses) (head2' .given .0 .0) (sym (head-end' .ensures) ∙ head2' .given .1) _ _ (sym (byte-at' .ensures .0) ∙ if1' .taken) (if2' .left) (sym (name-end' .ensures) ∙ name' .given .1)
 
 item-returns-4 : (t : ℕ) → item-lts.Need-returns-4 (
   head-end-reads.Asked,
@@ -381,7 +440,16 @@ item-returns-4 : (t : ℕ) → item-lts.Need-returns-4 (
   uses-after-reads.Asked,
   uses-after-reads.Learnt,
 ) (item-at t) item.Post
-item-returns-4 t c = (c .items) .ensures ∙ enters ((c .before .before .before .before .before .before .before .before .before .before .before .before .before) .args .depth) ((c .before .before .before .before .before .before .before .before .before .before .before .before .before) .args .s .now) ((c .before .before .before .before .before .before .before .before .before .before .before .before .before) .args .end) ((c .before .before .before .before .before .before .before .before .before .before .before .before .before) .args .at) ((c .before .before .before .before .before .before .before .before .before .before .before .before .before) .args .count) ((c .before .before .before .before .before .before .before .before .before .before .before .before .before) .args .uses) ((c .before .before .before .before .before .before .before .before .before .head2) .given .0 .0) (sym ((c .before .before .before .before .before .before .before .before .before .before .before .head-end) .ensures) ∙ (c .before .before .before .before .before .before .before .before .before .head2) .given .1) _ (sym ((c .before .before .before .before .before .before .before .byte-at) .ensures .0) ∙ (c .before .before .before .before .before .before .if1) .taken) ((c .before .before .before .before .before .if2) .left) (sym ((c .before .before .before .before .name-end) .ensures) ∙ (c .before .before .name2) .given .1)
+item-returns-4 t c =
+    let start' = c .before .before .before .before .before .before .before .before .before .before .before .before .before in
+    let head-end' = c .before .before .before .before .before .before .before .before .before .before .before .head-end in
+    let head2' = c .before .before .before .before .before .before .before .before .before .head2 in
+    let byte-at' = c .before .before .before .before .before .before .before .byte-at in
+    let if1' = c .before .before .before .before .before .before .if1 in
+    let if2' = c .before .before .before .before .before .if2 in
+    let name-end' = c .before .before .before .before .name-end in
+    let name2' = c .before .before .name2 in
+    c .items .ensures ∙ enters (start' .args .depth) (start' .args .s .now) (start' .args .end) (start' .args .at) (start' .args .count) (start' .args .uses) (head2' .given .0 .0) (sym (head-end' .ensures) ∙ head2' .given .1) _ (sym (byte-at' .ensures .0) ∙ if1' .taken) (if2' .left) (sym (name-end' .ensures) ∙ name2' .given .1)
 
 item-returns-5 : (t : ℕ) → item-lts.Need-returns-5 (
   head-end-reads.Asked,
@@ -397,7 +465,15 @@ item-returns-5 : (t : ℕ) → item-lts.Need-returns-5 (
   uses-after-reads.Asked,
   uses-after-reads.Learnt,
 ) (item-at t) item.Post
-item-returns-5 t c = leaf-fault ((c .before .before .before .before .before .before .before .before .before .before .before) .args .depth) ((c .before .before .before .before .before .before .before .before .before .before .before) .args .s .now) ((c .before .before .before .before .before .before .before .before .before .before .before) .args .end) ((c .before .before .before .before .before .before .before .before .before .before .before) .args .at) ((c .before .before .before .before .before .before .before .before .before .before .before) .args .count) ((c .before .before .before .before .before .before .before .before .before .before .before) .args .uses) ((c .before .before .before .before .before .before .before .head2) .given .0 .0) (sym ((c .before .before .before .before .before .before .before .before .before .head-end) .ensures) ∙ (c .before .before .before .before .before .before .before .head2) .given .1) _ _ (λ e. (c .before .before .before .before .if1) .left ((c .before .before .before .before .before .byte-at) .ensures .0 ∙ e)) (sym ((c .before .before .before .leaf-end) .ensures) ∙ (c .before .leaf) .given .1)
+item-returns-5 t c =
+    let start' = c .before .before .before .before .before .before .before .before .before .before .before in
+    let head-end' = c .before .before .before .before .before .before .before .before .before .head-end in
+    let head2' = c .before .before .before .before .before .before .before .head2 in
+    let byte-at' = c .before .before .before .before .before .byte-at in
+    let if1' = c .before .before .before .before .if1 in
+    let leaf-end' = c .before .before .before .leaf-end in
+    let leaf' = c .before .leaf in
+    leaf-fault (start' .args .depth) (start' .args .s .now) (start' .args .end) (start' .args .at) (start' .args .count) (start' .args .uses) (head2' .given .0 .0) (sym (head-end' .ensures) ∙ head2' .given .1) _ _ (λ e. if1' .left (byte-at' .ensures .0 ∙ e)) (sym (leaf-end' .ensures) ∙ leaf' .given .1)
 
 item-returns-6 : (t : ℕ) → item-lts.Need-returns-6 (
   head-end-reads.Asked,
@@ -413,7 +489,15 @@ item-returns-6 : (t : ℕ) → item-lts.Need-returns-6 (
   uses-after-reads.Asked,
   uses-after-reads.Learnt,
 ) (item-at t) item.Post
-item-returns-6 t c = rw ((c .uses-after) .ensures) (leaf-past ((c .before .before .before .before .before .before .before .before .before .before .before .before) .args .depth) ((c .before .before .before .before .before .before .before .before .before .before .before .before) .args .s .now) ((c .before .before .before .before .before .before .before .before .before .before .before .before) .args .end) ((c .before .before .before .before .before .before .before .before .before .before .before .before) .args .at) ((c .before .before .before .before .before .before .before .before .before .before .before .before) .args .count) ((c .before .before .before .before .before .before .before .before .before .before .before .before) .args .uses) ((c .before .before .before .before .before .before .before .before .head2) .given .0 .0) (sym ((c .before .before .before .before .before .before .before .before .before .before .head-end) .ensures) ∙ (c .before .before .before .before .before .before .before .before .head2) .given .1) _ (λ e. (c .before .before .before .before .before .if1) .left ((c .before .before .before .before .before .before .byte-at) .ensures .0 ∙ e)) (sym ((c .before .before .before .before .leaf-end) .ensures) ∙ (c .before .before .leaf2) .given .1))
+item-returns-6 t c =
+    let start' = c .before .before .before .before .before .before .before .before .before .before .before .before in
+    let head-end' = c .before .before .before .before .before .before .before .before .before .before .head-end in
+    let head2' = c .before .before .before .before .before .before .before .before .head2 in
+    let byte-at' = c .before .before .before .before .before .before .byte-at in
+    let if1' = c .before .before .before .before .before .if1 in
+    let leaf-end' = c .before .before .before .before .leaf-end in
+    let leaf2' = c .before .before .leaf2 in
+    rw (c .uses-after .ensures) (leaf-past (start' .args .depth) (start' .args .s .now) (start' .args .end) (start' .args .at) (start' .args .count) (start' .args .uses) (head2' .given .0 .0) (sym (head-end' .ensures) ∙ head2' .given .1) _ (λ e. if1' .left (byte-at' .ensures .0 ∙ e)) (sym (leaf-end' .ensures) ∙ leaf2' .given .1))
 
 abbrev items-Inv-loop : items-lts.InvT-loop
 items-Inv-loop s at end depth count uses a₀ c₀ u₀ a c u = ((a ≤ end) × (c ≤ item-limit) × (u ≤ use-limit)) × (scanItems depth s end a c u ≡ scanItems depth s end at count uses)
@@ -429,7 +513,7 @@ items-loop-holds :
     items.Post
     items-Inv-loop
     items-μ-loop
-items-loop-holds t c = let p = (c .before) .pre .1 in ((p .0 .0, p .1 .0, p .1 .1), refl)
+items-loop-holds t c = let p = c .before .pre .1 in ((p .0 .0, p .1 .0, p .1 .1), refl)
 
 items-item-requires :
     (t : ℕ) →
@@ -439,7 +523,12 @@ items-item-requires :
     items.Post
     items-Inv-loop
     items-μ-loop
-items-item-requires t c κs = let p = (c .before .before .before) .pre .1 in let t = (c .before .before .before) .pre .0 in (omega arith, (((c .before .loop) .inv .0 .0, p .0 .1), ((c .before .loop) .inv .0 .1, (c .before .loop) .inv .0 .2)))
+items-item-requires t c κs =
+    let start' = c .before .before .before in
+    let loop' = c .before .loop in
+    let p = start' .pre .1 in
+    let t = start' .pre .0 in
+    (omega arith, ((loop' .inv .0 .0, p .0 .1), (loop' .inv .0 .1, loop' .inv .0 .2)))
 
 items-enum-known-one :
     (t : ℕ) →
@@ -459,7 +548,13 @@ items-returns :
     items.Post
     items-Inv-loop
     items-μ-loop
-items-returns t c = sym (siblings-fault (scanItem ((c .before .before .before .before .before .before .before) .args .depth) ((c .before .before .before .before .before .before .before) .args .s .now) ((c .before .before .before .before .before .before .before) .args .end)) ((c .before .before .before .before .before .before .before) .args .end) (goes ((c .before .before .before .before .before .before .before) .args .depth) ((c .before .before .before .before .before .before .before) .args .s .now) ((c .before .before .before .before .before .before .before) .args .end)) ((c .before .before .before .before .before .loop) .a) ((c .before .before .before .before .before .loop) .c) ((c .before .before .before .before .before .loop) .u) _ _ ((c .before .before .before .before .loop-test) .taken) (sym ((c .before .before .before .item) .ensures) ∙ (c .before .one) .given .1)) ∙ (c .before .before .before .before .before .loop) .inv .1
+items-returns t c =
+    let start' = c .before .before .before .before .before .before .before in
+    let loop' = c .before .before .before .before .before .loop in
+    let loop-test' = c .before .before .before .before .loop-test in
+    let item' = c .before .before .before .item in
+    let one' = c .before .one in
+    sym (siblings-fault (scanItem (start' .args .depth) (start' .args .s .now) (start' .args .end)) (start' .args .end) (goes (start' .args .depth) (start' .args .s .now) (start' .args .end)) (loop' .a) (loop' .c) (loop' .u) _ _ (loop-test' .taken) (sym (item' .ensures) ∙ one' .given .1)) ∙ loop' .inv .1
 
 items-enum-known-one-2 :
     (t : ℕ) →
@@ -479,7 +574,14 @@ items-loop-less :
     items.Post
     items-Inv-loop
     items-μ-loop
-items-loop-less t c = let w = goes ((c .before .before .before .before .before .before .before) .args .depth) ((c .before .before .before .before .before .before .before) .args .s .now) ((c .before .before .before .before .before .before .before) .args .end) ((c .before .before .before .before .before .loop) .a) ((c .before .before .before .before .before .loop) .c) ((c .before .before .before .before .before .loop) .u) ((c .before .one2) .given .0 .0) ((c .before .one2) .given .0 .1 .0) ((c .before .one2) .given .0 .1 .1 .0) (sym ((c .before .before .before .item) .ensures) ∙ (c .before .one2) .given .1) in omega (arith, w .from, w .to, (c .before .before .before .before .loop-test) .taken)
+items-loop-less t c =
+    let start' = c .before .before .before .before .before .before .before in
+    let loop' = c .before .before .before .before .before .loop in
+    let loop-test' = c .before .before .before .before .loop-test in
+    let item' = c .before .before .before .item in
+    let one2' = c .before .one2 in
+    let w = goes (start' .args .depth) (start' .args .s .now) (start' .args .end) (loop' .a) (loop' .c) (loop' .u) (one2' .given .0 .0) (one2' .given .0 .1 .0) (one2' .given .0 .1 .1 .0) (sym (item' .ensures) ∙ one2' .given .1) in
+    omega (arith, w .from, w .to, loop-test' .taken)
 
 items-loop-again :
     (t : ℕ) →
@@ -489,7 +591,14 @@ items-loop-again :
     items.Post
     items-Inv-loop
     items-μ-loop
-items-loop-again t c = let w = goes ((c .before .before .before .before .before .before .before) .args .depth) ((c .before .before .before .before .before .before .before) .args .s .now) ((c .before .before .before .before .before .before .before) .args .end) ((c .before .before .before .before .before .loop) .a) ((c .before .before .before .before .before .loop) .c) ((c .before .before .before .before .before .loop) .u) ((c .before .one2) .given .0 .0) ((c .before .one2) .given .0 .1 .0) ((c .before .one2) .given .0 .1 .1 .0) (sym ((c .before .before .before .item) .ensures) ∙ (c .before .one2) .given .1) in ((w .to, w .count, w .uses), sym (siblings-next (scanItem ((c .before .before .before .before .before .before .before) .args .depth) ((c .before .before .before .before .before .before .before) .args .s .now) ((c .before .before .before .before .before .before .before) .args .end)) ((c .before .before .before .before .before .before .before) .args .end) (goes ((c .before .before .before .before .before .before .before) .args .depth) ((c .before .before .before .before .before .before .before) .args .s .now) ((c .before .before .before .before .before .before .before) .args .end)) ((c .before .before .before .before .before .loop) .a) ((c .before .before .before .before .before .loop) .c) ((c .before .before .before .before .before .loop) .u) ((c .before .one2) .given .0 .0) ((c .before .one2) .given .0 .1 .0) ((c .before .one2) .given .0 .1 .1 .0) ((c .before .before .before .before .loop-test) .taken) (sym ((c .before .before .before .item) .ensures) ∙ (c .before .one2) .given .1)) ∙ (c .before .before .before .before .before .loop) .inv .1)
+items-loop-again t c =
+    let start' = c .before .before .before .before .before .before .before in
+    let loop' = c .before .before .before .before .before .loop in
+    let loop-test' = c .before .before .before .before .loop-test in
+    let item' = c .before .before .before .item in
+    let one2' = c .before .one2 in
+    let w = goes (start' .args .depth) (start' .args .s .now) (start' .args .end) (loop' .a) (loop' .c) (loop' .u) (one2' .given .0 .0) (one2' .given .0 .1 .0) (one2' .given .0 .1 .1 .0) (sym (item' .ensures) ∙ one2' .given .1) in
+    ((w .to, w .count, w .uses), sym (siblings-next (scanItem (start' .args .depth) (start' .args .s .now) (start' .args .end)) (start' .args .end) (goes (start' .args .depth) (start' .args .s .now) (start' .args .end)) (loop' .a) (loop' .c) (loop' .u) (one2' .given .0 .0) (one2' .given .0 .1 .0) (one2' .given .0 .1 .1 .0) (loop-test' .taken) (sym (item' .ensures) ∙ one2' .given .1)) ∙ loop' .inv .1)
 
 items-returns-2 :
     (t : ℕ) →
@@ -499,7 +608,10 @@ items-returns-2 :
     items.Post
     items-Inv-loop
     items-μ-loop
-items-returns-2 t c = sym (siblings-done (scanItem ((c .before .before .before) .args .depth) ((c .before .before .before) .args .s .now) ((c .before .before .before) .args .end)) ((c .before .before .before) .args .end) (goes ((c .before .before .before) .args .depth) ((c .before .before .before) .args .s .now) ((c .before .before .before) .args .end)) ((c .before .loop) .a) ((c .before .loop) .c) ((c .before .loop) .u) ((c .loop-test) .left)) ∙ (c .before .loop) .inv .1
+items-returns-2 t c =
+    let start' = c .before .before .before in
+    let loop' = c .before .loop in
+    sym (siblings-done (scanItem (start' .args .depth) (start' .args .s .now) (start' .args .end)) (start' .args .end) (goes (start' .args .depth) (start' .args .s .now) (start' .args .end)) (loop' .a) (loop' .c) (loop' .u) (c .loop-test .left)) ∙ loop' .inv .1
 
 pub +item+items-spec : {M : Type 1} → statement M
 +item+items-spec = close μ-item μ-items (λ t. item-lts.spec (

@@ -1,14 +1,7 @@
+-- `bundle::items::body_end` meets its contract, way by way. Assumes nothing.
 use borrow.Author.Needs.{needs}
-use mathlib.Core.Path.{_≡_, refl, sym, ap, _∙_}
-use native.Mathlib.Omega.{arith}
-use Prim.Native.Nat.{ℕ, suc, _+_, _-_, _*_, _≤_, _<_}
-use lib.ListN.{length, getD}
-use borrow.Author.Tests.{lt-ltb, le-ltb, le-leb, lt-leb, eq-eqb, ne-eqb}
-use Rattle.bundle.specs.Limits.{item-limit, use-limit}
-use Rattle.bundle.specs.Steps.{length-next, mark-next, Head, head-next, formed-next, string-next}
-use Rattle.names.specs.Identifier.{isIdentifier}
-use Rattle.bundle.specs.Walks.{Went, goes, siblings-next, siblings-fault, siblings-done, head-fault, too-deep, name-fault, enters, leaf-fault, leaf-past}
-use Rattle.bundle.specs.Scan.{usesAfter, scanHead, scanBody, scanEnd, scanItem, scanItems, siblings}
+use borrow.Author.Tests.{eq-eqb, ne-eqb}
+use Rattle.bundle.specs.Scan.{scanBody}
 use Rattle.bundle.proofs.items.body_end.Statement.{statement}
 use Rattle.bundle.proofs.items.body_end.Tie as tie
 
@@ -23,7 +16,7 @@ add-t7 c = search needs
 
 returns : tie.Need-returns
 unfolding scanBody
-returns c = simp (← (c .before .byte-at) .ensures .0, eq-eqb _ _ ((c .if1) .taken))
+returns c = simp (← c .before .byte-at .ensures .0, eq-eqb _ _ (c .if1 .taken))
 
 add-use-end : tie.Need-add-use-end
 add-use-end c = search needs
@@ -33,7 +26,11 @@ use-end-requires c κs = search needs
 
 returns-2 : tie.Need-returns-2
 unfolding scanBody
-returns-2 c = simp (← (c .before .before .before .byte-at) .ensures .0, ne-eqb _ _ ((c .before .before .if1) .left), eq-eqb _ _ ((c .before .if2) .taken)) ((c .use-end) .ensures)
+returns-2 c =
+    let byte-at' = c .before .before .before .byte-at in
+    let if1' = c .before .before .if1 in
+    let if2' = c .before .if2 in
+    simp (← byte-at' .ensures .0, ne-eqb _ _ (if1' .left), eq-eqb _ _ (if2' .taken)) (c .use-end .ensures)
 
 add-name-end : tie.Need-add-name-end
 add-name-end c = search needs
@@ -43,7 +40,11 @@ name-end-requires c κs = search needs
 
 returns-3 : tie.Need-returns-3
 unfolding scanBody
-returns-3 c = simp (← (c .before .before .before .byte-at) .ensures .0, ne-eqb _ _ ((c .before .before .if1) .left), ne-eqb _ _ ((c .before .if2) .left)) ((c .name-end) .ensures)
+returns-3 c =
+    let byte-at' = c .before .before .before .byte-at in
+    let if1' = c .before .before .if1 in
+    let if2' = c .before .if2 in
+    simp (← byte-at' .ensures .0, ne-eqb _ _ (if1' .left), ne-eqb _ _ (if2' .left)) (c .name-end .ensures)
 
 pub body-end-spec : {M : Type 1} → statement M
 body-end-spec =

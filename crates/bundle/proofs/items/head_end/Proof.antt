@@ -1,14 +1,10 @@
+-- `bundle::items::head_end` meets its contract, way by way. Assumes nothing.
 use borrow.Author.Needs.{needs}
-use mathlib.Core.Path.{_≡_, refl, sym, ap, _∙_}
+use mathlib.Core.Path.{sym, _∙_}
 use native.Mathlib.Omega.{arith}
-use Prim.Native.Nat.{ℕ, suc, _+_, _-_, _*_, _≤_, _<_}
-use lib.ListN.{length, getD}
-use borrow.Author.Tests.{lt-ltb, le-ltb, le-leb, lt-leb, eq-eqb, ne-eqb}
-use Rattle.bundle.specs.Limits.{item-limit, use-limit}
-use Rattle.bundle.specs.Steps.{length-next, mark-next, Head, head-next, formed-next, string-next}
-use Rattle.names.specs.Identifier.{isIdentifier}
-use Rattle.bundle.specs.Walks.{Went, goes, siblings-next, siblings-fault, siblings-done, head-fault, too-deep, name-fault, enters, leaf-fault, leaf-past}
-use Rattle.bundle.specs.Scan.{usesAfter, scanHead, scanBody, scanEnd, scanItem, scanItems, siblings}
+use borrow.Author.Tests.{lt-ltb, le-ltb, le-leb, lt-leb}
+use Rattle.bundle.specs.Steps.{length-next}
+use Rattle.bundle.specs.Scan.{scanHead}
 use Rattle.bundle.proofs.items.head_end.Statement.{statement}
 use Rattle.bundle.proofs.items.head_end.Tie as tie
 
@@ -25,7 +21,12 @@ add-mark-end : tie.Need-add-mark-end
 add-mark-end c = search needs
 
 mark-end-requires : tie.Need-mark-end-requires
-mark-end-requires c κs = let b = length-next ((c .before .before .before .before .before) .args .s .now) ((c .before .before .before .before .before) .args .end) ((c .before .before .before .before .before) .args .at) (sym ((c .before .before .before .length-end) .ensures) ∙ (c .before .whole2) .given .1) in omega (arith, (c .before .before .before .before .before) .pre)
+mark-end-requires c κs =
+    let start' = c .before .before .before .before .before in
+    let length-end' = c .before .before .before .length-end in
+    let whole2' = c .before .whole2 in
+    let b = length-next (start' .args .s .now) (start' .args .end) (start' .args .at) (sym (length-end' .ensures) ∙ whole2' .given .1) in
+    omega (arith, start' .pre)
 
 enum-known-kind : tie.Need-enum-known-kind
 enum-known-kind c = search needs
@@ -34,7 +35,12 @@ enum-known-kind-2 : tie.Need-enum-known-kind-2
 enum-known-kind-2 c = search needs
 
 mark-end-requires-2 : tie.Need-mark-end-requires-2
-mark-end-requires-2 c κs = let b = length-next ((c .before .before .before .before .before .before .before .before .before) .args .s .now) ((c .before .before .before .before .before .before .before .before .before) .args .end) ((c .before .before .before .before .before .before .before .before .before) .args .at) (sym ((c .before .before .before .before .before .before .before .length-end) .ensures) ∙ (c .before .before .before .before .before .whole2) .given .1) in omega (arith, (c .before .before .before .before .before .before .before .before .before) .pre)
+mark-end-requires-2 c κs =
+    let start' = c .before .before .before .before .before .before .before .before .before in
+    let length-end' = c .before .before .before .before .before .before .before .length-end in
+    let whole2' = c .before .before .before .before .before .whole2 in
+    let b = length-next (start' .args .s .now) (start' .args .end) (start' .args .at) (sym (length-end' .ensures) ∙ whole2' .given .1) in
+    omega (arith, start' .pre)
 
 enum-known-seen : tie.Need-enum-known-seen
 enum-known-seen c = search needs
@@ -44,30 +50,67 @@ enum-told c = search needs
 
 returns : tie.Need-returns
 unfolding scanHead
-returns c = rw (sym ((c .before .before .before .before .before .before .before .before .before .before .before .length-end) .ensures) ∙ (c .before .before .before .before .before .before .before .before .before .whole2) .given .1, sym ((c .before .before .before .before .before .before .before .mark-end) .ensures) ∙ (c .before .before .before .before .before .kind2) .given .1, sym ((c .before .before .before .mark-end2) .ensures) ∙ (c .before .enum-told) .given .1) (simp (le-ltb _ _ ((c .if1) .taken)))
+returns c =
+    let length-end' = c .before .before .before .before .before .before .before .before .before .before .before .length-end in
+    let whole2' = c .before .before .before .before .before .before .before .before .before .whole2 in
+    let mark-end' = c .before .before .before .before .before .before .before .mark-end in
+    let kind2' = c .before .before .before .before .before .kind2 in
+    let mark-end2' = c .before .before .before .mark-end2 in
+    let enum-told' = c .before .enum-told in
+    rw (sym (length-end' .ensures) ∙ whole2' .given .1, sym (mark-end' .ensures) ∙ kind2' .given .1, sym (mark-end2' .ensures) ∙ enum-told' .given .1) (simp (le-ltb _ _ (c .if1 .taken)))
 
 uses-after-requires : tie.Need-uses-after-requires
 uses-after-requires c κs = search needs
 
 returns-2 : tie.Need-returns-2
 unfolding scanHead
-returns-2 c = rw (sym ((c .before .before .before .before .before .before .before .before .before .before .before .before .before .length-end) .ensures) ∙ (c .before .before .before .before .before .before .before .before .before .before .before .whole2) .given .1, sym ((c .before .before .before .before .before .before .before .before .before .mark-end) .ensures) ∙ (c .before .before .before .before .before .before .before .kind2) .given .1, sym ((c .before .before .before .before .before .mark-end2) .ensures) ∙ (c .before .before .before .enum-told) .given .1) (simp (lt-ltb _ _ ((c .before .before .if1) .left), ← (c .before .uses-after) .ensures, lt-leb _ _ ((c .if2) .taken)))
+returns-2 c =
+    let length-end' = c .before .before .before .before .before .before .before .before .before .before .before .before .before .length-end in
+    let whole2' = c .before .before .before .before .before .before .before .before .before .before .before .whole2 in
+    let mark-end' = c .before .before .before .before .before .before .before .before .before .mark-end in
+    let kind2' = c .before .before .before .before .before .before .before .kind2 in
+    let mark-end2' = c .before .before .before .before .before .mark-end2 in
+    let enum-told' = c .before .before .before .enum-told in
+    let if1' = c .before .before .if1 in
+    let uses-after' = c .before .uses-after in
+    rw (sym (length-end' .ensures) ∙ whole2' .given .1, sym (mark-end' .ensures) ∙ kind2' .given .1, sym (mark-end2' .ensures) ∙ enum-told' .given .1) (simp (lt-ltb _ _ (if1' .left), ← uses-after' .ensures, lt-leb _ _ (c .if2 .taken)))
 
 returns-3 : tie.Need-returns-3
 unfolding scanHead
-returns-3 c = rw (sym ((c .before .before .before .length-end) .ensures) ∙ (c .before .whole) .given .1)
+returns-3 c = rw (sym (c .before .before .before .length-end .ensures) ∙ c .before .whole .given .1)
 
 returns-4 : tie.Need-returns-4
 unfolding scanHead
-returns-4 c = rw (sym ((c .before .before .before .before .before .before .before .length-end) .ensures) ∙ (c .before .before .before .before .before .whole2) .given .1, sym ((c .before .before .before .mark-end) .ensures) ∙ (c .before .kind) .given .1)
+returns-4 c =
+    let length-end' = c .before .before .before .before .before .before .before .length-end in
+    let whole2' = c .before .before .before .before .before .whole2 in
+    let mark-end' = c .before .before .before .mark-end in
+    let kind' = c .before .kind in
+    rw (sym (length-end' .ensures) ∙ whole2' .given .1, sym (mark-end' .ensures) ∙ kind' .given .1)
 
 returns-5 : tie.Need-returns-5
 unfolding scanHead
-returns-5 c = rw (sym ((c .before .before .before .before .before .before .before .before .before .before .before .length-end) .ensures) ∙ (c .before .before .before .before .before .before .before .before .before .whole2) .given .1, sym ((c .before .before .before .before .before .before .before .mark-end) .ensures) ∙ (c .before .before .before .before .before .kind2) .given .1, sym ((c .before .before .before .mark-end2) .ensures) ∙ (c .before .seen) .given .1)
+returns-5 c =
+    let length-end' = c .before .before .before .before .before .before .before .before .before .before .before .length-end in
+    let whole2' = c .before .before .before .before .before .before .before .before .before .whole2 in
+    let mark-end' = c .before .before .before .before .before .before .before .mark-end in
+    let kind2' = c .before .before .before .before .before .kind2 in
+    let mark-end2' = c .before .before .before .mark-end2 in
+    let seen' = c .before .seen in
+    rw (sym (length-end' .ensures) ∙ whole2' .given .1, sym (mark-end' .ensures) ∙ kind2' .given .1, sym (mark-end2' .ensures) ∙ seen' .given .1)
 
 returns-6 : tie.Need-returns-6
 unfolding scanHead
-returns-6 c = rw (sym ((c .before .before .before .before .before .before .before .before .before .before .before .before .before .length-end) .ensures) ∙ (c .before .before .before .before .before .before .before .before .before .before .before .whole2) .given .1, sym ((c .before .before .before .before .before .before .before .before .before .mark-end) .ensures) ∙ (c .before .before .before .before .before .before .before .kind2) .given .1, sym ((c .before .before .before .before .before .mark-end2) .ensures) ∙ (c .before .before .before .enum-told) .given .1) (simp (lt-ltb _ _ ((c .before .before .if1) .left), ← (c .before .uses-after) .ensures, le-leb _ _ ((c .if2) .left)))
+returns-6 c =
+    let length-end' = c .before .before .before .before .before .before .before .before .before .before .before .before .before .length-end in
+    let whole2' = c .before .before .before .before .before .before .before .before .before .before .before .whole2 in
+    let mark-end' = c .before .before .before .before .before .before .before .before .before .mark-end in
+    let kind2' = c .before .before .before .before .before .before .before .kind2 in
+    let mark-end2' = c .before .before .before .before .before .mark-end2 in
+    let enum-told' = c .before .before .before .enum-told in
+    let if1' = c .before .before .if1 in
+    let uses-after' = c .before .uses-after in
+    rw (sym (length-end' .ensures) ∙ whole2' .given .1, sym (mark-end' .ensures) ∙ kind2' .given .1, sym (mark-end2' .ensures) ∙ enum-told' .given .1) (simp (lt-ltb _ _ (if1' .left), ← uses-after' .ensures, le-leb _ _ (c .if2 .left)))
 
 pub head-end-spec : {M : Type 1} → statement M
 head-end-spec =

@@ -1,14 +1,6 @@
+-- `bundle::items::leaf_end` meets its contract, way by way. Assumes nothing.
 use borrow.Author.Needs.{needs}
-use mathlib.Core.Path.{_≡_, refl, sym, ap, _∙_}
-use native.Mathlib.Omega.{arith}
-use Prim.Native.Nat.{ℕ, suc, _+_, _-_, _*_, _≤_, _<_}
-use lib.ListN.{length, getD}
-use borrow.Author.Tests.{lt-ltb, le-ltb, le-leb, lt-leb, eq-eqb, ne-eqb}
-use Rattle.bundle.specs.Limits.{item-limit, use-limit}
-use Rattle.bundle.specs.Steps.{length-next, mark-next, Head, head-next, formed-next, string-next}
-use Rattle.names.specs.Identifier.{isIdentifier}
-use Rattle.bundle.specs.Walks.{Went, goes, siblings-next, siblings-fault, siblings-done, head-fault, too-deep, name-fault, enters, leaf-fault, leaf-past}
-use Rattle.bundle.specs.Scan.{usesAfter, scanHead, scanBody, scanEnd, scanItem, scanItems, siblings}
+use mathlib.Core.Path.{sym, _∙_}
 use Rattle.bundle.proofs.items.leaf_end.Statement.{statement}
 use Rattle.bundle.proofs.items.leaf_end.Tie as tie
 
@@ -25,10 +17,10 @@ nothing-left-requires : tie.Need-nothing-left-requires
 nothing-left-requires c κs = search needs
 
 returns : tie.Need-returns
-returns c = rw (sym ((c .before .before .before .body-end) .ensures) ∙ (c .before .body) .given .1)
+returns c = rw (sym (c .before .before .before .body-end .ensures) ∙ c .before .body .given .1)
 
 returns-2 : tie.Need-returns-2
-returns-2 c = rw (sym ((c .before .before .before .before .body-end) .ensures) ∙ (c .before .before .body2) .given .1) ((c .nothing-left) .ensures)
+returns-2 c = rw (sym (c .before .before .before .before .body-end .ensures) ∙ c .before .before .body2 .given .1) (c .nothing-left .ensures)
 
 pub leaf-end-spec : {M : Type 1} → statement M
 leaf-end-spec =

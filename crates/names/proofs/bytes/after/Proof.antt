@@ -1,7 +1,5 @@
 -- `names::bytes::after` meets its contract. Assumes nothing.
 use borrow.Author.Needs.{needs}
-use mathlib.Core.Path.{_≡_, refl, sym, ap, _∙_}
-use native.Mathlib.Omega.{arith}
 use Rattle.names.specs.Bytes.{rest-is, past-end}
 use Rattle.names.proofs.bytes.after.Statement.{statement}
 use Rattle.names.proofs.bytes.after.Tie as tie

@@ -1,7 +1,6 @@
 -- `names::bytes::has_prefix` meets its contract. Assumes nothing.
 use borrow.Author.Needs.{needs}
-use mathlib.Core.Path.{_≡_, refl, sym, ap, _∙_}
-use native.Mathlib.Omega.{arith}
+use mathlib.Core.Path.{sym}
 use lib.Seq.{length-take-le}
 use Rattle.names.specs.Bytes.{hasPrefix, prefix-short}
 use Rattle.names.proofs.bytes.has_prefix.Statement.{statement}

@@ -6,7 +6,7 @@ use native.Mathlib.Omega.{arith}
 use borrow.Author.Count.{below-more}
 use borrow.Author.Needs.{needs}
 use lib.ListN.{length, getD}
-use Rattle.names.specs.Bytes.{same, same-bytes, different}
+use Rattle.names.specs.Bytes.{same-bytes, different}
 use Rattle.names.proofs.bytes.same_bytes.Statement.{statement}
 use Rattle.names.proofs.bytes.same_bytes.Tie as tie
 

@@ -2,9 +2,7 @@
 use native.Mathlib.Omega.{arith}
 use mathlib.Core.Path.{sym}
 use Rattle.names.specs.Identifier.{class-digit, class-upper, class-lower, class-line, class-other}
-use borrow.Author.Tests.{lt-ltb, le-ltb, le-leb, lt-leb, eq-eqb, ne-eqb}
 use native.Mathlib.Omega.{arith}
-use Rattle.names.specs.Identifier.{letter, digit, class}
 use Rattle.names.proofs.identifier.class_of.Statement.{statement}
 use Rattle.names.proofs.identifier.class_of.Tie as tie
 

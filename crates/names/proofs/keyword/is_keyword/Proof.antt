@@ -2,12 +2,12 @@
 use borrow.Author.Needs.{needs}
 use Rattle.names.specs.Bytes.{member-found, member-none}
 use Rattle.names.specs.Keywords.{fourteen}
-use Prim.Native.Nat.{ℕ, _≤_, _<_, _-_, _+_}
-use mathlib.Core.Path.{_≡_, refl, sym, ap, _∙_}
+use Prim.Native.Nat.{ℕ, _≤_, _<_, _-_}
+use mathlib.Core.Path.{_≡_, sym, _∙_}
 use native.Mathlib.Omega.{arith}
-use mathlib.Core.List.{List, []}
+use mathlib.Core.List.{[]}
 use mathlib.Core.Bool.{false}
-use lib.ListN.{length, getD}
+use lib.ListN.{getD}
 use borrow.Author.Count.{below-more}
 use Rattle.names.specs.Bytes.{same}
 use Rattle.names.specs.Keywords.{keywords, isKeyword}

@@ -1,16 +1,15 @@
 -- `names::keyword::is_row` meets its contract: the constant tables compute to the rows and lengths of the words. Assumes nothing.
-use mathlib.Core.Path.{_≡_, sym, ap, _∙_}
+use mathlib.Core.Path.{sym, ap, _∙_}
 use mathlib.Core.List.{[]}
 use lib.ListN.{getD}
 use native.Mathlib.Omega.{arith}
 use borrow.Author.Needs.{needs}
 use Prim.Native.Nat.{ℕ, _<_}
-use mathlib.Core.List.{List}
 use lib.ListN.{length}
 use lib.Seq.{length-take-le}
 use Rattle.names.specs.Bytes.{ascii, same}
 use Rattle.names.specs.Keywords.{keywords, fourteen}
-use Rattle.names.specs.Table.{padded, rows, lengths, row-fits, row-is}
+use Rattle.names.specs.Table.{padded, rows, row-fits, row-is}
 use Rattle.names.proofs.keyword.is_row.Statement.{statement}
 use Rattle.names.proofs.keyword.is_row.Tie as tie
 

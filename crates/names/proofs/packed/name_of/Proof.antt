@@ -1,6 +1,3 @@
-use Prim.Native.Nat.{ℕ, _+_, _-_, _≤_, _<_}
-use mathlib.Core.Path.{_≡_, refl, sym, ap, _∙_}
-use native.Mathlib.Omega.{arith}
 use Rattle.names.specs.Packed.{packed}
 use borrow.Author.Needs.{needs}
 use Rattle.names.proofs.packed.name_of.Statement.{statement}

@@ -1,5 +1,4 @@
 -- `names::packed::same_name` meets its contract, word by word. Assumes nothing.
-use mathlib.Core.Path.{_≡_}
 use mathlib.Core.Bool.{and-false}
 use borrow.Author.Tests.{ne-eqb}
 use Rattle.names.specs.Packed.{sameName, last-word}

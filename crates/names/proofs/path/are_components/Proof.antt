@@ -2,14 +2,13 @@
 use borrow.Author.Needs.{needs}
 use Rattle.names.specs.Bytes.{rest-is, length-rest}
 use borrow.Author.Tests.{not-true, not-false}
-use Prim.Native.Nat.{ℕ, _≤_, _<_, _-_, _+_}
-use mathlib.Core.Path.{_≡_, refl, sym, ap, _∙_}
+use Prim.Native.Nat.{_≤_, _<_, _-_, _+_}
+use mathlib.Core.Path.{_≡_, sym, _∙_}
 use native.Mathlib.Omega.{arith}
-use lib.ListN.{length, getD, drop, take}
-use lib.Seq.{take-all, length-take-le}
-use lib.ListN.{length-drop}
+use lib.ListN.{length, drop, take}
+use lib.Seq.{length-take-le}
 use Rattle.names.specs.Path.{split, wellFormed}
-use Rattle.names.specs.Counted.{fits, fits-first, fits-bad, fits-last, fits-more, fits-none}
+use Rattle.names.specs.PathSteps.{fits, fits-first, fits-bad, fits-last, fits-more, fits-none}
 use Rattle.names.proofs.path.are_components.Statement.{statement}
 use Rattle.names.proofs.path.are_components.Tie as tie
 

@@ -1,12 +1,12 @@
 -- `names::path::depth_of` meets its contract: the slashes passed are counted. Assumes nothing.
 use borrow.Author.Needs.{needs}
-use Prim.Native.Nat.{ℕ, _≤_, _<_, _-_, _+_}
-use mathlib.Core.Path.{_≡_, refl, sym, ap, _∙_}
+use Prim.Native.Nat.{_≤_, _<_, _-_, _+_}
+use mathlib.Core.Path.{_≡_, refl, sym, _∙_}
 use native.Mathlib.Omega.{arith}
-use lib.ListN.{length, getD, drop}
+use lib.ListN.{length, drop}
 use mathlib.Core.Logic.{⊎-elim}
 use Rattle.names.specs.Split.{slashes, slashes-more, slashes-same, slashes-none}
-use Rattle.names.specs.Counted.{depth-root, depth-is}
+use Rattle.names.specs.PathSteps.{depth-root, depth-is}
 use Rattle.names.proofs.path.depth_of.Statement.{statement}
 use Rattle.names.proofs.path.depth_of.Tie as tie
 

@@ -1,9 +1,7 @@
 -- `names::path::is_child_with` meets its contract, part by part. Assumes nothing.
 use borrow.Author.Needs.{needs}
-use lib.ListN.{length, drop}
-use Rattle.names.specs.Bytes.{same}
-use mathlib.Core.Path.{_≡_, refl, sym, ap, _∙_}
-use Rattle.names.specs.Counted.{child-elsewhere, child-unled, child-other, child-named}
+use mathlib.Core.Path.{sym, _∙_}
+use Rattle.names.specs.PathSteps.{child-elsewhere, child-unled, child-other, child-named}
 use borrow.Author.Tests.{not-true, not-false}
 use Rattle.names.proofs.path.is_child_with.Statement.{statement}
 use Rattle.names.proofs.path.is_child_with.Tie as tie

@@ -2,9 +2,9 @@
 use borrow.Author.Needs.{needs}
 use mathlib.Core.Bool.{not}
 use borrow.Author.Tests.{not-true, not-false}
-use mathlib.Core.Path.{_≡_, refl, sym, ap, _∙_}
+use mathlib.Core.Path.{sym, ap, _∙_}
 use native.Mathlib.Omega.{arith}
-use Rattle.names.specs.Counted.{empty-component, long-component, unprintable-component, dot-component, component-but-dots}
+use Rattle.names.specs.PathSteps.{empty-component, long-component, unprintable-component, dot-component, component-but-dots}
 use Rattle.names.specs.Bytes.{ascii}
 use Rattle.names.proofs.path.is_component.Statement.{statement}
 use Rattle.names.proofs.path.is_component.Tie as tie

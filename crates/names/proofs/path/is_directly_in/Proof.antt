@@ -4,8 +4,8 @@ use Rattle.names.specs.Prefix.{startsWith}
 use borrow.Author.Needs.{needs}
 use borrow.Author.Tests.{not-true, not-false}
 use native.Mathlib.Numerals.{add-one}
-use mathlib.Core.Path.{_≡_, refl, sym, ap, _∙_}
-use Rattle.names.specs.Prefix.{directlyIn, depth}
+use mathlib.Core.Path.{_≡_, sym, _∙_}
+use Rattle.names.specs.Prefix.{directlyIn}
 use Rattle.names.proofs.path.is_directly_in.Statement.{statement}
 use Rattle.names.proofs.path.is_directly_in.Tie as tie
 

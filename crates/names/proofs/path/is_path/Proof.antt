@@ -1,9 +1,9 @@
 -- `names::path::is_path` meets its contract, test by test. Assumes nothing.
 use borrow.Author.Needs.{needs}
 use Rattle.names.specs.Bytes.{rest-is}
-use mathlib.Core.Path.{_≡_, refl, sym, ap, _∙_}
+use mathlib.Core.Path.{sym, _∙_}
 use native.Mathlib.Omega.{arith}
-use Rattle.names.specs.Counted.{empty-path, led-wrong, long-path, root-path, path-is}
+use Rattle.names.specs.PathSteps.{empty-path, led-wrong, long-path, root-path, path-is}
 use Rattle.names.proofs.path.is_path.Statement.{statement}
 use Rattle.names.proofs.path.is_path.Tie as tie
 

@@ -1,7 +1,5 @@
 -- `names::path::is_printable` meets its contract. Assumes nothing.
-use mathlib.Core.Path.{_≡_, refl, sym, ap, _∙_}
 use native.Mathlib.Omega.{arith}
-use borrow.Author.Tests.{ne-eqb}
 use Rattle.names.specs.Identifier.{under-range, over-range, in-range}
 use Rattle.names.proofs.path.is_printable.Statement.{statement}
 use Rattle.names.proofs.path.is_printable.Tie as tie

@@ -1,9 +1,7 @@
 -- `names::path::is_root` meets its contract. Assumes nothing.
 use borrow.Author.Needs.{needs}
 use Rattle.names.specs.Pieces.{not-root, root-byte}
-use mathlib.Core.Path.{_≡_, refl, sym, ap, _∙_}
-use native.Mathlib.Omega.{arith}
-use lib.ListN.{length, getD, drop}
+use mathlib.Core.Path.{sym}
 use Rattle.names.proofs.path.is_root.Statement.{statement}
 use Rattle.names.proofs.path.is_root.Tie as tie
 

@@ -1,12 +1,12 @@
 -- `names::path::parent_len` meets its contract: no byte passed is a slash. Assumes nothing.
 use borrow.Author.Needs.{needs}
-use Rattle.names.specs.Counted.{above-more}
-use Prim.Native.Nat.{ℕ, _≤_, _<_, _-_, _+_}
-use mathlib.Core.Path.{_≡_, refl, sym, ap, _∙_}
+use Rattle.names.specs.PathSteps.{above-more}
+use Prim.Native.Nat.{ℕ, _≤_, _<_, _-_}
+use mathlib.Core.Path.{_≡_, sym}
 use native.Mathlib.Omega.{arith}
-use lib.ListN.{length, getD, drop}
+use lib.ListN.{length, getD}
 use Rattle.names.specs.Bytes.{slash}
-use Rattle.names.specs.Counted.{parent-at, parent-none}
+use Rattle.names.specs.PathSteps.{parent-at, parent-none}
 use Rattle.names.proofs.path.parent_len.Statement.{statement}
 use Rattle.names.proofs.path.parent_len.Tie as tie
 

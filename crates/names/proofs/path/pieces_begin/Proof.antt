@@ -1,10 +1,9 @@
 -- `names::path::pieces_begin` meets its contract: the bytes passed are equal, pair by pair. Assumes nothing.
 use borrow.Author.Needs.{needs}
-use Prim.Native.Nat.{ℕ, _≤_, _<_, _-_, _+_}
-use mathlib.Core.Path.{_≡_, refl, sym, ap, _∙_}
+use Prim.Native.Nat.{_≤_, _-_}
+use mathlib.Core.Path.{_≡_, refl, sym, _∙_}
 use native.Mathlib.Omega.{arith}
-use lib.ListN.{length, getD, drop}
-use mathlib.Core.Bool.{false}
+use lib.ListN.{length, drop}
 use Rattle.names.specs.Pieces.{leads, begins-leads, leads-step, leads-differs, leads-short, leads-whole, leads-on}
 use Rattle.names.proofs.path.pieces_begin.Statement.{statement}
 use Rattle.names.proofs.path.pieces_begin.Tie as tie

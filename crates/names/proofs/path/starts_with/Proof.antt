@@ -1,7 +1,7 @@
 -- `names::path::starts_with` meets its contract: the root first, then the pieces. Assumes nothing.
 use borrow.Author.Needs.{needs}
-use mathlib.Core.Path.{_≡_, refl, sym, ap, _∙_}
-use Rattle.names.specs.Counted.{starts-root, root-starts, starts-pieces}
+use mathlib.Core.Path.{sym, _∙_}
+use Rattle.names.specs.PathSteps.{starts-root, root-starts, starts-pieces}
 use Rattle.names.proofs.path.starts_with.Statement.{statement}
 use Rattle.names.proofs.path.starts_with.Tie as tie
 

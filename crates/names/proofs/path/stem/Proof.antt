@@ -1,7 +1,7 @@
 -- `names::path::stem` meets its contract. Assumes nothing.
 use borrow.Author.Needs.{needs}
-use Rattle.names.specs.Counted.{stem-root, stem-other}
-use mathlib.Core.Path.{_≡_, refl, sym, ap, _∙_}
+use Rattle.names.specs.PathSteps.{stem-root, stem-other}
+use mathlib.Core.Path.{sym, _∙_}
 use Rattle.names.proofs.path.stem.Statement.{statement}
 use Rattle.names.proofs.path.stem.Tie as tie
 

@@ -1,7 +1,7 @@
 -- `names::unit::unit_name` meets its contract: the last digits are in place. Assumes nothing.
 use borrow.Author.Needs.{needs}
-use Prim.Native.Nat.{ℕ, _≤_, _<_, _-_, _+_, _%_}
-use mathlib.Core.Path.{_≡_, refl, sym, ap, _∙_}
+use Prim.Native.Nat.{_≤_, _-_, _+_, _%_}
+use mathlib.Core.Path.{_≡_, refl, _∙_}
 use native.Mathlib.Omega.{arith}
 use lib.ListN.{length, take, length-set}
 use lib.Seq.{take-set-le}

@@ -1,6 +1,6 @@
 -- `names::unit::width_of` meets its contract: the digits passed are counted. Assumes nothing.
-use Prim.Native.Nat.{ℕ, _≤_, _<_, _-_, _+_, _^_}
-use mathlib.Core.Path.{_≡_, refl, sym, ap, _∙_}
+use Prim.Native.Nat.{_≤_, _<_, _-_, _+_, _^_}
+use mathlib.Core.Path.{_≡_, refl}
 use native.Mathlib.Omega.{arith}
 use Rattle.names.specs.Decimal.{width, width-one, width-more, width-room, width-falls}
 use Rattle.names.proofs.unit.width_of.Statement.{statement}

@@ -1,10 +1,9 @@
--- `names_vectors::end_of` meets its contract. Assumes nothing.
+-- `lines::end_of` meets its contract. Assumes nothing.
 use borrow.Author.Needs.{needs}
-use Prim.Native.Nat.{ℕ, _≤_, _<_, _-_, _+_}
-use native.Mathlib.Omega.{arith}
+use Prim.Native.Nat.{_≤_, _-_}
 use lib.ListN.{length}
-use Rattle.names_vectors.proofs.end_of.Statement.{statement}
-use Rattle.names_vectors.proofs.end_of.Tie as tie
+use Rattle.lines.proofs.end_of.Statement.{statement}
+use Rattle.lines.proofs.end_of.Tie as tie
 
 abbrev Inv-loop : tie.InvT-loop
 Inv-loop s at stop e₀ e = at ≤ e

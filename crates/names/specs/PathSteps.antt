@@ -1,14 +1,14 @@
 -- Steps of the functions on paths: a component test after the other, and lengths. Assumes nothing.
-use Prim.Native.Nat.{ℕ, zero, suc, _+_, _-_, _≤_, _<_, suc-le-suc}
+use Prim.Native.Nat.{ℕ, suc, _+_, _-_, _≤_, _<_}
 use native.Mathlib.Omega.{arith}
 use native.Mathlib.Decide.{decLe}
-use mathlib.Core.Bool.{Bool, true, false, cond, _&&_, not, and-false, and-assoc, and-comm}
+use mathlib.Core.Bool.{Bool, true, false, cond, _&&_, not, and-false}
 use mathlib.Core.Path.{_≡_, refl, sym, ap, _∙_}
 use mathlib.Core.List.{List, [], _∷_, _++_}
-use lib.Dec.{eqb, ltb, leb, leb·suc-suc, leb·suc-zero, leb·zero}
+use lib.Dec.{leb, leb·suc-suc, leb·suc-zero, leb·zero}
 use lib.ListN.{length, getD, take, drop, length-drop, List·getD-eq-default}
 use lib.Seq.{drop-drop, getD-drop, length-take-le}
-use borrow.Author.Tests.{eq-eqb, ne-eqb, eqb-true, lt-ltb, le-ltb, le-leb, lt-leb}
+use borrow.Author.Tests.{eq-eqb, ne-eqb, lt-ltb, le-ltb, le-leb, lt-leb}
 use Rattle.names.specs.Bytes.{ascii, slash, same, same-eq, same-append, hasPrefix, all}
 use Rattle.names.specs.Path.{split, components, render, root, printable, isComponent, wellFormed, isPath}
 use Rattle.names.specs.Prefix.{begins, startsWith, init, parent, depth, stemOf, child}

@@ -1,0 +1,284 @@
+-- A bundle that is not refused by 1 to 6 is what the encoder writes of its value, and the value is in form. Assumes nothing.
+use Prim.Native.Nat.{ℕ, zero, suc, _+_, _-_, _≤_, _<_}
+use native.Mathlib.Omega.{arith}
+use mathlib.Core.Bool.{Bool, true, false, cond}
+use mathlib.Core.Path.{_≡_, refl, sym, ap, _∙_}
+use mathlib.Core.List.{List, [], _∷_, _++_, append-nil}
+use lib.Dec.{eqb, ltb}
+use lib.ListN.{length}
+use lib.Seq.{drop-length}
+use borrow.Author.Tests.{ltb-false, eqb-true}
+use Rattle.names.specs.Path.{isPath}
+use Rattle.bundle.specs.Limits.{version, header, folder-limit, remapping-limit, file-limit, item-limit, use-limit, depth-limit}
+use Rattle.bundle.specs.Encode.{string, joined, sized, items, remapping, file, fields, encode}
+use Rattle.bundle.specs.Encode.{counted as count-list}
+use Rattle.bundle.specs.Scan.{byte, word, text, scanPath, scanField, scanCount, scanList, scanLength, scanEnd, scanFile, scanFiles, scanHeader}
+use Rattle.bundle.specs.Decode.{each, far, counted, after, afterRemapping, afterLength, afterFile, remappingAt, fileAt, itemsAt, foldersAt, remappingsAt, filesAt, decode}
+use Rattle.bundle.specs.Steps.{length-next, count-next, end-next, walked-on, walked-then}
+use Rattle.bundle.specs.Walks.{file-goes}
+use Rattle.bundle.specs.Form.{Every, IsPath, FormedRemapping, FormedFile, Marked, MarkedFiles, itemCount, useCount, fileItems, fileUses, InForm}
+use Rattle.bundle.specs.Stand.{Bytes, Stands, stands-then, stands-length, stands-byte, stands-sized}
+use Rattle.bundle.specs.Sound.{Read, CountRead, formed-read, remapping-read, count-read}
+use Rattle.bundle.specs.SoundItems.{ItemsAre, items-are-read}
+use Rattle.bundle.specs.Read.{form, lists, files, afterWalk}
+use Rattle.bundle.specs.Read.{after as thenOk}
+use Rattle.bundle.specs.declared.Scan.{Scan}
+use Rattle.bundle.specs.declared.Scan.the-variants.{Next, Bad}
+use Rattle.bundle.specs.declared.Walk.{Walk}
+use Rattle.bundle.specs.declared.Walk.the-variants.{Past, Fault}
+use Rattle.bundle.specs.declared.Field.the-variants.{Path, Remapping as RemappingField}
+use Rattle.bundle.specs.declared.Checked.{Checked}
+use Rattle.bundle.specs.declared.Checked.the-variants.{Ok, Refused}
+
+-- WHAT WAS NOT REFUSED
+refused-ok : {n p : ℕ} → Refused n p ≡ Ok → ⊥
+refused-ok e = let z : _≡_ {A = ℕ} 0 1 = cc in omega arith
+
+pub record Went (X : Scan) (f : ℕ → Checked) : Type 0 where
+  pub mid : ℕ
+  pub first : X ≡ Next mid
+  pub second : f mid ≡ Ok
+
+pub went-on : (X : Scan) {f : ℕ → Checked} → thenOk X f ≡ Ok → Went X f
+went-on (Next m) h = record { mid = m; first = refl; second = h }
+went-on (Bad k p) h = absurd (refused-ok h)
+
+pub record WentWalk (X : Walk) (f : ℕ → Checked) : Type 0 where
+  pub at : ℕ
+  pub count : ℕ
+  pub uses : ℕ
+  pub first : X ≡ Past at count uses
+  pub second : f at ≡ Ok
+
+pub went-walk : (X : Walk) {f : ℕ → Checked} → afterWalk X f ≡ Ok → WentWalk X f
+went-walk (Past a c u) h = record { at = a; count = c; uses = u; first = refl; second = h }
+went-walk (Fault k p) h = absurd (refused-ok h)
+
+pub record HeaderIs (s : List ℕ) (n : ℕ) : Type 0 where
+  pub at : n ≡ header
+  pub long : header ≤ length s
+  pub is-version : byte s 0 ≡ version
+  pub counts : word s 1 ≡ length s - header
+
+header-is : (s : List ℕ) (n : ℕ) → scanHeader s ≡ Next n → HeaderIs s n
+unfolding scanHeader
+header-is s n h =
+    go (ltb (length s) header) (eqb (byte s 0) version) (ltb (length s - header) (word s 1)) (ltb (word s 1) (length s - header)) refl refl refl refl h
+  where
+    no : {k p : ℕ} → Bad k p ≡ Next n → ⊥
+    no e = let z : _≡_ {A = ℕ} 0 1 = cc in omega arith
+
+    go : (a b c d : Bool) → ltb (length s) header ≡ a → eqb (byte s 0) version ≡ b → ltb (length s - header) (word s 1) ≡ c → ltb (word s 1) (length s - header) ≡ d
+        → cond a (Bad 1 0) (cond b (cond c (Bad 1 1) (cond d (Bad 1 (header + word s 1)) (Next header))) (Bad 2 0)) ≡ Next n → HeaderIs s n
+    go true b c d p q r t h = absurd (no h)
+    go false false c d p q r t h = absurd (no h)
+    go false true true d p q r t h = absurd (no h)
+    go false true false true p q r t h = absurd (no h)
+    go false true false false p q r t h =
+        let x : header ≡ n = cc in
+        let l : header ≤ length s = ltb-false _ _ p in
+        let m : word s 1 ≤ length s - header = ltb-false _ _ r in
+        let k : length s - header ≤ word s 1 = ltb-false _ _ t in
+        record { at = sym x; long = l; is-version = eqb-true _ _ q; counts = omega arith }
+
+-- FILES
+pub record FilesAre (s : List ℕ) (end n at c u a c' u' : ℕ) : Type 0 where
+  pub ends : a ≡ far (afterFile s) n at
+  pub within : a ≤ end
+  pub onward : at ≤ a
+  pub stands : Stands s at (joined file (each (afterFile s) (fileAt s) n at)) a
+  pub every : Every FormedFile (each (afterFile s) (fileAt s) n at)
+  pub marked : MarkedFiles (each (afterFile s) (fileAt s) n at) at
+  pub size : length (each (afterFile s) (fileAt s) n at) ≡ n
+  pub count : c' ≡ c + fileItems (each (afterFile s) (fileAt s) n at)
+  pub uses : u' ≡ u + fileUses (each (afterFile s) (fileAt s) n at)
+
+record FileIs (s : List ℕ) (end at c u a y z : ℕ) : Type 0 where
+  ends : a ≡ afterFile s at
+  within : a ≤ end
+  onward : at ≤ a
+  stands : Stands s at (file (fileAt s at)) a
+  formed : FormedFile (fileAt s at)
+  marked : Marked (fileAt s at .items) (at + length (string (fileAt s at .path)) + 2)
+  count : y ≡ c + itemCount (fileAt s at .items)
+  uses : z ≡ u + useCount (fileAt s at .items)
+
+module _ (s : List ℕ) (B : Bytes s) (end : ℕ) (E : end ≤ length s) where
+  file-is : (at c u a y z : ℕ) → scanFile s end at c u ≡ Past a y z → FileIs s end at c u a y z
+  unfolding scanFile fileAt file
+  file-is at c u a y z h =
+      let m = walked-on (scanPath s end at) h in
+      let r = formed-read s B end E isPath 4 at (m .mid) (m .first) in
+      let k = walked-on (scanLength s end (m .mid)) (m .second) in
+      let l = length-next s end (m .mid) (k .first) in
+      let i = items-are-read s B depth-limit (k .mid) (m .mid + 2) c u a y z (omega arith) (omega arith) (k .second) in
+      parts (m .mid) (k .mid) r (l .0) (l .1) (i .0) (i .1)
+    where
+      parts : (p n : ℕ) → Read s end IsPath string (after s) (text s) at p → n ≡ afterLength s p → n ≤ end → a ≡ n
+          → ItemsAre s depth-limit n (p + 2) c u y z (itemsAt depth-limit s n (p + 2)) → FileIs s end at c u a y z
+      parts p n r e w q i =
+          let e' : n ≡ afterFile s at = e ∙ rw (r .ends) in
+          let i1 : ItemsAre s depth-limit n (after s at + 2) c u y z (itemsAt depth-limit s n (after s at + 2)) = rw (r .ends) at i in
+          let i2 : ItemsAre s depth-limit (afterFile s at) (after s at + 2) c u y z (itemsAt depth-limit s (afterFile s at) (after s at + 2)) = rw e' at i1 in
+          let st : Stands s at (string (text s at)) (after s at) = rw (r .ends) at (r .stands) in
+          let sz : Stands s (after s at) (sized (items (itemsAt depth-limit s (afterFile s at) (after s at + 2)))) (afterFile s at) = stands-sized s B _ (after s at) (omega arith) (i2 .stands) in
+          let len = stands-length s (string (text s at)) at (after s at) st (omega arith) (omega arith) in
+          let z2 : after s at + 2 ≡ at + length (string (text s at)) + 2 = omega (arith, len) in
+          record {
+            ends = q ∙ e';
+            within = omega arith;
+            onward = omega arith;
+            stands = rw (q ∙ e') (stands-then s (string (text s at)) (sized (items (itemsAt depth-limit s (afterFile s at) (after s at + 2)))) at (after s at) (afterFile s at) st sz);
+            formed = (r .formed, i2 .formed);
+            marked = rw (← z2) (i2 .marked);
+            count = i2 .count;
+            uses = i2 .uses;
+          }
+
+  files-are : (n at c u a c' u' : ℕ) → at ≤ end → c ≤ item-limit → u ≤ use-limit → scanFiles n s end at c u ≡ Past a c' u' → FilesAre s end n at c u a c' u' × (c' ≤ item-limit) × (u' ≤ use-limit)
+  unfolding scanFiles far each joined Every MarkedFiles fileItems fileUses
+  files-are zero at c u a c' u' h hc hu e =
+      let x : at ≡ a = cc in
+      let y : c ≡ c' = cc in
+      let z : u ≡ u' = cc in
+      (record { ends = sym x; within = omega arith; onward = omega arith; stands = rw x; every = tt; marked = tt; size = refl; count = omega arith; uses = omega arith }, omega arith, omega arith)
+  files-are (suc n) at c u a c' u' h hc hu e =
+      let m = walked-then (scanFile s end at c u) e in
+      let g = file-goes s end at c u (m .at) (m .count) (m .uses) hc hu (m .first) in
+      let f = file-is at c u (m .at) (m .count) (m .uses) (m .first) in
+      let r = files-are n (m .at) (m .count) (m .uses) a c' u' (g .0) (g .1) (g .2) (m .second) in
+      (more n at c u (m .at) (m .count) (m .uses) a c' u' f (r .0), r .1, r .2)
+    where
+      more : (n at c u x y z a c' u' : ℕ) → FileIs s end at c u x y z → FilesAre s end n x y z a c' u' → FilesAre s end (suc n) at c u a c' u'
+      more n at c u x y z a c' u' f r =
+          let r' : FilesAre s end n (afterFile s at) y z a c' u' = rw (f .ends) at r in
+          let st : Stands s at (file (fileAt s at)) (afterFile s at) = rw (f .ends) at (f .stands) in
+          let w = f .within in
+          let o = f .onward in
+          let q = f .ends in
+          let len = stands-length s (file (fileAt s at)) at (afterFile s at) st (omega arith) (omega arith) in
+          let z1 : afterFile s at ≡ at + length (file (fileAt s at)) = omega (arith, len) in
+          record {
+            ends = r' .ends;
+            within = r .within;
+            onward = omega (arith, r .onward);
+            stands = stands-then s (file (fileAt s at)) (joined file (each (afterFile s) (fileAt s) n (afterFile s at))) at (afterFile s at) a st (r' .stands);
+            every = (f .formed, r' .every);
+            marked = (f .marked, rw (← z1) (r' .marked));
+            size = ap suc (r' .size);
+            count = omega (arith, r' .count, f .count);
+            uses = omega (arith, r' .uses, f .uses);
+          }
+
+-- THE BUNDLE
+pub record Sound (s : List ℕ) : Type 0 where
+  pub formed : InForm (decode s)
+  pub encoded : s ≡ encode (decode s)
+
+module _ (s : List ℕ) (B : Bytes s) (E : length s ≤ length s) where
+  -- the files' count and the files
+  counted-files : (g a c u : ℕ) → g < length s → FilesAre s (length s) (byte s g) (g + 1) 0 0 a c u → a ≡ length s
+      → Stands s g (count-list file (counted (afterFile s) (fileAt s) s g)) (length s)
+  unfolding count-list
+  counted-files g a c u lt G last =
+      let st : Stands s (g + 1) (joined file (counted (afterFile s) (fileAt s) s g)) (length s) = rw last at (G .stands) in
+      rw (G .size) (stands-then s (byte s g ∷ []) (joined file (counted (afterFile s) (fileAt s) s g)) g (g + 1) (length s) (stands-byte s g lt) st)
+
+  -- the parts, where they stand
+  put-together : (a c u : ℕ) → HeaderIs s header → Read s (length s) IsPath string (after s) (text s) header (foldersAt s)
+      → CountRead s B (length s) E IsPath string (after s) (text s) 0 folder-limit (foldersAt s) (remappingsAt s)
+      → CountRead s B (length s) E FormedRemapping remapping (afterRemapping s) (remappingAt s) 0 remapping-limit (remappingsAt s) (filesAt s)
+      → 1 ≤ byte s (filesAt s) → byte s (filesAt s) ≤ file-limit → filesAt s < length s
+      → FilesAre s (length s) (byte s (filesAt s)) (filesAt s + 1) 0 0 a c u → a ≡ length s → c ≤ item-limit → u ≤ use-limit → Sound s
+  unfolding decode encode fields
+  put-together a c u H R F M low high lt G last hc hu =
+      let st = counted-files (filesAt s) a c u lt G last in
+      let X1 = string (text s header) in
+      let X2 = count-list string (counted (after s) (text s) s (foldersAt s)) in
+      let X3 = count-list remapping (counted (afterRemapping s) (remappingAt s) s (remappingsAt s)) in
+      let X4 = count-list file (counted (afterFile s) (fileAt s) s (filesAt s)) in
+      let o1 = R .onward in
+      let w1 = R .within in
+      let o2 = F .onward in
+      let w2 = F .within in
+      let o3 = M .onward in
+      let w3 = M .within in
+      let whole : Stands s header (X1 ++ (X2 ++ (X3 ++ X4))) (length s) =
+      stands-then s X1 (X2 ++ (X3 ++ X4)) header (foldersAt s) (length s) (R .stands)
+      (stands-then s X2 (X3 ++ X4) (foldersAt s) (remappingsAt s) (length s) (F .stands)
+      (stands-then s X3 X4 (remappingsAt s) (filesAt s) (length s) (M .stands) st)) in
+      let l1 = stands-length s X1 header (foldersAt s) (R .stands) o1 w1 in
+      let l2 = stands-length s X2 (foldersAt s) (remappingsAt s) (F .stands) o2 w2 in
+      let l3 = stands-length s X3 (remappingsAt s) (filesAt s) (M .stands) o3 w3 in
+      let n0 = H .long in
+      let len : length (X1 ++ (X2 ++ (X3 ++ X4))) ≡ length s - header = stands-length s (X1 ++ (X2 ++ (X3 ++ X4))) header (length s) whole n0 E in
+      let cw = H .counts in
+      let b1 = B 1 in
+      let b2 = B 2 in
+      let z : filesAt s + 1 ≡ header + length X1 + length X2 + length X3 + 1 = omega (arith, l1, l2, l3) in
+      let one : 1 + 2 ≡ header = refl in
+      let end : length s ≡ afterLength s 1 = omega (arith, n0) in
+      let body : Stands s (1 + 2) (X1 ++ (X2 ++ (X3 ++ X4))) (afterLength s 1) = rw (← end) whole in
+      let two-up : Stands s 1 (sized (X1 ++ (X2 ++ (X3 ++ X4)))) (afterLength s 1) = stands-sized s B (X1 ++ (X2 ++ (X3 ++ X4))) 1 (omega arith) body in
+      let two-up' : Stands s 1 (sized (X1 ++ (X2 ++ (X3 ++ X4)))) (length s) = rw end two-up in
+      let zero-up : Stands s 0 (byte s 0 ∷ sized (X1 ++ (X2 ++ (X3 ++ X4)))) (length s) =
+      stands-then s (byte s 0 ∷ []) (sized (X1 ++ (X2 ++ (X3 ++ X4)))) 0 1 (length s) (stands-byte s 0 (omega arith)) two-up' in
+      record {
+        formed = record {
+          root = R .formed;
+          folder-count = F .most;
+          folders = F .every;
+          remapping-count = M .most;
+          remappings = M .every;
+          some-file = rw (G .size) low;
+          file-count = rw (G .size) high;
+          files = G .every;
+          item-count = omega (arith, G .count);
+          use-count = omega (arith, G .uses);
+          marks = rw (← z) (G .marked);
+          size = omega (arith, len);
+        };
+        encoded = zero-up ∙ rw (drop-length s) (ap (λ (l : List ℕ). byte s 0 ∷ l) (append-nil (sized (X1 ++ (X2 ++ (X3 ++ X4))))) ∙ rw (H .is-version));
+      }
+
+module _ (s : List ℕ) (B : Bytes s) (E : length s ≤ length s) where
+  at-places : (f r g a c u : ℕ) → HeaderIs s header → Read s (length s) IsPath string (after s) (text s) header f
+      → CountRead s B (length s) E IsPath string (after s) (text s) 0 folder-limit f r
+      → CountRead s B (length s) E FormedRemapping remapping (afterRemapping s) (remappingAt s) 0 remapping-limit r g
+      → 1 ≤ byte s g → byte s g ≤ file-limit → g < length s
+      → FilesAre s (length s) (byte s g) (g + 1) 0 0 a c u → a ≡ length s → c ≤ item-limit → u ≤ use-limit → Sound s
+  at-places f r g a c u H R F M low high lt G last hc hu =
+      let ef : f ≡ foldersAt s = R .ends in
+      let F1 : CountRead s B (length s) E IsPath string (after s) (text s) 0 folder-limit (foldersAt s) r = rw ef at F in
+      let er : r ≡ remappingsAt s = F1 .ends in
+      let M1 : CountRead s B (length s) E FormedRemapping remapping (afterRemapping s) (remappingAt s) 0 remapping-limit (remappingsAt s) g = rw er at M in
+      let eg : g ≡ filesAt s = M1 .ends in
+      put-together s B E a c u H (rw ef at R) (rw er at F1) (rw eg at M1) (rw eg at low) (rw eg at high) (rw eg at lt) (rw eg at G) last hc hu
+
+pub form-sound : (s : List ℕ) → Bytes s → form s ≡ Ok → Sound s
+unfolding form lists files scanList scanField
+form-sound s B h =
+    let E : length s ≤ length s = omega arith in
+    let m0 = went-on (scanHeader s) h in
+    let H0 = header-is s (m0 .mid) (m0 .first) in
+    let m1 = went-on (scanPath s (length s) (m0 .mid)) (m0 .second) in
+    let R0 = formed-read s B (length s) E isPath 4 (m0 .mid) (m1 .mid) (m1 .first) in
+    let m2 = went-on (scanList Path folder-limit s (length s) (m1 .mid)) (m1 .second) in
+    let F = count-read s B (length s) E IsPath string (after s) (text s) (scanPath s (length s)) (formed-read s B (length s) E isPath 4) 0 folder-limit (m1 .mid) (m2 .mid) (m2 .first) in
+    let m3 = went-on (scanList RemappingField remapping-limit s (length s) (m2 .mid)) (m2 .second) in
+    let M = count-read s B (length s) E FormedRemapping remapping (afterRemapping s) (remappingAt s) (scanField RemappingField s (length s)) (remapping-read s B (length s) E) 0 remapping-limit (m2 .mid) (m3 .mid) (m3 .first) in
+    let m4 = went-on (scanCount 1 file-limit s (length s) (m3 .mid)) (m3 .second) in
+    let c4 = count-next s (length s) (m3 .mid) 1 file-limit (m4 .first) in
+    let m5 = went-walk (scanFiles (byte s (m3 .mid)) s (length s) (m4 .mid) 0 0) (m4 .second) in
+    let G0 = files-are s B (length s) E (byte s (m3 .mid)) (m4 .mid) 0 0 (m5 .at) (m5 .count) (m5 .uses) (c4 .1) (omega arith) (omega arith) (m5 .first) in
+    let m6 = went-on (scanEnd (length s) (m5 .at)) (m5 .second) in
+    let e6 = end-next s (length s) (m5 .at) (m6 .first) in
+    finish E (m0 .mid) (m1 .mid) (m2 .mid) (m3 .mid) (m4 .mid) (m5 .at) (m5 .count) (m5 .uses) H0 R0 F M (c4 .0) (c4 .1) (c4 .2) (c4 .3) (G0 .0) (e6 .0) (G0 .1) (G0 .2)
+  where
+    finish : (E : length s ≤ length s) (n f r g k a c u : ℕ) → HeaderIs s n → Read s (length s) IsPath string (after s) (text s) n f
+        → CountRead s B (length s) E IsPath string (after s) (text s) 0 folder-limit f r
+        → CountRead s B (length s) E FormedRemapping remapping (afterRemapping s) (remappingAt s) 0 remapping-limit r g
+        → k ≡ g + 1 → k ≤ length s → 1 ≤ byte s g → byte s g ≤ file-limit
+        → FilesAre s (length s) (byte s g) k 0 0 a c u → a ≡ length s → c ≤ item-limit → u ≤ use-limit → Sound s
+    finish E n f r g k a c u H R F M ek wk low high G last hc hu =
+        at-places s B E f r g a c u (rw (H .at) at H) (rw (H .at) at R) F M low high (omega arith) (rw ek at G) last hc hu

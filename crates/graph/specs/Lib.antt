@@ -1,0 +1,12 @@
+pub mod Limits
+pub mod Linearize
+pub mod Order
+pub mod Given
+pub mod Facts
+pub mod OrderTheorems
+pub mod State
+pub mod Arrays
+pub mod Steps
+pub mod GivenFacts
+pub mod GivenTheorems
+pub mod Corners

@@ -1,0 +1,44 @@
+-- `host::gontsamy_check` meets its contract: it tells what the check answers. Assumes nothing.
+use borrow.Author.Needs.{needs}
+use mathlib.Core.Path.{sym, _∙_}
+use native.Mathlib.Omega.{arith}
+use Rattle.host.specs.Told.{told-ok, told-refused, told-nowhere}
+use Rattle.host.proofs.gontsamy_check.Statement.{statement}
+use Rattle.host.proofs.gontsamy_check.Tie as tie
+
+check-requires : tie.Need-check-requires
+check-requires c κs = search needs
+
+enum-told : tie.Need-enum-told
+enum-told c = search needs
+
+enum-known-checked : tie.Need-enum-known-checked
+enum-known-checked c = search needs
+
+slice-write-place : tie.Need-slice-write-place
+slice-write-place c = search needs
+
+returns : tie.Need-returns
+returns c = told-ok _ _ (sym (c .before .before .check .ensures) ∙ c .enum-told .given .1)
+
+same-length : tie.Need-same-length
+same-length c = search needs
+
+returns-2 : tie.Need-returns-2
+returns-2 c = told-refused _ _ _ _ (sym (c .before .before .before .before .check .ensures) ∙ c .before .before .checked .given .1)
+
+returns-3 : tie.Need-returns-3
+returns-3 c = told-nowhere _ _ _ _ (sym (c .before .before .before .before .check .ensures) ∙ c .before .before .checked .given .1) (omega arith)
+
+pub gontsamy-check-spec : {M : Type 1} → statement M
+gontsamy-check-spec =
+    tie.close
+    (tie.spec
+    check-requires
+    enum-told
+    enum-known-checked
+    slice-write-place
+    returns
+    same-length
+    returns-2
+    returns-3)

@@ -1,0 +1,32 @@
+//! The functions of crates/host, wrapped. None has a precondition.
+
+extern "C" {
+    fn gontsamy_is_keyword(s: *const u8, s_len: usize) -> u8;
+    fn gontsamy_starts_with(f: *const u8, f_len: usize, p: *const u8, p_len: usize) -> u8;
+    fn gontsamy_check(s: *const u8, s_len: usize, place: *mut usize, place_len: usize) -> u8;
+}
+
+/// 0, or a number from 1 to 13 and its place.
+pub fn check(bundle: &[u8]) -> (u8, usize) {
+    let mut place = [usize::MAX; 1];
+    // SAFETY: the pointers are those of slices that live over the call, with their lengths.
+    let number = unsafe {
+        gontsamy_check(
+            bundle.as_ptr(),
+            bundle.len(),
+            place.as_mut_ptr(),
+            place.len(),
+        )
+    };
+    (number, place[0])
+}
+
+pub fn is_keyword(s: &[u8]) -> bool {
+    // SAFETY: as above.
+    unsafe { gontsamy_is_keyword(s.as_ptr(), s.len()) == 1 }
+}
+
+pub fn starts_with(f: &[u8], p: &[u8]) -> bool {
+    // SAFETY: as above.
+    unsafe { gontsamy_starts_with(f.as_ptr(), f.len(), p.as_ptr(), p.len()) == 1 }
+}

@@ -1,0 +1,74 @@
+//! `differ`: the proved code, linked as a static library, against independent implementations on
+//! many inputs. Every difference is printed with its input; the exit status tells whether there was
+//! one.
+
+#[cfg(host)]
+mod bundles;
+#[cfg(host)]
+mod host;
+#[cfg(host)]
+mod names;
+
+#[cfg(host)]
+fn main() -> std::process::ExitCode {
+    let arguments: Vec<String> = std::env::args().skip(1).collect();
+    let arguments: Vec<&str> = arguments.iter().map(String::as_str).collect();
+    let number = |word: &str| word.parse::<u64>().ok();
+    let differences = match arguments[..] {
+        ["bundles", seed, count] => match (number(seed), number(count)) {
+            (Some(seed), Some(count)) => bundles::generated(seed, count),
+            _ => return usage(),
+        },
+        ["damaged", seed, count] => match (number(seed), number(count)) {
+            (Some(seed), Some(count)) => bundles::damaged(seed, count),
+            _ => return usage(),
+        },
+        ["short"] => bundles::short(),
+        ["sample", count] => match number(count).map(|count| bundles::sample(count as usize)) {
+            Some(Ok(())) => 0,
+            Some(Err(error)) => {
+                eprintln!("differ: {error}");
+                1
+            }
+            None => return usage(),
+        },
+        ["names", seed, count] => match (number(seed), number(count)) {
+            (Some(seed), Some(count)) => names::compare(seed, count),
+            _ => return usage(),
+        },
+        ["measure", "names", who, times] => match number(times) {
+            Some(times) => names::measure(who, times),
+            _ => return usage(),
+        },
+        ["measure", which, times] => match number(times) {
+            Some(times) => bundles::measure(which, times),
+            _ => return usage(),
+        },
+        _ => return usage(),
+    };
+    if differences == 0 {
+        std::process::ExitCode::SUCCESS
+    } else {
+        std::process::ExitCode::FAILURE
+    }
+}
+
+#[cfg(host)]
+fn usage() -> std::process::ExitCode {
+    eprintln!(
+        "usage: differ bundles SEED COUNT    generated bundles\n\
+         \x20      differ damaged SEED COUNT    every truncation and single-byte change of small bundles\n\
+         \x20      differ short                 every byte string of at most 4 bytes\n\
+         \x20      differ sample COUNT          the files stdin and stdout of crates/bundle_vectors\n\
+         \x20      differ names SEED COUNT      prefixes and keywords\n\
+         \x20      differ measure WHO TIMES     WHO is port or tools: checks of the largest bundle\n\
+         \x20      differ measure names WHO TIMES   WHO is port or original: prefixes and keywords"
+    );
+    std::process::ExitCode::from(2)
+}
+
+#[cfg(not(host))]
+fn main() -> std::process::ExitCode {
+    eprintln!("differ: target/staticlib/libhost.a is missing: run `rt staticlib host` in the project's folder and build again");
+    std::process::ExitCode::FAILURE
+}
