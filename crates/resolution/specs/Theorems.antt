@@ -377,3 +377,22 @@ module _ (b : Lists) (file : Text) (parts : List Text) (p : Text) (rest : List T
         outside (some r) h =
             let x : sameRoot (getPackageRoot b file) (getPackageRoot b p) ≡ false = external-cases (buildAndVerifyPath b (r .target) parts) h .1 in
             false-true (sym (rw (e, k) at x) ∙ same-refl base)
+
+-- THE ANSWER: the file, or the folder, of the index that is told is the resolved path
+pub position-is : (p : Text) (l : List Text) (d : Text) → member p l ≡ true → getD l (position p l) d ≡ p
+unfolding member position
+position-is p [] d h = absurd (false-true h)
+position-is p (q ∷ l) d h = go (same p q) refl (position-is p l d) h
+  where
+    go : (t : Bool) → same p q ≡ t → (member p l ≡ true → getD l (position p l) d ≡ p) → (t || member p l) ≡ true → getD (q ∷ l) (cond t 0 (suc (position p l))) d ≡ p
+    go true e r h = sym (same-eq p q e)
+    go false e r h = r h
+
+pub position-small : (p : Text) (l : List Text) → member p l ≡ true → position p l < length l
+unfolding member position
+position-small p [] h = absurd (false-true h)
+position-small p (q ∷ l) h = go (same p q) (position-small p l) h
+  where
+    go : (t : Bool) → (member p l ≡ true → position p l < length l) → (t || member p l) ≡ true → cond t 0 (suc (position p l)) < length (q ∷ l)
+    go true r h = omega arith
+    go false r h = omega (arith, r h)
