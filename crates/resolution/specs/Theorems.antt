@@ -1,5 +1,5 @@
 -- What resolution promises of every bundle's lists. Assumes nothing.
-use Prim.Native.Nat.{ℕ, _≤_}
+use Prim.Native.Nat.{ℕ, suc, _≤_, _<_}
 use native.Mathlib.Omega.{arith}
 use mathlib.Core.Bool.{Bool, true, false, cond, _&&_, _||_, not}
 use mathlib.Core.Logic.{_⊎_, inl, inr, ⊎-elim}
@@ -7,7 +7,7 @@ use mathlib.Core.Path.{_≡_, refl, sym, ap, _∙_}
 use mathlib.Core.List.{List, [], _∷_, _++_, map, List·Memᴰ, List·Memᴰ·head, List·Memᴰ·tail, List·Memᴰ·cases-cons, List·Memᴰ·not-nil}
 use mathlib.Core.Option.{Option, none, some}
 use lib.Dec.{eqb, leb}
-use lib.ListN.{length, length-append}
+use lib.ListN.{length, getD, length-append}
 use borrow.Author.Tests.{eq-eqb, ne-eqb, eqb-true}
 use Rattle.names.specs.Bytes.{ascii, slash, same, member, all, all-each, same-eq, same-refl, and-left, and-right, false-true}
 use Rattle.names.specs.Path.{root, isPath, components, wellFormed}
@@ -18,6 +18,7 @@ use Rattle.names.specs.PathTheorems.{starts-with-trans, starts-with-root, equal
 use Rattle.names.specs.FolderTheorems.{Plain, child-below}
 use Rattle.bundle.specs.Bundle.{Text, Remapping}
 use Rattle.resolution.specs.Lists.{Lists}
+use Rattle.resolution.specs.Call.{position}
 use Rattle.resolution.specs.LongestLaws.{none-some, Best, found-tried, any-order}
 use Rattle.resolution.specs.Resolution.{packageRoots, getPackageRoot, applies, remappingFor, Missing, noPath, Lookup, found, missing, buildAndVerifyPath, Fault, to, fails, orItself, resolveBelow, resolveCratePath, sameRoot, checkLocalFileImportedAsExternal, external, resolveExternalPath, resolvePathInternal, noFile, ownFile}
 

@@ -1,6 +1,16 @@
 //! The functions of crates/host, wrapped. None has a precondition.
 
 extern "C" {
+    fn gontsamy_resolve(
+        s: *const u8,
+        s_len: usize,
+        importer: *const u8,
+        importer_len: usize,
+        u: *const u8,
+        u_len: usize,
+        out: *mut usize,
+        out_len: usize,
+    ) -> u8;
     fn gontsamy_is_keyword(s: *const u8, s_len: usize) -> u8;
     fn gontsamy_starts_with(f: *const u8, f_len: usize, p: *const u8, p_len: usize) -> u8;
     fn gontsamy_check(s: *const u8, s_len: usize, place: *mut usize, place_len: usize) -> u8;
@@ -29,4 +39,24 @@ pub fn is_keyword(s: &[u8]) -> bool {
 pub fn starts_with(f: &[u8], p: &[u8]) -> bool {
     // SAFETY: as above.
     unsafe { gontsamy_starts_with(f.as_ptr(), f.len(), p.as_ptr(), p.len()) == 1 }
+}
+
+/// 0 with a file's index or 255 with a folder's, and how many segments are left; or a number and its
+/// place.
+pub fn resolve(bundle: &[u8], importer: &[u8], segments: &[u8]) -> (u8, [usize; 2]) {
+    let mut out = [usize::MAX; 2];
+    // SAFETY: as above.
+    let kind = unsafe {
+        gontsamy_resolve(
+            bundle.as_ptr(),
+            bundle.len(),
+            importer.as_ptr(),
+            importer.len(),
+            segments.as_ptr(),
+            segments.len(),
+            out.as_mut_ptr(),
+            out.len(),
+        )
+    };
+    (kind, out)
 }

@@ -8,6 +8,8 @@ mod bundles;
 mod host;
 #[cfg(host)]
 mod names;
+#[cfg(host)]
+mod uses;
 
 #[cfg(host)]
 fn main() -> std::process::ExitCode {
@@ -31,6 +33,10 @@ fn main() -> std::process::ExitCode {
                 1
             }
             None => return usage(),
+        },
+        ["uses", seed, count] => match (number(seed), number(count)) {
+            (Some(seed), Some(count)) => uses::generated(seed, count),
+            _ => return usage(),
         },
         ["names", seed, count] => match (number(seed), number(count)) {
             (Some(seed), Some(count)) => names::compare(seed, count),
@@ -59,6 +65,7 @@ fn usage() -> std::process::ExitCode {
         "usage: differ bundles SEED COUNT    generated bundles\n\
          \x20      differ damaged SEED COUNT    every truncation and single-byte change of small bundles\n\
          \x20      differ short                 every byte string of at most 4 bytes\n\
+         \x20      differ uses SEED COUNT       the uses of generated bundles\n\
          \x20      differ sample COUNT          the files stdin and stdout of crates/bundle_vectors\n\
          \x20      differ names SEED COUNT      prefixes and keywords\n\
          \x20      differ measure WHO TIMES     WHO is port or tools: checks of the largest bundle\n\

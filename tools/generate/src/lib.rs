@@ -3,7 +3,7 @@
 
 mod families;
 pub mod link;
-mod lookup;
+pub mod lookup;
 mod project;
 pub mod rng;
 mod stats;

@@ -1,8 +1,7 @@
--- `host::gontsamy_check` meets its contract: it tells what the check answers. Assumes nothing.
-use borrow.Author.Needs.{needs}
+-- `host::gontsamy_check` meets its contract. Assumes nothing.
 use mathlib.Core.Path.{sym, _∙_}
-use native.Mathlib.Omega.{arith}
-use Rattle.host.specs.Told.{told-ok, told-refused, told-nowhere}
+use Rattle.host.specs.Told.{told-ok, told-refused}
+use borrow.Author.Needs.{needs}
 use Rattle.host.proofs.gontsamy_check.Statement.{statement}
 use Rattle.host.proofs.gontsamy_check.Tie as tie
 
@@ -15,8 +14,8 @@ enum-told c = search needs
 enum-known-checked : tie.Need-enum-known-checked
 enum-known-checked c = search needs
 
-slice-write-place : tie.Need-slice-write-place
-slice-write-place c = search needs
+tell-requires : tie.Need-tell-requires
+tell-requires c κs = search needs
 
 returns : tie.Need-returns
 returns c = told-ok _ _ (sym (c .before .before .check .ensures) ∙ c .enum-told .given .1)
@@ -25,10 +24,7 @@ same-length : tie.Need-same-length
 same-length c = search needs
 
 returns-2 : tie.Need-returns-2
-returns-2 c = told-refused _ _ _ _ (sym (c .before .before .before .before .check .ensures) ∙ c .before .before .checked .given .1)
-
-returns-3 : tie.Need-returns-3
-returns-3 c = told-nowhere _ _ _ _ (sym (c .before .before .before .before .check .ensures) ∙ c .before .before .checked .given .1) (omega arith)
+returns-2 c = told-refused _ _ _ _ (sym (c .before .before .before .before .before .before .before .check .ensures) ∙ c .before .before .before .before .before .checked .given .1) _ (c .before .before .tell .ensures)
 
 pub gontsamy-check-spec : {M : Type 1} → statement M
 gontsamy-check-spec =
@@ -37,8 +33,7 @@ gontsamy-check-spec =
     check-requires
     enum-told
     enum-known-checked
-    slice-write-place
+    tell-requires
     returns
     same-length
-    returns-2
-    returns-3)
+    returns-2)
