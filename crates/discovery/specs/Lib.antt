@@ -1,0 +1,12 @@
+pub mod Discovery
+pub mod Reached
+pub mod Facts
+pub mod Right
+pub mod Clean
+pub mod Walk
+pub mod Room
+pub mod Weight
+pub mod Search
+pub mod Record
+pub mod Meaning
+pub mod Cases

@@ -1,0 +1,69 @@
+// The uses of a file, in item order, those of inline modules included.
+ghost use mathlib.Core.Path.{_≡_};
+ghost use Prim.Native.Nat.{_+_, _<_, _≤_, _^_};
+ghost use Rattle.bundle.specs.Limits.{use-limit};
+ghost use Rattle.bundle.specs.Decode.{fileAt};
+ghost use lib.ListN.{length};
+ghost use Rattle.discovery.specs.Discovery.{uses};
+ghost use Rattle.discovery.specs.Walk.{usesAt, itemUses, Gathered, Room, Small, UsesAre};
+use crate::IDS;
+use crate::Uses;
+
+// How deep modules nest, and the kinds of the items that are or hold uses, as the reader has them.
+const DEPTH: usize = 8;
+
+const USE: usize = 3;
+
+const MODULE: usize = 5;
+
+// An item: a use is added, a module's items are walked.
+fn process_item(s: &[u8], at: usize, depth: usize, u: Uses) -> Uses
+    requires { ⌜ Small at depth × Room u (itemUses depth (now s) at) ⌝ }
+    ensures { λ r. ⌜ Gathered (now (s .entry)) u r (itemUses depth (now (s .entry)) at) ⌝ }
+{
+    let kind = bundle::item_kind(s, at);
+    let mut w = u;
+    if kind == USE {
+        let n = w.count;
+        w.marks[n] = at;
+        w.count = n + 1;
+        return w;
+    }
+    if kind == MODULE {
+        if depth == 0 {
+            return w;
+        }
+        let inner = bundle::module_items(s, at);
+        return process_items(s, inner.at, inner.end, depth - 1, w);
+    }
+    w
+}
+
+// The items from `at` to `end`, with modules at most `depth` deep.
+fn process_items(s: &[u8], at: usize, end: usize, depth: usize, u: Uses) -> Uses
+    requires { ⌜ Small end depth × Room u (usesAt depth (now s) end at) ⌝ }
+    ensures { λ r. ⌜ Gathered (now (s .entry)) u r (usesAt depth (now (s .entry)) end at) ⌝ }
+{
+    let mut w = u;
+    let mut a = at;
+    while a < end {
+        w = process_item(s, a, depth, w);
+        a = bundle::next_item(s, a);
+    }
+    w
+}
+
+// The uses of the file at `at`. Ruled out: a use of an inline module left out, or told after one that follows the module; the
+// mark of an item that is no use.
+pub fn uses_of(s: &[u8], at: usize) -> Uses
+    requires { ⌜ (at < 2 ^ 57) × (length (uses (fileAt (now s) at .items)) ≤ use-limit) ⌝ }
+    ensures { λ r. ⌜ UsesAre (now (s .entry)) r (uses (fileAt (now (s .entry)) at .items)) ⌝ }
+{
+    let items = bundle::file_items(s, at);
+    let none = [0usize; IDS];
+    let u = Uses {
+        marks: none,
+        count: 0,
+    };
+    process_items(s, items.at, items.end, DEPTH, u)
+}
