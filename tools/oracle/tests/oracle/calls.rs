@@ -32,11 +32,21 @@ fn paths_and_names() {
         (format!("in {} {}", hex("/r"), hex("/")), "1"),
         (format!("in {} {}", hex("/r/a/b"), hex("/r")), "0"),
         (format!("in {} {}", hex("/"), hex("/")), "0"),
-        (format!("child {} {}", hex("/"), hex("a")), &hex("/a")),
-        (format!("child {} {}", hex("/r"), hex("a")), &hex("/r/a")),
         (
-            format!("simf {} {}", hex("/r"), hex("a")),
-            &hex("/r/a.simf"),
+            format!("child {} {} {}", hex("/a"), hex("/"), hex("a")),
+            "1",
+        ),
+        (
+            format!("child {} {} {}", hex("/r/a"), hex("/r"), hex("a")),
+            "1",
+        ),
+        (
+            format!("child {} {} {}", hex("//a"), hex("/"), hex("a")),
+            "0",
+        ),
+        (
+            format!("simf {} {} {}", hex("/r/a.simf"), hex("/r"), hex("a")),
+            "1",
         ),
         ("unit 64".to_string(), "unit_64"),
     ] {
