@@ -2,7 +2,7 @@
 
 use std::collections::BTreeMap;
 
-use bundle_format::{Body, Bundle, File, Item, Refusal};
+use bundle_format::{Body, Bundle, File, Item, Refusal, Remapping};
 use bundle_generate::rng::Rng;
 
 use crate::host;
@@ -172,7 +172,7 @@ pub fn sample(count: usize) -> std::io::Result<()> {
     std::fs::write("stdout", output)
 }
 
-/// The largest bundle: 65,538 bytes, 64 folders, 64 files, 1,024 items.
+/// The largest bundle: 65,538 bytes, 64 folders, 32 remappings, 64 files, 1,024 items, 256 uses.
 fn largest() -> Vec<u8> {
     let name = |mark: usize, length: usize| {
         let mut name = format!("n{mark}_").into_bytes();
@@ -192,19 +192,30 @@ fn largest() -> Vec<u8> {
         folders,
         ..Bundle::default()
     };
+    for at in 0..32 {
+        bundle.remappings.push(Remapping {
+            context: bundle.folders[at].clone(),
+            name: name(at, 20),
+            target: bundle.folders[63 - at].clone(),
+            ..Remapping::default()
+        });
+    }
     for file in 0..64 {
         let path = [&bundle.folders[file][..], b"/", &name(file, 20), b".simf"].concat();
-        let mut items: Vec<Item> = (0..15).map(|at| item(16 * file + at, 32)).collect();
-        // The last item of each file is a use, which fills up the rest.
-        let segments = (0..16).map(|at| name(at, 20)).collect();
-        items.push(Item {
-            mark: 0,
-            public: false,
-            body: Body::Use {
+        let mut items: Vec<Item> = (0..12).map(|at| item(16 * file + at, 20)).collect();
+        // The last four items of each file are uses; the last one fills up the rest.
+        for _ in 0..4 {
+            let segments = (0..4).map(|at| name(at, 10)).collect();
+            let body = Body::Use {
                 segments,
                 elements: Vec::new(),
-            },
-        });
+            };
+            items.push(Item {
+                mark: 0,
+                public: false,
+                body,
+            });
+        }
         bundle.files.push(File {
             path,
             path_at: 0,
@@ -237,8 +248,71 @@ fn largest() -> Vec<u8> {
     }
 }
 
-pub fn measure(who: &str, times: u64) -> u64 {
-    let bundle = largest();
+/// The same counts, with paths that begin alike for long, so that comparing them takes longest.
+fn alike() -> Vec<u8> {
+    fn string(out: &mut Vec<u8>, text: &[u8]) {
+        out.push(text.len() as u8);
+        out.extend_from_slice(text);
+    }
+    fn sized(out: &mut Vec<u8>, body: &[u8]) {
+        out.extend_from_slice(&(body.len() as u16).to_be_bytes());
+        out.extend_from_slice(body);
+    }
+    let mut fields = Vec::new();
+    string(&mut fields, b"/");
+    fields.push(64);
+    let folder = |i: usize| format!("/folder_with_a_long_name_{i:07}");
+    for i in 0..64 {
+        string(&mut fields, folder(i).as_bytes());
+    }
+    fields.push(32);
+    for i in 0..32 {
+        string(&mut fields, folder(63).as_bytes());
+        let filler = if i == 31 { "_to_fill_the_bytes" } else { "" };
+        string(&mut fields, format!("library_{i}{filler}").as_bytes());
+        string(&mut fields, folder(62).as_bytes());
+    }
+    fields.push(64);
+    for i in 0..64 {
+        string(
+            &mut fields,
+            format!("{}/m{i:025}.simf", folder(63)).as_bytes(),
+        );
+        let mut items = Vec::new();
+        for j in 0..4 {
+            let mut body = vec![3, 0, 3];
+            for segment in ["crate", "folder_with_a_long_name_0000000", "a_module_name"] {
+                string(&mut body, segment.as_bytes());
+            }
+            let elements = 3 + usize::from(i * 4 + j < 146);
+            body.push(elements as u8);
+            for k in 0..elements {
+                string(
+                    &mut body,
+                    format!("item_{k}_of_a_name_of_some_length").as_bytes(),
+                );
+                string(&mut body, b"");
+            }
+            sized(&mut items, &body);
+        }
+        for j in 0..12 {
+            let mut body = vec![2, 1];
+            string(&mut body, format!("function_{j}").as_bytes());
+            sized(&mut items, &body);
+        }
+        sized(&mut fields, &items);
+    }
+    let mut bytes = vec![1];
+    sized(&mut bytes, &fields);
+    bytes
+}
+
+pub fn measure(which: &str, who: &str, times: u64) -> u64 {
+    let bundle = match which {
+        "largest" => largest(),
+        "alike" => alike(),
+        _ => return 1,
+    };
     assert_eq!(expected(&bundle).0, 0);
     let check = match who {
         "port" => host::check,

@@ -46,8 +46,8 @@ fn main() -> std::process::ExitCode {
             Some(times) => names::measure(who, times),
             _ => return usage(),
         },
-        ["measure", which, times] => match number(times) {
-            Some(times) => bundles::measure(which, times),
+        ["measure", which, who, times] => match number(times) {
+            Some(times) => bundles::measure(which, who, times),
             _ => return usage(),
         },
         _ => return usage(),
@@ -68,7 +68,7 @@ fn usage() -> std::process::ExitCode {
          \x20      differ uses SEED COUNT       the uses of generated bundles\n\
          \x20      differ sample COUNT          the files stdin and stdout of crates/bundle_vectors\n\
          \x20      differ names SEED COUNT      prefixes and keywords\n\
-         \x20      differ measure WHO TIMES     WHO is port or tools: checks of the largest bundle\n\
+         \x20      differ measure WHICH WHO TIMES   WHICH is largest or alike, WHO port or tools: checks\n\
          \x20      differ measure names WHO TIMES   WHO is port or original: prefixes and keywords"
     );
     std::process::ExitCode::from(2)

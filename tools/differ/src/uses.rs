@@ -43,7 +43,7 @@ fn expected(lookup: &Lookup, importer: &[u8], segments: &[Vec<u8>]) -> (u8, [usi
 }
 
 pub fn generated(seed: u64, count: u64) -> u64 {
-    let (mut bundles, mut compared, mut differences) = (0u64, 0u64, 0u64);
+    let (mut bundles, mut own_uses, mut compared, mut differences) = (0u64, 0u64, 0u64, 0u64);
     let mut numbers = [0u64; 256];
     for index in 0..count {
         let bytes = bundle_generate::bundle(seed, index, None);
@@ -53,27 +53,37 @@ pub fn generated(seed: u64, count: u64) -> u64 {
         };
         bundles += 1;
         let lookup = Lookup::new(&bundle);
-        // The uses of all files, each from every file: those of other files are invented ones here.
+        // Every use of every file; and, invented, the first uses of the bundle from its first files.
+        let mut asked: Vec<(&[u8], &[Vec<u8>])> = Vec::new();
         let mut all = Vec::new();
         for file in &bundle.files {
-            uses(&file.items, &mut all);
+            let mut own = Vec::new();
+            uses(&file.items, &mut own);
+            asked.extend(own.iter().map(|segments| (&file.path[..], *segments)));
+            all.extend(own);
         }
-        all.truncate(64);
-        for file in bundle.files.iter().take(8) {
-            for segments in &all {
-                let expected = expected(&lookup, &file.path, segments);
-                let found = host::resolve(&bytes, &file.path, &encoded(segments));
-                compared += 1;
-                numbers[usize::from(expected.0)] += 1;
-                if expected != found {
-                    differences += 1;
-                    if differences <= 10 {
-                        println!("bundle {index}: {expected:?} expected, {found:?} found");
-                    }
+        own_uses += asked.len() as u64;
+        for file in bundle.files.iter().take(4) {
+            asked.extend(
+                all.iter()
+                    .take(8)
+                    .map(|segments| (&file.path[..], *segments)),
+            );
+        }
+        for (importer, segments) in asked {
+            let expected = expected(&lookup, importer, segments);
+            let found = host::resolve(&bytes, importer, &encoded(segments));
+            compared += 1;
+            numbers[usize::from(expected.0)] += 1;
+            if expected != found {
+                differences += 1;
+                if differences <= 10 {
+                    println!("bundle {index}: {expected:?} expected, {found:?} found");
                 }
             }
         }
     }
+    println!("{own_uses} of the uses are every use of every file");
     println!("{bundles} bundles, {compared} uses, {differences} differences");
     for (number, count) in numbers.iter().enumerate().filter(|(_, count)| **count > 0) {
         println!("{number}: {count}");
