@@ -9,4 +9,5 @@ pub mod Weight
 pub mod Search
 pub mod Record
 pub mod Meaning
+pub mod Readings
 pub mod Cases
