@@ -8,7 +8,7 @@ use mathlib.Core.Path.{_≡_, refl, sym, ap, subst, _∙_}
 use mathlib.Core.List.{List, [], _∷_, _++_, map, List·Memᴰ, List·Memᴰ·head, List·Memᴰ·tail, List·Memᴰ·not-nil, List·Memᴰ·cases-cons, Memᴰ·cast, Memᴰ·append-left, Memᴰ·append-right, Memᴰ·map, Memᴰ·of-map}
 use lib.Dec.{eqb, ltb}
 use lib.ListN.{length, getD, take, drop, set, length-set, length-map, length-append}
-use lib.Seq.{take-suc-set, length-take-le, take-set-le, drop-append-le}
+use lib.Seq.{take-suc, take-suc-set, length-take-le, take-set-le, drop-append-le, getD-take}
 use borrow.Author.Tests.{ltb-true, ltb-false, lt-ltb, le-ltb, eq-eqb, ne-eqb, eqb-true, eqb-false}
 use Rattle.names.specs.Bytes.{same, member, false-true, same-refl, same-eq, different}
 use Rattle.bundle.specs.Bundle.{Text}
@@ -20,8 +20,8 @@ use Rattle.discovery.specs.Discovery.{Import, Loading, holds, addOnce, l
 use Rattle.discovery.specs.Reached.{Once, none, more}
 use Rattle.discovery.specs.Facts.{getD-mem, cond-elim, member-true, mem-member, member-false, not-member, mem-snoc, once-snoc, pigeons, id-found}
 use Rattle.discovery.specs.Search.{indexIn, index-small}
-use Rattle.discovery.specs.Record.{pushedFault, pushedUnit, pushedId, pushedUnread, unitOf, readTarget, ReadRoom, read-again, read-known, read-new, skip-unread, tell-unread}
-use Rattle.discovery.specs.Meaning.{faultsOf, faultsIn, targetPath, targetOf, Target, Listed, fault-pushed}
+use Rattle.discovery.specs.Record.{pushedFault, pushedUnit, pushedId, pushedUnread, unitOf, readTarget, ReadRoom, read-again, read-known, read-new, skip-unread, tell-unread, readTo, ReadsRoom}
+use Rattle.discovery.specs.Meaning.{faultsOf, importsIn, imports-snoc, targetPath, Targets, Sized, targetOf, Target, Listed, fault-pushed}
 
 -- FIRST PLACES: x is the first place of what stands there
 pub record FirstOf (l : List Text) (x : ℕ) : Type 0 where
@@ -146,6 +146,8 @@ pub record Grown (g r : Graph) : Type 0 where
   pub imports : r .imports ≡ g .imports
   pub more : g .count ≤ r .count
   pub ids : (k : ℕ) → k ≤ g .count → take k (r .ids) ≡ take k (g .ids)
+  pub units-more : g .units ≤ r .units
+  pub files : (k : ℕ) → k ≤ g .units → take k (r .files) ≡ take k (g .files)
 
 pub record After (b : Lists) (first : ℕ) (g : Graph) (i : Import) (r : Graph) : Type 0 where
   pub is : loadingOf b first r ≡ load (b .files) i (loadingOf b first g)
@@ -155,7 +157,7 @@ pub record After (b : Lists) (first : ℕ) (g : Graph) (i : Import) (r : Graph) 
   pub faults-more : r .faults ≤ g .faults + 1
 
 pub grown-none : (g : Graph) → Grown g g
-grown-none g = record { start = refl; len = refl; targets = refl; marks = refl; imports = refl; more = omega arith; ids = λ k h. refl }
+grown-none g = record { start = refl; len = refl; targets = refl; marks = refl; imports = refl; more = omega arith; ids = λ k h. refl; units-more = omega arith; files = λ k h. refl }
 
 map-snoc : {A B : Type 0} (f : A → B) (l : List A) (a : A) → map f (l ++ (a ∷ [])) ≡ map f l ++ (f a ∷ [])
 map-snoc f [] a = refl
@@ -229,6 +231,8 @@ module _ (b : Lists) (first : ℕ) (g : Graph) (k : Kept b first g) (few : lengt
       imports = r .imports;
       more = omega arith;
       ids = λ n h. rw (ei, ec) (take-set-le n (g .ids) (g .count) id h);
+      units-more = r .units-more;
+      files = r .files;
     }
 
     list-more : (id : ℕ) → drop first (take (g .count + 1) (set (g .ids) (g .count) id)) ≡ drop first (take (g .count) (g .ids)) ++ (id ∷ [])
@@ -310,7 +314,7 @@ module _ (b : Lists) (first : ℕ) (g : Graph) (k : Kept b first g) (few : lengt
               unread-fit = k .unread-fit;
             };
             grown = grown-id (pushedUnit g t) (unitOf g t) refl refl
-                (record { start = refl; len = refl; targets = refl; marks = refl; imports = refl; more = omega arith; ids = λ n q. refl });
+                (record { start = refl; len = refl; targets = refl; marks = refl; imports = refl; more = omega arith; ids = λ n q. refl; units-more = omega arith; files = λ n q. take-set-le n (g .files) (g .units) t q });
             ids-more = omega arith;
             faults-more = omega arith;
           }
@@ -368,7 +372,7 @@ module _ (b : Lists) (first : ℕ) (g : Graph) (k : Kept b first g) (few : lengt
               unread-once = pushed-once (g .folders) (g .unread) j lt (k .unread-once) not-told;
               unread-fit = let u = folder-fits in omega arith;
             };
-            grown = record { start = refl; len = refl; targets = refl; marks = refl; imports = refl; more = omega arith; ids = λ n q. refl };
+            grown = record { start = refl; len = refl; targets = refl; marks = refl; imports = refl; more = omega arith; ids = λ n q. refl; units-more = omega arith; files = λ n q. refl };
             ids-more = omega arith;
             faults-more = omega arith;
           }
@@ -475,3 +479,103 @@ module _ (b : Lists) (first : ℕ) (g : Graph) (k : Kept b first g) (few : lengt
           new-unread = λ le h. let d : t - file-limit ≡ folder-place = omega arith in
               let w = folder-fits folder-place mark (as-folder m) (folder-not-file m) (rw d at h) in omega arith;
         }
+
+-- ALL READINGS OF A UNIT
+load-all-snoc : (files : List Text) (is : List Import) (i : Import) (s : Loading) → loadAll files (is ++ (i ∷ [])) s ≡ load files i (loadAll files is s)
+unfolding loadAll
+load-all-snoc files [] i s = refl
+load-all-snoc files (x ∷ is) i s = load-all-snoc files is i (load files x s)
+
+grown-then : {g w r : Graph} → Grown g w → Grown w r → Grown g r
+grown-then a c = record {
+  start = c .start ∙ a .start;
+  len = c .len ∙ a .len;
+  targets = c .targets ∙ a .targets;
+  marks = c .marks ∙ a .marks;
+  imports = c .imports ∙ a .imports;
+  more = let x = a .more in let y = c .more in omega arith;
+  ids = λ k h. let x = a .more in c .ids k (omega arith) ∙ a .ids k h;
+  units-more = let x = a .units-more in let y = c .units-more in omega arith;
+  files = λ k h. let x = a .units-more in c .files k (omega arith) ∙ a .files k h;
+}
+
+-- the first i imports
+abbrev importsTo : Lists → Graph → ℕ → List Import
+importsTo b g i = importsIn b (take i (g .targets)) (take i (g .marks))
+
+pub record ReadTo (b : Lists) (g : Graph) (i : ℕ) : Type 0 where
+  pub is : loadingOf b (g .count) (readTo g (g .count) i) ≡ loadAll (b .files) (importsTo b g i) (loadingOf b (g .count) g)
+  pub kept : Kept b (g .count) (readTo g (g .count) i)
+  pub grown : Grown g (readTo g (g .count) i)
+  pub ids : readTo g (g .count) i .count ≤ g .count + i
+  pub faults : readTo g (g .count) i .faults ≤ g .faults + i
+
+-- the lists of a bundle have at most this many files and folders
+pub record Few (b : Lists) : Type 0 where
+  pub files : length (b .files) ≤ file-limit
+  pub folders : length (b .folders) ≤ folder-limit
+
+module _ (b : Lists) (few : Few b) (g : Graph) (k : Kept b (g .count) g) (z : Sized g) (targets : Targets b g)
+    (room : g .count + g .imports ≤ use-limit) (faults-room : g .faults + g .imports ≤ use-limit) where
+  module _ (i : ℕ) (h : i < g .imports) where
+    target-at : Target b (getD (g .targets) i 0)
+    target-at =
+        let a = z .targets in
+        let l = length-take-le (g .imports) (g .targets) (omega arith) in
+        targets (getD (g .targets) i 0) (Memᴰ·cast (sym (getD-take (g .imports) (g .targets) i 0 h)) (getD-mem (take (g .imports) (g .targets)) i 0 (omega arith)))
+
+    imports-suc : importsTo b g (suc i) ≡ importsTo b g i ++ (record { path = targetPath b (getD (g .targets) i 0); mark = getD (g .marks) i 0 } ∷ [])
+    imports-suc =
+        let a = z .targets in
+        let c = z .marks in
+        let lt : i < length (g .targets) = omega arith in
+        let lm : i < length (g .marks) = omega arith in
+        rw (take-suc (g .targets) i 0 lt, take-suc (g .marks) i 0 lm)
+        (imports-snoc b (take i (g .targets)) (take i (g .marks)) (getD (g .targets) i 0) (getD (g .marks) i 0)
+        (length-take-le i (g .targets) (omega arith) ∙ sym (length-take-le i (g .marks) (omega arith))))
+
+  abbrev done : ℕ → Graph
+  done i = readTo g (g .count) i
+
+  read-next : (i : ℕ) → i < g .imports → ReadTo b g i → After b (g .count) (done i) (record { path = targetPath b (getD (g .targets) i 0); mark = getD (g .marks) i 0 }) (readTarget (done i) (g .count) (getD (g .targets) i 0) (getD (g .marks) i 0))
+  read-next i h r =
+      let a = r .ids in
+      let c = r .faults in
+      read-step b (g .count) (done i) (r .kept) (few .files) (few .folders) (omega arith) (omega arith) (getD (g .targets) i 0) (getD (g .marks) i 0) (target-at i h)
+
+  pub read-to : (i : ℕ) → i ≤ g .imports → ReadTo b g i
+  unfolding readTo loadAll importsIn
+  read-to zero h = record { is = refl; kept = k; grown = grown-none g; ids = omega arith; faults = omega arith }
+  read-to (suc i) h =
+      let r = read-to i (omega arith) in
+      let s = read-next i (omega arith) r in
+      let x = r .ids in
+      let y = r .faults in
+      let v = s .ids-more in
+      let w = s .faults-more in
+      record {
+        is = s .is ∙ (ap (load (b .files) (record { path = targetPath b (getD (g .targets) i 0); mark = getD (g .marks) i 0 })) (r .is)
+            ∙ (sym (load-all-snoc (b .files) (importsTo b g i) (record { path = targetPath b (getD (g .targets) i 0); mark = getD (g .marks) i 0 }) (loadingOf b (g .count) g))
+            ∙ ap (λ (is : List Import). loadAll (b .files) is (loadingOf b (g .count) g)) (sym (imports-suc i (omega arith)))));
+        kept = s .kept;
+        grown = grown-then (r .grown) (s .grown);
+        ids = omega arith;
+        faults = omega arith;
+      }
+
+  pub reads-room : (unit : ℕ) → unit < file-limit → ReadsRoom g unit
+  reads-room unit h =
+      let a = read-to (g .imports) (omega arith) in
+      let m = a .grown .more in
+      let n = a .ids in
+      record {
+        unit-small = h;
+        imports = omega arith;
+        each = λ i lt.
+            let r = read-to i (omega arith) in
+            let x = r .ids in
+            let y = r .faults in
+            read-room b (g .count) (done i) (r .kept) (few .files) (few .folders) (omega arith) (omega arith) (getD (g .targets) i 0) (getD (g .marks) i 0) (target-at i lt);
+        grows = m;
+        ids = omega arith;
+      }
