@@ -10,4 +10,5 @@ pub mod Search
 pub mod Record
 pub mod Meaning
 pub mod Readings
+pub mod Turns
 pub mod Cases
