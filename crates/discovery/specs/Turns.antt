@@ -163,20 +163,22 @@ framed-all b file (u ∷ us) g =
     let k = a .1 in
     let m = r .1 in
     let v = a .0 .faults in
-    let w = r .0 .faults in
-    (record {
-      same = record {
-        files = y .files ∙ x .files;
-        units = y .units ∙ x .units;
-        ids = y .ids ∙ x .ids;
-        count = y .count ∙ x .count;
-        folders = y .folders ∙ x .folders;
-        unread = y .unread ∙ x .unread;
-      };
-      start = r .0 .start ∙ a .0 .start;
-      len = r .0 .len ∙ a .0 .len;
-      faults = omega arith;
-    }, omega arith)
+    let w = r .0 .faults in (
+      record {
+        same = record {
+          files = y .files ∙ x .files;
+          units = y .units ∙ x .units;
+          ids = y .ids ∙ x .ids;
+          count = y .count ∙ x .count;
+          folders = y .folders ∙ x .folders;
+          unread = y .unread ∙ x .unread;
+        };
+        start = r .0 .start ∙ a .0 .start;
+        len = r .0 .len ∙ a .0 .len;
+        faults = omega arith;
+      },
+      omega arith,
+    )
 
 -- WHAT HOLDS AFTER n UNITS
 pub record Invariant (b : Bundle) (n : ℕ) (g : Graph) : Type 0 where
@@ -184,6 +186,7 @@ pub record Invariant (b : Bundle) (n : ℕ) (g : Graph) : Type 0 where
   pub sized : Sized g
   pub start-wide : length (g .start) ≡ file-limit
   pub len-wide : length (g .len) ≡ file-limit
+  pub some : 0 < g .units
   pub handled : n ≤ g .units
   -- each list lies within the ids
   pub lists : (u : ℕ) → u < n → getD (g .start) u 0 + getD (g .len) u 0 ≤ g .count
@@ -268,6 +271,9 @@ module _ (b : Bundle) (roomy : Roomy b) (n : ℕ) (g : Graph) (v : Invariant b n
       let l = length-take-le (g .units) (g .files) (omega arith) in
       k .units place (Memᴰ·cast (sym (getD-take (g .units) (g .files) n 0 waits)) (getD-mem (take (g .units) (g .files)) n 0 (omega arith)))
 
+  pub unit-small : n < file-limit
+  unit-small = let u = v .kept .units-fit in let w = few .files in omega arith
+
   pub place-small : place < length (b .files)
   place-small = let w = first-place .within in omega (arith, length-map (b .files) (λ (f : File). f .path))
 
@@ -322,6 +328,11 @@ module _ (b : Bundle) (roomy : Roomy b) (n : ℕ) (g : Graph) (v : Invariant b n
     -- after the lookups
     abbrev seen : Graph
     seen = lookedAll (listsOf b) (f .path) its-uses (noImports g)
+
+    -- what the code's lookups leave
+    pub seen-is : (lists : Lists) (file : Text) (us : List Use) (w : Graph) → lists ≡ listsOf b → file ≡ f .path → us ≡ its-uses → w ≡ lookedAll lists file us (noImports g) → w ≡ seen
+    seen-is lists file us w e p q h =
+        h ∙ (ap (λ (l : Lists). lookedAll l file us (noImports g)) e ∙ (ap (λ (x : Text). lookedAll (listsOf b) x us (noImports g)) p ∙ ap (λ (x : List Use). lookedAll (listsOf b) (f .path) x (noImports g)) q))
 
     framed : Looked (noImports g) seen (length its-uses)
     framed = framed-all (listsOf b) (f .path) its-uses (noImports g)
@@ -420,15 +431,12 @@ module _ (b : Bundle) (roomy : Roomy b) (n : ℕ) (g : Graph) (v : Invariant b n
     lens : length (out .len) ≡ file-limit
     lens = ap length (read .grown .len ∙ framed .0 .len) ∙ v .len-wide
 
-    n-small : n < file-limit
-    n-small = let u = v .kept .units-fit in let w = few .files in omega arith
-
     list-here : listOf result n ≡ drop (seen .count) (take (out .count) (out .ids))
     unfolding readAll
     list-here =
         let a = starts in
         let l = lens in
-        let m = n-small in
+        let m = unit-small in
         let lt : n < length (out .start) = omega arith in
         let lu : n < length (out .len) = omega arith in
         let q = read .grown .more in
@@ -480,7 +488,7 @@ module _ (b : Bundle) (roomy : Roomy b) (n : ℕ) (g : Graph) (v : Invariant b n
     lists-after u lt =
         let a = starts in
         let l = lens in
-        let m = n-small in
+        let m = unit-small in
         let q = read .grown .more in
         let c = framed .0 .same .count in
         ⊎-elim
@@ -506,6 +514,7 @@ module _ (b : Bundle) (roomy : Roomy b) (n : ℕ) (g : Graph) (v : Invariant b n
       };
       start-wide = length-set (out .start) n (seen .count) ∙ starts;
       len-wide = length-set (out .len) n (out .count - seen .count) ∙ lens;
+      some = let m = read .grown .units-more in let e = framed .0 .same .units in omega arith;
       handled = let m = read .grown .units-more in let e = framed .0 .same .units in omega arith;
       lists = lists-after;
       ids-weigh =
@@ -569,6 +578,7 @@ entry-only b roomy = record {
   sized = record { numbers = length-replicate {A = ℕ} use-limit 0; places = length-replicate {A = ℕ} use-limit 0; targets = length-replicate {A = ℕ} use-limit 0; marks = length-replicate {A = ℕ} use-limit 0 };
   start-wide = length-replicate {A = ℕ} file-limit 0;
   len-wide = length-replicate {A = ℕ} file-limit 0;
+  some = omega arith;
   handled = omega arith;
   lists = λ u lt. absurd (not-suc-le-zero lt);
   ids-weigh = omega arith;
@@ -604,8 +614,8 @@ pub record Discovers (b : Bundle) (g : Graph) : Type 0 where
   -- each list lies within the ids
   pub lists : (u : ℕ) → u < g .units → getD (g .start) u 0 + getD (g .len) u 0 ≤ g .count
 
-pub all-units : (b : Bundle) (n : ℕ) (g : Graph) → Invariant b n g → n ≡ g .units → 0 < n → Roomy b → Discovers b g
-all-units b n g v e p roomy =
+pub all-units : (b : Bundle) (n : ℕ) (g : Graph) → Invariant b n g → n ≡ g .units → Roomy b → Discovers b g
+all-units b n g v e roomy =
     let k = v .kept in
     let a = k .files-wide in
     let u = k .units-fit in
@@ -620,7 +630,7 @@ all-units b n g v e p roomy =
     let y = v .faults-weigh in
     record {
       is = ap (λ (j : ℕ). graphTo b j g) (sym e) ∙ (sym (no-turn (length (b .files) - n) b (graphTo b n g) (omega arith)) ∙ v .left);
-      some = omega arith;
+      some = v .some;
       units = omega arith;
       ids = omega arith;
       faults = omega arith;

@@ -37,7 +37,7 @@ element-copy-out-load-2 c = search needs
 
 -- src/readings.rt:117:13
 load-requires : tie.Need-load-requires Inv-loop μ-loop
-load-requires c κs = 
+load-requires c κs =
     let r = c .before .before .before .before .pre .each (c .before .before .before .loop .i) (c .before .before .loop-test .taken) in
     subst (λ (w : Graph). ReadRoom w (c .before .before .before .before .args .t1 .count) (getD (c .before .before .before .before .args .t1 .targets) (c .before .before .before .loop .i) 0)) (sym (c .before .before .before .loop .inv .1)) r
 
@@ -89,7 +89,7 @@ element-write-w-2 c = search needs
 
 -- src/readings.rt:108:1
 returns : tie.Need-returns Inv-loop μ-loop
-returns c = 
+returns c =
     let i : c .before .loop .i ≡ c .before .before .args .t1 .imports = omega (arith, c .before .loop .inv .0, c .loop-test .left) in
     read-out (c .before .before .args .t1) (c .before .loop .w) (c .before .before .args .unit) (c .before .loop .inv .1 ∙ ap (readTo (c .before .before .args .t1) (c .before .before .args .t1 .count)) i)
 
