@@ -1,0 +1,4 @@
+pub mod Run
+pub mod Files
+pub mod Units
+pub mod Theorems
