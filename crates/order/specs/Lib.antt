@@ -2,3 +2,5 @@ pub mod Run
 pub mod Files
 pub mod Units
 pub mod Theorems
+pub mod Report
+pub mod Cases

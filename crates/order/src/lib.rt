@@ -1,1 +1,9 @@
-// From a bundle to the linked order of its units, or a report: steps 3 and 4 of document 01 as one operation.
+// From a bundle to the linked order of its units, or a report: steps 3 and 4 of document 01.
+
+// What becomes of a report that is written to a lent buffer.
+pub enum Reported {
+    // How many bytes at the start of the buffer are the report.
+    Report(usize),
+    // A number and a place: 14 at 0, where the report exceeds the buffer.
+    Refused(u8, usize),
+}
