@@ -4,3 +4,4 @@ pub mod Units
 pub mod Theorems
 pub mod Report
 pub mod Cases
+pub mod Writing

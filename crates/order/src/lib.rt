@@ -1,4 +1,8 @@
 // From a bundle to the linked order of its units, or a report: steps 3 and 4 of document 01.
+mod report;
+
+pub use report::write_faults;
+pub use report::write_ring;
 
 // What becomes of a report that is written to a lent buffer.
 pub enum Reported {
