@@ -3,5 +3,7 @@ pub mod Files
 pub mod Units
 pub mod Theorems
 pub mod Report
-pub mod Cases
 pub mod Writing
+pub mod Call
+pub mod Steps
+pub mod Cases

@@ -1,8 +1,13 @@
 // From a bundle to the linked order of its units, or a report: steps 3 and 4 of document 01.
 mod report;
+mod steps;
 
 pub use report::write_faults;
 pub use report::write_ring;
+pub use steps::order_of;
+
+// The most units of a bundle: the limit of the reader (its specs/Limits.antt).
+pub const UNITS: usize = 64;
 
 // What becomes of a report that is written to a lent buffer.
 pub enum Reported {
@@ -10,4 +15,16 @@ pub enum Reported {
     Report(usize),
     // A number and a place: 14 at 0, where the report exceeds the buffer.
     Refused(u8, usize),
+}
+
+// What the two steps answer: a refusal's number, 1 to 14, and its place; or how many bytes at the start of the lent buffer are
+// the report; or, where there is neither, the units. Unit u, below `units`, is the file files[u] of the bundle, and the first
+// `units` of ids are the linked order. What is not told is 0.
+pub struct Answer {
+    pub number: u8,
+    pub place: usize,
+    pub report: usize,
+    pub units: usize,
+    pub files: [usize; UNITS],
+    pub ids: [u16; UNITS],
 }
