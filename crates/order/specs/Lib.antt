@@ -6,4 +6,5 @@ pub mod Report
 pub mod Writing
 pub mod Call
 pub mod Steps
+pub mod Join
 pub mod Cases
