@@ -9,4 +9,6 @@ pub mod Weight
 pub mod Search
 pub mod Record
 pub mod Meaning
+pub mod Readings
+pub mod Turns
 pub mod Cases

@@ -1,8 +1,10 @@
 // Discovery: which files an entry reaches, and what each of them imports. The functions have the names of driver/mod.rs.
+mod driver;
 mod imports;
 mod lookups;
 mod readings;
 
+pub use driver::discover_dependencies;
 pub use imports::uses_of;
 
 // The most files and folders of a bundle, and the most uses, so the most ids in all lists and the most faults: the limits of the
