@@ -1,21 +1,33 @@
 -- The record that discovery's code leaves is the definition's graph: so what is answered from it is the answer for the bundle.
 -- Assumes nothing.
 use Prim.Native.Nat.{ℕ, zero, suc, _+_, _<_, _≤_}
+use native.Mathlib.Nat.{le-of-suc-le-suc, eq-or-lt-of-le}
 use native.Mathlib.Omega.{arith}
 use mathlib.Core.Path.{_≡_, refl, sym, ap, subst, _∙_}
 use mathlib.Core.Bool.{Bool, true, false, cond, _&&_}
 use mathlib.Core.Logic.{⊎-elim}
-use mathlib.Core.List.{List, [], _∷_, _++_, map, List·Memᴰ, List·Memᴰ·head, List·Memᴰ·tail, List·Memᴰ·not-nil, List·Memᴰ·cases-cons}
+use mathlib.Core.List.{List, [], _∷_, _++_, map, List·Memᴰ, List·Memᴰ·head, List·Memᴰ·tail, List·Memᴰ·not-nil, List·Memᴰ·cases-cons, Memᴰ·map}
 use lib.Dec.{eqb, ltb}
-use lib.ListN.{length, getD, take, length-map}
+use lib.ListN.{length, getD, take, length-map, length-append, List·getD-append}
+use lib.Seq.{getD-append-seam}
 use borrow.Author.Tests.{lt-ltb, le-leb}
 use Rattle.bundle.specs.Bundle.{Text, File, Bundle}
 use Rattle.bundle.specs.Limits.{file-limit, use-limit}
+use Rattle.bundle.specs.Form.{WellFormed}
+use Rattle.bundle.specs.Stand.{Bytes}
+use Rattle.bundle.specs.Decode.{decode}
+use Rattle.bundle.specs.Read.{verdict, read}
+use Rattle.bundle.specs.Theorems.{sound, accepted, told}
+use Rattle.bundle.specs.declared.Checked.the-variants.{Ok, Refused}
 use Rattle.resolution.specs.Call.{position}
 use Rattle.discovery.specs.declared.Graph.{Graph}
 use Rattle.discovery.specs.Discovery.{Fault, discoverDependencies, pathsOf}
 use Rattle.discovery.specs.Right.{discovered}
 use Rattle.discovery.specs.Meaning.{faultsOf}
+use Rattle.discovery.specs.Turns.{firstLists, graphOf, length-lists, Discovers}
+use Rattle.discovery.specs.Turns as record-of
+use Rattle.discovery.specs.Room.{checked-roomy}
+use Rattle.discovery.specs.Discovery as definition
 use Rattle.graph.specs.declared.Graph as given
 use Rattle.graph.specs.Limits.{unit-limit, id-limit}
 use Rattle.graph.specs.Linearize.{Out, order, ring, memb, from, andThen, each, visit, linearize}
@@ -24,8 +36,11 @@ use Rattle.graph.specs.Given.{depsOf, below, all, fits, knows, fitting, known, 
 use Rattle.graph.specs.GivenFacts.{below-none, below-more, is-accepted}
 use Rattle.order.specs.Run.{listOf, walkOf, outcome, ordered, unitsOf}
 use Rattle.order.specs.Units.{within}
-use Rattle.order.specs.Call.{unitFiles}
-use Rattle.order.specs.Steps.{givenOf, Found, outcomeOf}
+use Rattle.order.specs.Listed.{reached-listed, placed}
+use Rattle.order.specs.Report.{recordsOf, lentReport}
+use Rattle.order.specs.Call.{refusing, answering, unitFiles, answerTo, orderAnswer, orderReport}
+use Rattle.order.specs.Steps.{givenOf, Found, outcomeOf, answerOf}
+use Rattle.order.specs.declared.Answer.{Answer}
 
 -- THE WALK LOOKS AT UNITS ALONE: where the lists of the n units are the same, the answer is
 module _ (deps deps' : ℕ → List ℕ) (n : ℕ) (w : Within deps n) (same : (u : ℕ) → u < n → deps u ≡ deps' u) where
@@ -120,3 +135,61 @@ module _ (b : Bundle) (some : 0 < length (b .files)) (g : Graph) (t : Stands b g
 
   pub stands-files : take (g .units) (g .files) ≡ unitFiles b
   stands-files = sym (ap (map (λ (p : Text). position p (pathsOf b))) (t .sources) ∙ back (take (g .units) (g .files)) (t .places))
+
+-- WHAT DISCOVERY'S CONTRACT SAYS
+list-at : (n : ℕ) (f : ℕ → List ℕ) (u : ℕ) → u < n → getD (firstLists n f) u [] ≡ f u
+unfolding firstLists
+list-at zero f u h = absurd (omega arith)
+list-at (suc n) f u h =
+    let l = length-lists n f in
+    ⊎-elim
+    (λ e. ap (λ (k : ℕ). getD (firstLists n f ++ (f n ∷ [])) k []) (e ∙ sym l) ∙ (getD-append-seam (firstLists n f) (f n) [] [] ∙ ap f (sym e)))
+    (λ lt. List·getD-append (firstLists n f) (f n ∷ []) [] u (omega arith) ∙ list-at n f u lt)
+    (eq-or-lt-of-le (le-of-suc-le-suc h))
+
+module _ (b : Bundle) (w : WellFormed b) (g : Graph) (d : Discovers b g) where
+  sources-are : unitsOf b ≡ map (λ x. getD (pathsOf b) x []) (take (g .units) (g .files))
+  sources-are = sym (ap (λ (x : definition.Graph). x .sources) (d .is))
+
+  pub stands : Stands b g
+  stands =
+      let n = length-lists (g .units) (record-of.listOf g) in
+      let deps : discoverDependencies b .dependencies ≡ firstLists (g .units) (record-of.listOf g) = sym (ap (λ (x : definition.Graph). x .dependencies) (d .is)) in
+      record {
+        units = sym (discovered b .handled-all) ∙ (ap length deps ∙ n);
+        sources = sources-are;
+        places = λ x m. placed b w x (reached-listed b (getD (pathsOf b) x [])
+            (discovered b .sound (getD (pathsOf b) x []) (subst (λ (l : List Text). List·Memᴰ (getD (pathsOf b) x []) l) (sym sources-are) (Memᴰ·map (λ (y : ℕ). getD (pathsOf b) y []) m))));
+        lists = λ u h. ap (λ (l : List (List ℕ)). getD l u []) deps ∙ list-at (g .units) (record-of.listOf g) u h;
+        faults = ap (λ (x : definition.Graph). x .faults) (d .is);
+        small = d .units;
+        few = d .faults;
+        ids = d .ids;
+        fit = d .lists;
+      }
+
+-- THE OPERATION
+module _ (s out : List ℕ) (a : Answer) where
+  -- a bundle that is refused
+  pub turned-back : (n p : ℕ) → verdict s ≡ Refused n p → a ≡ refusing n p → (a ≡ orderAnswer s out) × (out ≡ orderReport s out)
+  unfolding orderAnswer orderReport
+  turned-back n p v e = let r = told s n p v in rw r (e, refl)
+
+  module _ (bytes : Bytes s) (ok : verdict s ≡ Ok) (g : Graph) (d : Discovers (decode s) g) where
+    g-stands : Stands (decode s) g
+    g-stands = stands (decode s) (sound s bytes (decode s) (accepted s ok) .1) g d
+
+    pub ready : Found g
+    ready = stands-found (decode s) (checked-roomy s ok .some) g g-stands
+
+    pub answered : (final : List ℕ) → a ≡ answerOf g (length out) → final ≡ lentReport (recordsOf (outcomeOf g)) out
+        → (a ≡ orderAnswer s out) × (final ≡ orderReport s out)
+    unfolding orderAnswer orderReport
+    answered final e f =
+        let x = stands-outcome (decode s) (checked-roomy s ok .some) g g-stands in
+        let y = stands-files (decode s) (checked-roomy s ok .some) g g-stands in
+        let r = accepted s ok in
+        rw r (
+          e ∙ (ap (λ (l : List ℕ). answering l (length out) (outcomeOf g)) y ∙ ap (answering (unitFiles (decode s)) (length out)) x),
+          f ∙ ap (λ o. lentReport (recordsOf o) out) x,
+        )

@@ -6,5 +6,6 @@ pub mod Report
 pub mod Writing
 pub mod Call
 pub mod Steps
+pub mod Listed
 pub mod Join
 pub mod Cases

@@ -2,6 +2,8 @@
 mod report;
 mod steps;
 
+ghost use mathlib.Core.Path.{_≡_};
+ghost use Rattle.order.specs.Call.{orderAnswer, orderReport};
 pub use report::write_faults;
 pub use report::write_ring;
 pub use steps::order_of;
@@ -27,4 +29,21 @@ pub struct Answer {
     pub units: usize,
     pub files: [usize; UNITS],
     pub ids: [u16; UNITS],
+}
+
+// The units of a bundle in linked order, or a refusal: 1 to 13 of the bundle, the report of discovery's faults or of a ring, or
+// 14 where that exceeds the lent buffer, of which then not a byte is changed. Ruled out: the order of unit 0 alone where the
+// entry imports another file; a ring told of a file that imports only itself.
+pub fn order(s: &[u8], out: &mut [u8]) -> Answer
+    ensures { λ r. ⌜ r ≡ orderAnswer (now (s .entry)) (now (out .entry)) ⌝ }
+    ensures { λ r. ⌜ now (out .exit) ≡ orderReport (now (s .entry)) (now (out .entry)) ⌝ }
+{
+    let checked = bundle::check(s);
+    match checked {
+        bundle::Checked::Refused(n, p) => steps::refuse(n, p),
+        bundle::Checked::Ok => {
+            let g = discovery::discover_dependencies(s);
+            steps::order_of(g, out)
+        }
+    }
 }
