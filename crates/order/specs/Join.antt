@@ -67,7 +67,7 @@ module _ (deps deps' : ℕ → List ℕ) (n : ℕ) (w : Within deps n) (same : (
   visit-agree zero s o u h = refl
   visit-agree (suc k) s o u h =
       let e = each-agree (visit deps k (s ++ (u ∷ []))) (visit deps' k (s ++ (u ∷ []))) u (λ o' d b. visit-agree k (s ++ (u ∷ [])) o' d b) (deps u) (λ d m. w .lists u d h m) o
-          ∙ ap (each (visit deps' k (s ++ (u ∷ []))) u o) (same u h) in
+      ∙ ap (each (visit deps' k (s ++ (u ∷ []))) u o) (same u h) in
       ap (λ (x : Out). cond (memb u o) (order o) (cond (memb u s) (ring (from u s)) (andThen x (λ o'. order (o' ++ (u ∷ [])))))) e
 
   pub linearize-agree : linearize deps n ≡ linearize deps' n
@@ -169,27 +169,27 @@ module _ (b : Bundle) (w : WellFormed b) (g : Graph) (d : Discovers b g) where
       }
 
 -- THE OPERATION
-module _ (s out : List ℕ) (a : Answer) where
-  -- a bundle that is refused
-  pub turned-back : (n p : ℕ) → verdict s ≡ Refused n p → a ≡ refusing n p → (a ≡ orderAnswer s out) × (out ≡ orderReport s out)
+-- a bundle that is refused
+pub turned-back : (s out : List ℕ) (a : Answer) (n p : ℕ) → verdict s ≡ Refused n p → a ≡ refusing n p → (a ≡ orderAnswer s out) × (out ≡ orderReport s out)
+unfolding orderAnswer orderReport
+turned-back s out a n p v e = let r = told s n p v in rw r (e, refl)
+
+-- one that is not
+module _ (s : List ℕ) (bytes : Bytes s) (ok : verdict s ≡ Ok) (g : Graph) (d : Discovers (decode s) g) where
+  g-stands : Stands (decode s) g
+  g-stands = stands (decode s) (sound s bytes (decode s) (accepted s ok) .1) g d
+
+  pub ready : Found g
+  ready = stands-found (decode s) (checked-roomy s ok .some) g g-stands
+
+  pub answered : (out final : List ℕ) (a : Answer) → a ≡ answerOf g (length out) → final ≡ lentReport (recordsOf (outcomeOf g)) out
+      → (a ≡ orderAnswer s out) × (final ≡ orderReport s out)
   unfolding orderAnswer orderReport
-  turned-back n p v e = let r = told s n p v in rw r (e, refl)
-
-  module _ (bytes : Bytes s) (ok : verdict s ≡ Ok) (g : Graph) (d : Discovers (decode s) g) where
-    g-stands : Stands (decode s) g
-    g-stands = stands (decode s) (sound s bytes (decode s) (accepted s ok) .1) g d
-
-    pub ready : Found g
-    ready = stands-found (decode s) (checked-roomy s ok .some) g g-stands
-
-    pub answered : (final : List ℕ) → a ≡ answerOf g (length out) → final ≡ lentReport (recordsOf (outcomeOf g)) out
-        → (a ≡ orderAnswer s out) × (final ≡ orderReport s out)
-    unfolding orderAnswer orderReport
-    answered final e f =
-        let x = stands-outcome (decode s) (checked-roomy s ok .some) g g-stands in
-        let y = stands-files (decode s) (checked-roomy s ok .some) g g-stands in
-        let r = accepted s ok in
-        rw r (
-          e ∙ (ap (λ (l : List ℕ). answering l (length out) (outcomeOf g)) y ∙ ap (answering (unitFiles (decode s)) (length out)) x),
-          f ∙ ap (λ o. lentReport (recordsOf o) out) x,
-        )
+  answered out final a e f =
+      let x = stands-outcome (decode s) (checked-roomy s ok .some) g g-stands in
+      let y = stands-files (decode s) (checked-roomy s ok .some) g g-stands in
+      let r = accepted s ok in
+      rw r (
+        e ∙ (ap (λ (l : List ℕ). answering l (length out) (outcomeOf g)) y ∙ ap (answering (unitFiles (decode s)) (length out)) x),
+        f ∙ ap (λ o. lentReport (recordsOf o) out) x,
+      )

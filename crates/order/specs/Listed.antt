@@ -28,8 +28,7 @@ fresh-once seen folders (p ∷ l) e =
     let a = halves (not (member p seen)) _ e in
     let c = halves (any (directlyIn p) folders) (fresh (seen ++ (p ∷ [])) folders l) (a .1) in
     let r = fresh-once (seen ++ (p ∷ [])) folders l (c .1) in
-    let new : List·Memᴰ p seen → ⊥ = λ m. not-seen (member p seen) (a .0) (mem-member m) in
-    (
+    let new : List·Memᴰ p seen → ⊥ = λ m. not-seen (member p seen) (a .0) (mem-member m) in (
       more (λ m. r .1 p m (Memᴰ·append-right seen (List·Memᴰ·head refl))) (r .0),
       λ q m k. ⊎-elim (λ i. new (Memᴰ·cast (sym i) k)) (λ w. r .1 q w (Memᴰ·append-left (p ∷ []) k)) (List·Memᴰ·cases-cons m),
     )
