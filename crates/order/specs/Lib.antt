@@ -1,0 +1,11 @@
+pub mod Run
+pub mod Files
+pub mod Units
+pub mod Theorems
+pub mod Report
+pub mod Writing
+pub mod Call
+pub mod Steps
+pub mod Listed
+pub mod Join
+pub mod Cases
