@@ -1,5 +1,5 @@
-//! Links the proved crate `scopes_c`, built by `rt staticlib scopes_c`. Where the archive is missing,
-//! the workspace still builds, and `scopes-diff` says how to make it.
+//! Links the proved crate `scopes_c`, built by `rt staticlib scopes_c`. Where the archive or the
+//! original is missing, the workspace still builds, and `scopes-diff` says what to do.
 
 use std::path::Path;
 
@@ -8,6 +8,11 @@ fn main() {
     let archive = folder.join("libscopes_c.a");
     println!("cargo:rerun-if-changed={}", archive.display());
     println!("cargo:rustc-check-cfg=cfg(host)");
+    println!("cargo:rustc-check-cfg=cfg(original)");
+    // Told by the build of oracle.
+    if std::env::var_os("DEP_SIMPLICITYHL_FOUND").is_some() {
+        println!("cargo:rustc-cfg=original");
+    }
     if archive.exists() {
         println!("cargo:rustc-cfg=host");
         println!("cargo:rustc-link-search=native={}", folder.display());
