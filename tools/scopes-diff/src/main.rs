@@ -2,6 +2,8 @@
 //! every answer, and the tree written out.
 
 #[cfg(all(host, original))]
+mod bench;
+#[cfg(all(host, original))]
 mod calls;
 #[cfg(all(host, original))]
 mod compare;
@@ -36,6 +38,33 @@ fn run() -> std::process::ExitCode {
             }
             _ => return usage(),
         },
+        ["instructions"] => {
+            bench::instructions();
+            0
+        }
+        ["time"] => {
+            bench::time();
+            0
+        }
+        ["stacks"] => {
+            bench::stacks();
+            0
+        }
+        ["measure", row, who, entries, with @ ("0" | "1")] => {
+            let done = number(entries)
+                .and_then(|entries| bench::measure(row, who, entries as usize, with == "1"));
+            match done {
+                Some(()) => 0,
+                None => return usage(),
+            }
+        }
+        ["stack", row, who, pages] => {
+            let done = number(pages).and_then(|pages| bench::stack(row, who, pages as usize));
+            match done {
+                Some(()) => 0,
+                None => return usage(),
+            }
+        }
         [seed, lists] => match (number(seed), number(lists)) {
             (Some(seed), Some(lists)) => compare::run(seed, lists),
             _ => return usage(),
@@ -52,7 +81,12 @@ fn run() -> std::process::ExitCode {
 fn usage() -> std::process::ExitCode {
     eprintln!(
         "usage: scopes-diff SEED LISTS        lists of calls, and what they cover\n\
-         \x20      scopes-diff show SEED INDEX   one list, with both answers"
+         \x20      scopes-diff show SEED INDEX   one list, with both answers\n\
+         \x20      scopes-diff instructions      instructions a call, port and original\n\
+         \x20      scopes-diff time              nanoseconds a call\n\
+         \x20      scopes-diff stacks            the stack of a call\n\
+         \x20      scopes-diff measure ROW WHO ENTRIES WITH, scopes-diff stack ROW WHO PAGES:\n\
+         \x20                                    one of the runs that these are made of"
     );
     std::process::ExitCode::from(2)
 }
