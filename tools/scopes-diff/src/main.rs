@@ -15,6 +15,8 @@ mod lists;
 mod port;
 #[cfg(all(host, original))]
 mod register;
+#[cfg(all(host, original))]
+mod vectors;
 
 #[cfg(all(host, original))]
 fn main() -> std::process::ExitCode {
@@ -36,6 +38,16 @@ fn run() -> std::process::ExitCode {
                 compare::show(seed, index);
                 0
             }
+            _ => return usage(),
+        },
+        ["vectors", seed, calls] => match (number(seed), number(calls)) {
+            (Some(seed), Some(calls)) => match vectors::write(seed, calls as usize) {
+                Ok(()) => 0,
+                Err(error) => {
+                    eprintln!("scopes-diff: {error}");
+                    1
+                }
+            },
             _ => return usage(),
         },
         ["instructions"] => {
@@ -82,6 +94,7 @@ fn usage() -> std::process::ExitCode {
     eprintln!(
         "usage: scopes-diff SEED LISTS        lists of calls, and what they cover\n\
          \x20      scopes-diff show SEED INDEX   one list, with both answers\n\
+         \x20      scopes-diff vectors SEED CALLS  the files stdin and stdout of crates/scopes_vectors\n\
          \x20      scopes-diff instructions      instructions a call, port and original\n\
          \x20      scopes-diff time              nanoseconds a call\n\
          \x20      scopes-diff stacks            the stack of a call\n\
