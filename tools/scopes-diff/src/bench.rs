@@ -27,16 +27,20 @@ struct Case {
 
 #[derive(Clone, Copy, PartialEq, Eq)]
 enum Who {
+    /// By value, through the replay.
     Port,
+    /// Over lent arrays, where the archive has that walk.
+    Walk,
     Original,
 }
 
 impl Who {
-    const ALL: [Who; 2] = [Who::Port, Who::Original];
+    const ALL: [Who; 3] = [Who::Port, Who::Walk, Who::Original];
 
     fn word(self) -> &'static str {
         match self {
             Who::Port => "port",
+            Who::Walk => "walk",
             Who::Original => "original",
         }
     }
@@ -178,8 +182,11 @@ fn prepared(calls: &[Call]) -> Vec<bare::Call> {
 }
 
 /// Replays bytes; all calls are to be accepted.
-fn replay(list: &[u8], numbers: &mut [u32]) {
-    let count = port::replay(black_box(list), numbers);
+fn replay(who: Who, list: &[u8], numbers: &mut [u32]) {
+    let count = match who {
+        Who::Walk => port::walk(black_box(list), numbers),
+        _ => port::replay(black_box(list), numbers),
+    };
     assert!(numbers[..count].iter().all(|number| number >> 16 < 2));
 }
 
@@ -204,13 +211,13 @@ pub fn measure(row: &str, who: &str, entries: usize, with: bool) -> Option<()> {
     let who = Who::of(who)?;
     let case = case(row, entries)?;
     match who {
-        Who::Port => {
+        Who::Port | Who::Walk => {
             let mut list = bytes(&case.before);
             let end = list.len();
             list.extend(bytes(&case.calls));
             let mut numbers = vec![0; case.before.len() + case.calls.len()];
             let end = if with { list.len() } else { end };
-            port::replay(black_box(&list[..end]), &mut numbers);
+            replay(who, &list[..end], &mut numbers);
         }
         Who::Original => {
             let (before, calls) = (prepared(&case.before), prepared(&case.calls));
@@ -252,7 +259,7 @@ fn counted(row: &str, who: Who, entries: usize, with: bool, inside: Option<&str>
 /// Instructions of the calls of a row.
 fn spent(row: &str, who: Who, entries: usize, inside: Option<&str>) -> u64 {
     match who {
-        Who::Port => {
+        Who::Port | Who::Walk => {
             let with = counted(row, who, entries, true, inside);
             with - counted(row, who, entries, false, inside)
         }
@@ -262,35 +269,52 @@ fn spent(row: &str, who: Who, entries: usize, inside: Option<&str>) -> u64 {
     }
 }
 
-/// A table of instructions a call.
+/// The rows of a table, each with its sizes; the last is the list.
+fn rows() -> impl Iterator<Item = (&'static str, usize)> {
+    let sizes = |row| SIZES.map(|entries| (row, entries));
+    ROWS.into_iter().flat_map(sizes).chain([("list", 0)])
+}
+
+fn tell(row: &str, entries: usize, port: f64, inside: Option<f64>, walk: f64, original: f64) {
+    let title = match row {
+        "list" => "list of 1,000 calls | ".to_string(),
+        row => format!("{row} | {entries}"),
+    };
+    let inside = inside.map_or("".to_string(), |count| format!("{count:.0}"));
+    let (ratio, walk) = match cfg!(walk) {
+        true => (format!("{:.1}", walk / original), format!("{walk:.0}")),
+        false => Default::default(),
+    };
+    println!(
+        "| {title} | {port:.0} | {inside} | {walk} | {original:.0} | {:.0} | {ratio} |",
+        port / original
+    );
+}
+
+/// A table of instructions a call, and of the list as a whole.
 pub fn instructions() {
-    println!("| Call | Entries | Port | Inside the call | Original | Ratio |");
-    println!("|---|---|---|---|---|---|");
-    for row in ROWS {
+    println!("| Call | Entries | By value | Inside the call | Lent | Original | Ratio by value | Ratio lent |");
+    println!("|---|---|---|---|---|---|---|---|");
+    for (row, entries) in rows() {
         // Where the compiler left the call, or all of it but a few instructions, a function.
         let inside = match row {
             "get_alias" | "get_function" => Some("scopes::get"),
             "enter" | "insert_alias" | "insert_enum" | "insert_function" => Some("scopes::insert"),
             _ => None,
         };
-        for entries in SIZES {
-            let times = case(row, entries).expect("a row").calls.len() as u64;
-            let port = spent(row, Who::Port, entries, None) / times;
-            let original = spent(row, Who::Original, entries, None) / times;
-            let inside = inside.map(|name| spent(row, Who::Port, entries, Some(name)) / times);
-            println!(
-                "| {row} | {entries} | {port} | {} | {original} | {:.0} |",
-                inside.map_or("".to_string(), |count| count.to_string()),
-                port as f64 / original as f64
-            );
-        }
+        let times = match row {
+            "list" => 1,
+            row => case(row, entries).expect("a row").calls.len(),
+        };
+        let spent = |who, inside| spent(row, who, entries, inside) as f64 / times as f64;
+        let walk = match cfg!(walk) {
+            true => spent(Who::Walk, None),
+            false => 0.0,
+        };
+        let inside = inside.map(|name| spent(Who::Port, Some(name)));
+        let (port, original) = (spent(Who::Port, None), spent(Who::Original, None));
+        tell(row, entries, port, inside, walk, original);
     }
-    let port = spent("list", Who::Port, 0, None);
-    let original = spent("list", Who::Original, 0, None);
-    println!(
-        "| list of 1,000 calls | | {port} | | {original} | {:.0} |",
-        port as f64 / original as f64
-    );
 }
 
 /// The least of many runs.
@@ -307,41 +331,32 @@ fn timed(run: impl FnOnce()) -> Duration {
 
 /// A table of nanoseconds a call, the least of many runs in this one process.
 pub fn time() {
-    println!("| Call | Entries | Port, ns | Original, ns | Ratio |");
-    println!("|---|---|---|---|---|");
-    for row in ROWS {
-        for entries in SIZES {
-            let case = case(row, entries).expect("a row");
-            let times = case.calls.len() as f64;
-            let mut list = bytes(&case.before);
-            let end = list.len();
-            list.extend(bytes(&case.calls));
-            let mut numbers = vec![0; case.before.len() + case.calls.len()];
-            let with = least(500, || timed(|| replay(&list, &mut numbers)));
-            let without = least(500, || timed(|| replay(&list[..end], &mut numbers)));
-            let port = (with - without) / times;
+    println!("| Call | Entries | By value | | Lent | Original | Ratio by value | Ratio lent |");
+    println!("|---|---|---|---|---|---|---|---|");
+    for (row, entries) in rows() {
+        let case = case(row, entries).expect("a row");
+        let (runs, times) = match row {
+            "list" => (50, 1.0),
+            _ => (500, case.calls.len() as f64),
+        };
+        let mut list = bytes(&case.before);
+        let end = list.len();
+        list.extend(bytes(&case.calls));
+        let mut numbers = vec![0; case.before.len() + case.calls.len()];
+        let [port, walk] = [Who::Port, Who::Walk].map(|who| {
+            let with = least(runs, || timed(|| replay(who, &list, &mut numbers)));
+            let without = least(runs, || timed(|| replay(who, &list[..end], &mut numbers)));
+            (with - without) / times
+        });
 
-            let (before, calls) = (prepared(&case.before), prepared(&case.calls));
-            let original = least(500, || {
-                let mut tree = Bare::default();
-                make(&mut tree, &before);
-                timed(|| make(&mut tree, &calls))
-            }) / times;
-            println!(
-                "| {row} | {entries} | {port:.0} | {original:.0} | {:.0} |",
-                port / original
-            );
-        }
+        let (before, calls) = (prepared(&case.before), prepared(&case.calls));
+        let original = least(runs, || {
+            let mut tree = Bare::default();
+            make(&mut tree, &before);
+            timed(|| make(&mut tree, &calls))
+        });
+        tell(row, entries, port, None, walk, original / times);
     }
-    let calls = list_of_1000();
-    let (list, mut numbers) = (bytes(&calls), vec![0; calls.len()]);
-    let port = least(50, || timed(|| replay(&list, &mut numbers)));
-    let calls = prepared(&calls);
-    let original = least(50, || timed(|| make(&mut Bare::default(), &calls)));
-    println!(
-        "| list of 1,000 calls | | {port:.0} | {original:.0} | {:.0} |",
-        port / original
-    );
 }
 
 /// A tree whose modules stand in each other: nine open, then copies of a chain of copies.
@@ -398,9 +413,12 @@ pub fn stack(row: &str, who: &str, pages: usize) -> Option<()> {
     std::thread::scope(|scope| {
         let thread = std::thread::Builder::new().stack_size(4096 * pages);
         let thread = thread.spawn_scoped(scope, || match who {
-            Who::Port if list.is_empty() => {}
+            Who::Port | Who::Walk if list.is_empty() => {}
             Who::Port => {
                 port::replay(&list, &mut numbers);
+            }
+            Who::Walk => {
+                port::walk(&list, &mut numbers);
             }
             Who::Original => {
                 last.map(|last| tree.call(last));
@@ -438,10 +456,18 @@ fn pages(row: &str, who: Who) -> usize {
 
 /// A table of the stack that a call needs over that of an empty thread.
 pub fn stacks() {
-    println!("| Call | Port, KB | Original, KB |");
-    println!("|---|---|---|");
+    println!("| Call | By value, KB | Lent, KB | Original, KB |");
+    println!("|---|---|---|---|");
     for row in ROWS {
         let over = |who| 4 * (pages(row, who) - pages("nothing", who));
-        println!("| {row} | {} | {} |", over(Who::Port), over(Who::Original));
+        let walk = match cfg!(walk) {
+            true => over(Who::Walk).to_string(),
+            false => String::new(),
+        };
+        println!(
+            "| {row} | {} | {walk} | {} |",
+            over(Who::Port),
+            over(Who::Original)
+        );
     }
 }

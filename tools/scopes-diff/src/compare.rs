@@ -70,6 +70,13 @@ fn difference(list: &List, rows: &mut [Row]) -> Result<bool, String> {
             return Err(format!("call {at}: {line}: {ours}, the original {theirs}"));
         }
     }
+    if cfg!(walk) {
+        let mut walked = vec![0u32; list.calls.len()];
+        let count = port::walk(&bytes, &mut walked);
+        if count != list.calls.len() || walked != numbers {
+            return Err("the walk over lent arrays answers otherwise".to_string());
+        }
+    }
     let count = port::rows(&bytes, rows);
     let mut ours = Vec::new();
     if !written(&rows[..count], 0, count, 0, &mut ours) {
@@ -102,8 +109,14 @@ pub fn run(seed: u64, count: u64) -> u64 {
         cover.add(&list.cover);
     }
     println!(
-        "{} lists, {} calls, {trees} trees compared, {differences} differences",
-        cover.lists, cover.calls
+        "{} lists, {} calls, {trees} trees compared, {differences} differences{}",
+        cover.lists,
+        cover.calls,
+        if cfg!(walk) {
+            "; calls by value and the walk over lent arrays"
+        } else {
+            ""
+        }
     );
     for (name, count) in lists::family_names().zip(families) {
         println!("  {name}: {count} lists");

@@ -2,6 +2,8 @@
 
 extern "C" {
     fn scopes_replay(s: *const u8, s_len: usize, out: *mut u32, out_len: usize) -> usize;
+    #[cfg(walk)]
+    fn scopes_walk(s: *const u8, s_len: usize, out: *mut u32, out_len: usize) -> usize;
     fn scopes_rows(s: *const u8, s_len: usize, out: *mut u64, out_len: usize) -> usize;
 }
 
@@ -9,6 +11,19 @@ extern "C" {
 pub fn replay(list: &[u8], out: &mut [u32]) -> usize {
     // SAFETY: the pointers are those of slices that live over the call, with their lengths.
     unsafe { scopes_replay(list.as_ptr(), list.len(), out.as_mut_ptr(), out.len()) }
+}
+
+/// The same over arrays that are lent from call to call.
+#[cfg(walk)]
+pub fn walk(list: &[u8], out: &mut [u32]) -> usize {
+    // SAFETY: as above.
+    unsafe { scopes_walk(list.as_ptr(), list.len(), out.as_mut_ptr(), out.len()) }
+}
+
+/// Where the archive has no such function, there is nothing to compare.
+#[cfg(not(walk))]
+pub fn walk(list: &[u8], out: &mut [u32]) -> usize {
+    replay(list, out)
 }
 
 /// An entry: kind, visibility, scope, mark, origin, what a copy shows (a scope and a time), and
