@@ -135,9 +135,9 @@ fn shape(rng: &mut Rng) -> Vec<Vec<usize>> {
         // A star, some rays of which point back or on.
         2 => {
             lists[0] = (1..units).collect();
-            for unit in 1..units {
+            for list in &mut lists[1..] {
                 if rng.chance(5) {
-                    lists[unit].push(rng.below(units));
+                    list.push(rng.below(units));
                 }
             }
         }
@@ -157,18 +157,18 @@ fn shape(rng: &mut Rng) -> Vec<Vec<usize>> {
         // Each unit lists the next few.
         4 => {
             let width = rng.between(1, 4);
-            for unit in 0..units {
-                lists[unit] = (unit + 1..units.min(unit + 1 + width)).collect();
+            for (unit, list) in lists.iter_mut().enumerate() {
+                *list = (unit + 1..units.min(unit + 1 + width)).collect();
             }
         }
         // Layers: a unit lists some of the next layer.
         5 => {
             let width = rng.between(1, 8);
-            for unit in 0..units {
+            for (unit, list) in lists.iter_mut().enumerate() {
                 let next = (unit / width + 1) * width;
                 for other in next..units.min(next + width) {
                     if rng.chance(50) {
-                        lists[unit].push(other);
+                        list.push(other);
                     }
                 }
             }
@@ -176,10 +176,10 @@ fn shape(rng: &mut Rng) -> Vec<Vec<usize>> {
         // By chance, upwards: no ring.
         6 => {
             let percent = *rng.pick(&[2, 5, 10, 30]);
-            for unit in 0..units {
+            for (unit, list) in lists.iter_mut().enumerate() {
                 for other in unit + 1..units {
                     if rng.chance(percent) {
-                        lists[unit].push(other);
+                        list.push(other);
                     }
                 }
             }

@@ -18,27 +18,56 @@ pub struct List {
     pub cover: Cover,
 }
 
-/// Each family, how many lists of ten thousand are of it, and its name.
-const FAMILIES: [(fn(&mut Session), usize, &str); 6] = [
-    (Session::mixed, 2_600, "mixed"),
-    (Session::guided, 5_000, "guided"),
-    (Session::chain, 1_000, "chain"),
-    (Session::ancestors, 900, "ancestors"),
-    (Session::full_by_uses, 490, "full by uses"),
-    (Session::full_by_declarations, 10, "full by declarations"),
+struct Family {
+    name: &'static str,
+    /// How many lists of ten thousand are of it.
+    weight: usize,
+    make: fn(&mut Session),
+}
+
+const FAMILIES: [Family; 6] = [
+    Family {
+        name: "mixed",
+        weight: 2_600,
+        make: Session::mixed,
+    },
+    Family {
+        name: "guided",
+        weight: 5_000,
+        make: Session::guided,
+    },
+    Family {
+        name: "chain",
+        weight: 1_000,
+        make: Session::chain,
+    },
+    Family {
+        name: "ancestors",
+        weight: 900,
+        make: Session::ancestors,
+    },
+    Family {
+        name: "full by uses",
+        weight: 490,
+        make: Session::full_by_uses,
+    },
+    Family {
+        name: "full by declarations",
+        weight: 10,
+        make: Session::full_by_declarations,
+    },
 ];
 
 pub fn family_names() -> impl Iterator<Item = &'static str> {
-    FAMILIES.iter().map(|(_, _, name)| *name)
+    FAMILIES.iter().map(|family| family.name)
 }
 
 /// The list `index` of a seed, which does not depend on those before it; and its family.
 pub fn list(seed: u64, index: u64) -> (List, usize) {
     let mut session = Session::new(Rng::new(seed, index));
-    let family = session
-        .rng
-        .weighted(FAMILIES.iter().map(|(_, weight, _)| *weight));
-    FAMILIES[family].0(&mut session);
+    let weights = FAMILIES.iter().map(|family| family.weight);
+    let family = session.rng.weighted(weights);
+    (FAMILIES[family].make)(&mut session);
     (session.end(), family)
 }
 
@@ -424,7 +453,7 @@ impl Session {
                 };
                 let path = vec!["crate".to_string()];
                 self.import(
-                    self.register.entries.len() % 9 != 0,
+                    !self.register.entries.len().is_multiple_of(9),
                     path,
                     vec![(before, alias)],
                 );
