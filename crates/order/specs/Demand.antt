@@ -79,7 +79,7 @@ module _ (b : Bundle) (o : List ℕ) (ids : LinkedIds b o) (files : LinkedFiles 
       let n = length-map (unitsOf b) (λ (p : Text). position p (pathsOf b)) in
       let lt : u < length (unitFiles b) = omega arith in
       let at : getD (padded (unitFiles b)) u 0 ≡ position (getD (unitsOf b) u []) (pathsOf b)
-          = List·getD-append (unitFiles b) (drop (length (unitFiles b)) (replicate file-limit 0)) 0 u lt ∙ getD-map-in (λ (p : Text). position p (pathsOf b)) (unitsOf b) u [] 0 h in
+      = List·getD-append (unitFiles b) (drop (length (unitFiles b)) (replicate file-limit 0)) 0 u lt ∙ getD-map-in (λ (p : Text). position p (pathsOf b)) (unitsOf b) u [] 0 h in
       let listed = reached-listed b (getD (unitsOf b) u []) (discovered b .sound (getD (unitsOf b) u []) (getD-mem (unitsOf b) u [] h)) in
       ap (λ (x : ℕ). getD (pathsOf b) x []) at ∙ id-found (getD (unitsOf b) u []) (pathsOf b) listed .1
 

@@ -7,10 +7,11 @@ use mathlib.Core.Bool.{Bool, true, false, cond}
 use mathlib.Core.Logic.{⊎-elim}
 use mathlib.Core.List.{List, [], _∷_, _++_, map, List·Memᴰ, List·Memᴰ·head, List·Memᴰ·tail, List·Memᴰ·not-nil, List·Memᴰ·cases-cons, List·Memᴰ·append-cases, List·Memᴰ·eq-of-singleton, Memᴰ·of-map}
 use lib.Dec.{ltb}
-use lib.ListN.{length, getD, drop, length-append, length-drop}
+use lib.ListN.{length, getD, drop, length-append, length-drop, length-map}
 use Rattle.names.specs.Bytes.{same, member}
 use Rattle.bundle.specs.Bundle.{Text, Items, none, named, use-of, module-of, ignored, File, Bundle}
 use Rattle.bundle.specs.Encode.{two, string, counted, element, sized, fields, encode}
+use Rattle.bundle.specs.Limits.{file-limit}
 use Rattle.bundle.specs.Form.{WellFormed}
 use Rattle.bundle.specs.Marks.{Begins, Found, FoundFiles}
 use Rattle.bundle.specs.Theorems.{marks-are-offsets}
@@ -18,8 +19,14 @@ use Rattle.resolution.specs.Lists.{listsOf}
 use Rattle.resolution.specs.Resolution.{Resolved, to, fails, number}
 use Rattle.resolution.specs.Resolution as resolution
 use Rattle.discovery.specs.Discovery.{Use, uses, programOf, ResolvedUse, resolveSingle, useCache, Fault, Import, faultOf, importOf, lookupFaults, validImports, Loading, load, loadAll, Graph, current, handled, turn, turns, start, pathsOf, discoverDependencies}
-use Rattle.discovery.specs.Facts.{cond-elim, mem-snoc}
-use Rattle.order.specs.Theorems.{faultsOf}
+use Rattle.discovery.specs.Facts.{cond-elim, mem-snoc, pigeons}
+use Rattle.discovery.specs.Right.{discovered}
+use Rattle.graph.specs.Facts.{pigeonhole}
+use Rattle.order.specs.Run.{closed, ordered, unitsOf}
+use Rattle.order.specs.Theorems.{faultsOf, first-half}
+use Rattle.order.specs.Report.{fault, ring, ring-met, recordBytes, place-bytes, id-byte}
+use Rattle.order.specs.Report as report
+use Rattle.order.specs.Listed.{reached-listed}
 
 -- A FAULT OF DISCOVERY
 pub record AtUse (b : Bundle) (f : Fault) : Type 0 where
@@ -123,3 +130,67 @@ at-use b =
     let t = Memᴰ·of-map (resolveSingle (listsOf b) file) (uses (programOf (b .files) file)) (l .among) in
     record { file = file; use-told = t .0; used = t .1; place = l .mark ∙ ap (λ (r : ResolvedUse). r .mark) (sym (t .2)); low = omega arith; high = omega arith })
     (length (b .files)) (start (pathsOf b)) (λ f m. absurd (List·Memᴰ·not-nil m))
+
+-- THE MARK OF A USE
+begins-before : (s : List ℕ) (at : ℕ) (body : List ℕ) → Begins s at (sized body) → 0 < length body → at + 2 + length body ≤ length s
+unfolding sized two
+begins-before s at body x h =
+    let e = ap length (x .bytes) in
+    let z : length (sized body) ≡ 2 + length body = omega arith in
+    omega (arith, length-drop at s, length-append (sized body) (x .rest))
+
+use-before : (s : List ℕ) (x : Items) → Found s x → (u : Use) → List·Memᴰ u (uses x) → u .mark + 4 ≤ length s
+unfolding Found uses
+use-before s none h u m = absurd (List·Memᴰ·not-nil m)
+use-before s (named k mark v name rest) h u m = use-before s rest (h .1) u m
+use-before s (use-of mark v segments elements rest) h u m =
+    ⊎-elim
+    (λ e. let q = ap (λ (w : Use). w .mark) e in
+    let k = begins-before s mark (3 ∷ v ∷ (counted string segments ++ counted element elements)) (h .0) (omega arith) in omega arith)
+    (λ w. use-before s rest (h .1) u w) (List·Memᴰ·cases-cons m)
+use-before s (module-of mark v name inner rest) h u m =
+    ⊎-elim (λ w. use-before s inner (h .1 .0) u w) (λ w. use-before s rest (h .1 .1) u w) (List·Memᴰ·append-cases (uses inner) m)
+use-before s (ignored mark v rest) h u m = use-before s rest (h .1) u m
+
+program-found : (s : List ℕ) (fs : List File) (p : Text) → FoundFiles s fs → Found s (programOf fs p)
+unfolding FoundFiles programOf Found
+program-found s [] p h = tt
+program-found s (f ∷ fs) p h = cond-elim (Found s) (same p (f .path)) (λ e. h .0) (λ e. program-found s fs p (h .1))
+
+encode-length : (b : Bundle) → length (encode b) ≡ 3 + length (fields b)
+unfolding encode sized two
+encode-length b = omega arith
+
+-- THE BYTES
+module _ (b : Bundle) (w : WellFormed b) where
+  pub place-small : (f : Fault) → List·Memᴰ f (faultsOf b) → f .place < 65536
+  place-small f m =
+      let a = at-use b f m in
+      let e = a .place in
+      let z = w .form .size in
+      omega (arith, use-before (encode b) (programOf (b .files) (a .file)) (program-found (encode b) (b .files) (a .file) (marks-are-offsets b w)) (a .use-told) (a .used), encode-length b)
+
+  -- a fault's record is its number and the two bytes of its place
+  pub fault-exact : (f : Fault) → List·Memᴰ f (faultsOf b) → (recordBytes (fault f) ≡ f .number ∷ two (f .place)) × (f .number < 256)
+  unfolding recordBytes
+  fault-exact f m = let a = at-use b f m in let h = a .high in (ap (λ (l : List ℕ). f .number ∷ l) (place-bytes (f .place) (place-small f m)), omega arith)
+
+  units-few : length (unitsOf b) ≤ file-limit
+  units-few =
+      let c = w .form .file-count in
+      omega (arith, pigeons (discovered b .once) (pathsOf b) (λ p m. reached-listed b p (discovered b .sound p m)), length-map (b .files) (λ (f : File). f .path))
+
+  -- a ring's is 26, place 0, the count and the ids themselves
+  pub ring-exact : (r : List ℕ) → ordered b ≡ closed r → (recordBytes (ring r) ≡ ring-met ∷ 0 ∷ 0 ∷ length r ∷ r) × (length r ≤ file-limit)
+  unfolding recordBytes
+  ring-exact r e =
+      let h = first-half b (w .form .some-file) in
+      let below = h .ring-ids r e in
+      let n = units-few in (
+        ap (λ (l : List ℕ). ring-met ∷ 0 ∷ 0 ∷ length r ∷ l) (low-all r (λ u m. let k = below u m in omega arith)),
+        omega (arith, pigeonhole (length (unitsOf b)) r (h .ring-once r e) below),
+      )
+    where
+      low-all : (l : List ℕ) → ((u : ℕ) → List·Memᴰ u l → u < 256) → map report.low l ≡ l
+      low-all [] h = refl
+      low-all (x ∷ l) h = rw (id-byte x (h x (List·Memᴰ·head refl)), low-all l (λ u m. h u (List·Memᴰ·tail m)))

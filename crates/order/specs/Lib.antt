@@ -3,8 +3,8 @@ pub mod Files
 pub mod Units
 pub mod Theorems
 pub mod Report
-pub mod Exact
 pub mod Listed
+pub mod Exact
 pub mod Call
 pub mod Demand
 pub mod Cases
