@@ -3,9 +3,11 @@ pub mod Files
 pub mod Units
 pub mod Theorems
 pub mod Report
-pub mod Writing
-pub mod Call
-pub mod Steps
 pub mod Listed
-pub mod Join
+pub mod Exact
+pub mod Call
+pub mod Demand
 pub mod Cases
+pub mod Writing
+pub mod Steps
+pub mod Join

@@ -131,6 +131,11 @@ module _ (rs : List Record) (out : List ℕ) where
           omega (arith, length-append (reportBytes rs) (drop (reportLength rs) out), report-length rs, length-drop (reportLength rs) out)
       go false h = refl
 
+-- nothing to tell, nothing is written
+pub nothing-lent : (out : List ℕ) → lentReport [] out ≡ out
+unfolding reportLength
+nothing-lent out = let f = fits [] out (omega arith) in f .rest
+
 -- a place of a bundle is the two bytes of the bundle's own numbers, and an id of a unit is its byte
 pub place-bytes : (p : ℕ) → p < 65536 → placeBytes p ≡ two p
 unfolding two

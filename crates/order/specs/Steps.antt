@@ -6,8 +6,6 @@ use mathlib.Core.Path.{_≡_, refl, sym, ap, subst, _∙_}
 use mathlib.Core.List.{List, [], _∷_, _++_}
 use lib.ListN.{length, getD, set, take, drop, replicate, length-replicate, length-append, length-drop}
 use lib.Seq.{length-take-le, take-suc, take-at}
-use borrow.Author.Tests.{le-leb}
-use Rattle.bundle.specs.Encode.{joined}
 use Rattle.bundle.specs.Limits.{file-limit, use-limit}
 use Rattle.discovery.specs.declared.Graph.{Graph}
 use Rattle.discovery.specs.Discovery.{Fault}
@@ -19,7 +17,7 @@ use Rattle.graph.specs.Limits.{unit-limit, id-limit}
 use Rattle.graph.specs.Given.{depsOf, refusal, numbered, linearizeGiven}
 use Rattle.graph.specs.GivenFacts.{sound-of, given-accepted}
 use Rattle.order.specs.Run.{Outcome, faulty, closed, linked, step4, outcome}
-use Rattle.order.specs.Report.{recordsOf, reportBytes, reportLength, lentReport, reporting}
+use Rattle.order.specs.Report.{recordsOf, lentReport, reporting, nothing-lent}
 use Rattle.order.specs.Writing.{faultRecords, ringRecords, put-one}
 use Rattle.order.specs.Call.{cleared, reportedTo, linking, answering}
 use Rattle.order.specs.declared.Reported.{Reported}
@@ -82,10 +80,6 @@ some-faulty : (fs : List Fault) (x : Out) → 0 < length fs → outcome fs x ≡
 some-faulty [] x h = absurd (omega arith)
 some-faulty (f ∷ fs) x h = refl
 
-nothing-lent : (out : List ℕ) → out ≡ lentReport [] out
-unfolding lentReport reportLength reportBytes joined
-nothing-lent out = rw (le-leb 0 (length out) (omega arith))
-
 -- an order that was walked
 module _ (files : List ℕ) (n : ℕ) where
   walked-order : (x : Out) → numbered x .number ≡ 0 → (linking files (numbered x .ids) ≡ answering files n (step4 x)) × (recordsOf (step4 x) ≡ [])
@@ -140,7 +134,7 @@ module _ (g : Graph) (f : Found g) where
           let i = walked-is w walked in
           let t = walked-order (take (g .units) (g .files)) (length out) walk (ap (λ (v : Linearized). v .number) (sym i) ∙ z) in (
             k ∙ (ap (λ (v : Linearized). linking (take (g .units) (g .files)) (v .ids)) i ∙ (t .0 ∙ ap (answering (take (g .units) (g .files)) (length out)) (sym no-fault))),
-            nothing-lent out ∙ (ap (λ l. lentReport l out) (sym (t .1)) ∙ ap (λ (x : Outcome). lentReport (recordsOf x) out) (sym no-fault)),
+            sym (nothing-lent out) ∙ (ap (λ l. lentReport l out) (sym (t .1)) ∙ ap (λ (x : Outcome). lentReport (recordsOf x) out) (sym no-fault)),
           )
 
       pub told-ring : (r : Reported) (final : List ℕ) → (w .number ≡ 0 → ⊥)

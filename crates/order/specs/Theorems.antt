@@ -24,7 +24,7 @@ use Rattle.graph.specs.Order as graph
 use Rattle.graph.specs.OrderTheorems.{Linearizes, linearize-right, ring-there}
 use Rattle.order.specs.Run.{listOf, walkOf, Outcome, faulty, closed, linked, outcome, ordered, unitsOf, filesOf}
 use Rattle.order.specs.Files.{LinkedFiles, RingOfFiles, ImportEachOther, NamedRing}
-use Rattle.order.specs.Units.{within, ids-below, all-units, linked-files, ring-files, named-files, cyclic-files, files-cyclic, ring-each-other, reached-some}
+use Rattle.order.specs.Units.{within, reaches-below, ids-below, all-units, linked-files, ring-files, named-files, cyclic-files, files-cyclic, ring-each-other, reached-some}
 
 -- the faults of discovery
 abbrev pub faultsOf : Bundle → List Fault
@@ -60,7 +60,9 @@ pub record FirstHalf (b : Bundle) (x : Outcome) : Type 0 where
   pub faults : (l : List Fault) → x ≡ faulty l → (l ≡ faultsOf b) × (l ≡ [] → ⊥)
   pub order-faultless : (o : List ℕ) → x ≡ linked o → faultsOf b ≡ []
   pub ring-faultless : (r : List ℕ) → x ≡ closed r → faultsOf b ≡ []
-  -- the ids of an order, and what the uses of its files resolve to
+  -- the ids of a ring and of an order, and what the uses of its files resolve to
+  pub ring-once : (r : List ℕ) → x ≡ closed r → graph.Once r
+  pub ring-ids : (r : List ℕ) → x ≡ closed r → (u : ℕ) → List·Memᴰ u r → u < length (unitsOf b)
   pub ids : (o : List ℕ) → x ≡ linked o → LinkedIds b o
   pub uses-linked : (o : List ℕ) → x ≡ linked o → (f : Text) → Reached b f → (u : Use) → List·Memᴰ u (uses (programOf (b .files) f)) → ToLinked b o f u
 
@@ -100,6 +102,8 @@ module _ (b : Bundle) (some : 0 < length (b .files)) where
           faults = λ l e. absurd (faulty-linked (sym e));
           order-faultless = λ o' e. clean;
           ring-faultless = λ l e. clean;
+          ring-once = λ l e. absurd (linked-closed e);
+          ring-ids = λ l e. absurd (linked-closed e);
           ids = λ o' e.
               let q : o ≡ o' = cc in
               subst (LinkedIds b) q (record {
@@ -134,6 +138,10 @@ module _ (b : Bundle) (some : 0 < length (b .files)) where
           faults = λ k e. absurd (faulty-closed (sym e));
           order-faultless = λ o e. clean;
           ring-faultless = λ k e. clean;
+          ring-once = λ k e. let q : l ≡ k = cc in subst graph.Once q (r .0 .ring .once);
+          ring-ids = λ k e u m.
+              let q : l ≡ k = cc in
+              reaches-below b (discoverDependencies b) (discovered b) (units-within .some) (r .0 .ring .reached u (subst (λ (i : List ℕ). List·Memᴰ u i) (sym q) m));
           ids = λ o e. absurd (linked-closed (sym e));
           uses-linked = λ o e. absurd (linked-closed (sym e));
         }
@@ -151,6 +159,8 @@ module _ (b : Bundle) (some : 0 < length (b .files)) where
     faults = λ k e. let q : f ∷ fs ≡ k = cc in (sym q ∙ sym told, λ n. some-faults (q ∙ n));
     order-faultless = λ o e. absurd (faulty-linked e);
     ring-faultless = λ k e. absurd (faulty-closed e);
+    ring-once = λ k e. absurd (faulty-closed e);
+    ring-ids = λ k e. absurd (faulty-closed e);
     ids = λ o e. absurd (faulty-linked e);
     uses-linked = λ o e. absurd (faulty-linked e);
   }
