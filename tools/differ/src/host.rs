@@ -12,6 +12,8 @@ extern "C" {
         out_len: usize,
     ) -> u8;
     #[cfg(order)]
+    fn gontsamy_discover(s: *const u8, s_len: usize, out: *mut usize, out_len: usize) -> u8;
+    #[cfg(order)]
     fn gontsamy_order(
         s: *const u8,
         s_len: usize,
@@ -72,7 +74,7 @@ pub fn resolve(bundle: &[u8], importer: &[u8], segments: &[u8]) -> (u8, [usize; 
 
 /// A number with its place in out[0]; or 0 with the report's length in out[0], which is 0 where
 /// there is none; then the count of units in out[1], each unit's place among the files from
-/// out[2] on, and the linked order after them.
+/// out[2] on, and the linked order from out[66] on.
 #[cfg(order)]
 pub fn order(bundle: &[u8], report: &mut [u8]) -> crate::order::Told {
     use crate::order::Told;
@@ -90,10 +92,28 @@ pub fn order(bundle: &[u8], report: &mut [u8]) -> crate::order::Told {
     };
     match (number, out[0]) {
         (0, 0) => {
-            let (files, order) = out[2..].split_at(out[1].min(64));
-            Told::Linked(files.to_vec(), order[..files.len()].to_vec())
+            let units = out[1].min(64);
+            Told::Linked(out[2..2 + units].to_vec(), out[66..66 + units].to_vec())
         }
         (0, length) => Told::Report(report[..length.min(report.len())].to_vec()),
         (number, place) => Told::Refused(number, place),
     }
+}
+
+/// Each unit's place among the files, and the lists; none of a bundle that is refused.
+#[cfg(order)]
+pub fn discover(bundle: &[u8]) -> Option<(Vec<usize>, Vec<Vec<usize>>)> {
+    let mut out = [usize::MAX; 193 + 256];
+    // SAFETY: as above.
+    let number =
+        unsafe { gontsamy_discover(bundle.as_ptr(), bundle.len(), out.as_mut_ptr(), out.len()) };
+    if number != 0 {
+        return None;
+    }
+    let units = out[0].min(64);
+    let list = |unit: usize| {
+        let ids = out[193..].iter().skip(out[65 + unit]);
+        ids.take(out[129 + unit]).copied().collect()
+    };
+    Some((out[1..1 + units].to_vec(), (0..units).map(list).collect()))
 }

@@ -89,6 +89,24 @@ fn port_difference(_: &[u8], _: &Told) -> Option<String> {
     None
 }
 
+/// The port's units and lists.
+#[cfg(order)]
+fn graph_difference(bytes: &[u8], expected: &Discovered) -> Option<String> {
+    let wanted = match expected {
+        Discovered::Refused(_) => None,
+        Discovered::Units { files, lists, .. } => Some((files.clone(), lists.clone())),
+        // The original tells no graph where it has faults.
+        Discovered::Faults(_) => return None,
+    };
+    let found = crate::host::discover(bytes);
+    (found != wanted).then(|| format!("{wanted:?} expected, {found:?} found"))
+}
+
+#[cfg(not(order))]
+fn graph_difference(_: &[u8], _: &Discovered) -> Option<String> {
+    None
+}
+
 /// What the original says, as the model's text has it.
 #[cfg(original)]
 struct Original(oracle::judge::Judge);
@@ -159,6 +177,9 @@ pub fn generated(seed: u64, count: u64) -> u64 {
             differs("the original and the model differ".to_string());
         }
         if let Some(what) = port_difference(&bytes, &told(&model)) {
+            differs(what);
+        }
+        if let Some(what) = graph_difference(&bytes, &model) {
             differs(what);
         }
     }
