@@ -3,10 +3,13 @@ pub mod Reached
 pub mod Facts
 pub mod Right
 pub mod Clean
+pub mod Told
 pub mod Walk
 pub mod Room
 pub mod Weight
 pub mod Search
 pub mod Record
 pub mod Meaning
+pub mod Readings
+pub mod Turns
 pub mod Cases

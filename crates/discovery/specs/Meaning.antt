@@ -4,8 +4,9 @@ use native.Mathlib.Numerals.{add-one}
 use native.Mathlib.Omega.{arith}
 use mathlib.Core.Bool.{Bool, true, false, cond, _||_}
 use mathlib.Core.Option.{Option, none, some}
-use mathlib.Core.Path.{_≡_, refl, sym, ap, _∙_}
-use mathlib.Core.List.{List, [], _∷_, _++_, map, append-nil, append-assoc}
+use mathlib.Core.Logic.{⊎-elim}
+use mathlib.Core.Path.{_≡_, refl, sym, ap, subst, _∙_}
+use mathlib.Core.List.{List, [], _∷_, _++_, map, append-nil, append-assoc, List·Memᴰ}
 use lib.Dec.{ltb}
 use lib.ListN.{length, getD, take, length-set}
 use lib.Seq.{take-suc-set, length-take-le}
@@ -22,7 +23,7 @@ use Rattle.resolution.specs.Call.{answer, position}
 use Rattle.resolution.specs.declared.Resolution.the-variants.{File, Folder}
 use Rattle.discovery.specs.declared.Graph.{Graph}
 use Rattle.discovery.specs.Discovery.{Use, Fault, Import, faultOf, importOf, lookupFaults, validImports, resolveSingle}
-use Rattle.discovery.specs.Facts.{cond-elim, member-true, id-found}
+use Rattle.discovery.specs.Facts.{cond-elim, member-true, mem-snoc, id-found}
 use Rattle.discovery.specs.Record.{pushedFault, pushedImport, looked, lookedUse, lookedAll, looked-faults, looked-imports}
 
 -- WHAT A USE RESOLVES TO IS LISTED
@@ -99,12 +100,23 @@ faults-snoc [] (x ∷ ps) n p e = absurd (omega arith)
 faults-snoc (x ∷ ns) [] n p e = absurd (omega arith)
 faults-snoc (x ∷ ns) (y ∷ ps) n p e = rw (faults-snoc ns ps n p (omega arith))
 
-imports-snoc : (b : Lists) (ts ms : List ℕ) (t m : ℕ) → length ts ≡ length ms → importsIn b (ts ++ (t ∷ [])) (ms ++ (m ∷ [])) ≡ importsIn b ts ms ++ (record { path = targetPath b t; mark = m } ∷ [])
+pub imports-snoc : (b : Lists) (ts ms : List ℕ) (t m : ℕ) → length ts ≡ length ms → importsIn b (ts ++ (t ∷ [])) (ms ++ (m ∷ [])) ≡ importsIn b ts ms ++ (record { path = targetPath b t; mark = m } ∷ [])
 unfolding importsIn
 imports-snoc b [] [] t m e = refl
 imports-snoc b [] (x ∷ ms) t m e = absurd (omega arith)
 imports-snoc b (x ∷ ts) [] t m e = absurd (omega arith)
 imports-snoc b (x ∷ ts) (y ∷ ms) t m e = rw (imports-snoc b ts ms t m (omega arith))
+
+-- a target is the first place of a listed path
+abbrev pub targetOf : Lists → Text → ℕ
+targetOf b p = cond (member p (b .files)) (position p (b .files)) (file-limit + position p (b .folders))
+
+pub record Target (b : Lists) (t : ℕ) : Type 0 where
+  pub listed : Listed b (targetPath b t)
+  pub is : t ≡ targetOf b (targetPath b t)
+
+abbrev pub Targets : Lists → Graph → Type 0
+Targets b g = (t : ℕ) → List·Memᴰ t (take (g .imports) (g .targets)) → Target b t
 
 -- each array has its elements
 pub record Sized (g : Graph) : Type 0 where
@@ -113,15 +125,14 @@ pub record Sized (g : Graph) : Type 0 where
   pub targets : length (g .targets) ≡ use-limit
   pub marks : length (g .marks) ≡ use-limit
 
-module _ (g : Graph) (z : Sized g) where
-  fault-pushed : (n p : ℕ) → g .faults < use-limit → faultsOf (pushedFault g n p) ≡ faultsOf g ++ (fault n p ∷ [])
-  fault-pushed n p h =
-      let a = z .numbers in
-      let c = z .places in
-      rw (add-one (g .faults), take-suc-set (g .numbers) (g .faults) n (omega arith), take-suc-set (g .places) (g .faults) p (omega arith))
-      (faults-snoc (take (g .faults) (g .numbers)) (take (g .faults) (g .places)) n p
-      (length-take-le (g .faults) (g .numbers) (omega arith) ∙ sym (length-take-le (g .faults) (g .places) (omega arith))))
+pub fault-pushed : (g : Graph) → length (g .numbers) ≡ use-limit → length (g .places) ≡ use-limit → (n p : ℕ) → g .faults < use-limit
+    → faultsOf (pushedFault g n p) ≡ faultsOf g ++ (fault n p ∷ [])
+fault-pushed g a c n p h =
+    rw (add-one (g .faults), take-suc-set (g .numbers) (g .faults) n (omega arith), take-suc-set (g .places) (g .faults) p (omega arith))
+    (faults-snoc (take (g .faults) (g .numbers)) (take (g .faults) (g .places)) n p
+    (length-take-le (g .faults) (g .numbers) (omega arith) ∙ sym (length-take-le (g .faults) (g .places) (omega arith))))
 
+module _ (g : Graph) (z : Sized g) where
   import-pushed : (b : Lists) (t m : ℕ) → g .imports < use-limit → importsOf b (pushedImport g t m) ≡ importsOf b g ++ (record { path = targetPath b t; mark = m } ∷ [])
   import-pushed b t m h =
       let a = z .targets in
@@ -135,6 +146,7 @@ pub record Means (b : Lists) (g r : Graph) (fs : List Fault) (is : List Import) 
   pub sized : Sized r
   pub faults : faultsOf r ≡ faultsOf g ++ fs
   pub imports : importsOf b r ≡ importsOf b g ++ is
+  pub targets : Targets b g → Targets b r
 
 file-path : (b : Lists) (p : Text) → length (b .files) ≤ file-limit → member p (b .files) ≡ true → targetPath b (position p (b .files)) ≡ p
 unfolding targetPath
@@ -152,32 +164,35 @@ folder-path b p m =
     rw (le-ltb (file-limit + position p (b .folders)) file-limit le, e) (f .1)
 
 module _ (b : Lists) (g : Graph) (z : Sized g) (hf : g .faults < use-limit) (hi : g .imports < use-limit) (few : length (b .files) ≤ file-limit) where
-  pushed-import : (t m : ℕ) (p : Text) → targetPath b t ≡ p → Means b g (pushedImport g t m) [] (record { path = p; mark = m } ∷ [])
-  pushed-import t m p e = record {
+  pushed-import : (t m : ℕ) (p : Text) → targetPath b t ≡ p → Listed b p → t ≡ targetOf b p → Means b g (pushedImport g t m) [] (record { path = p; mark = m } ∷ [])
+  pushed-import t m p e k q = record {
     sized = record { numbers = z .numbers; places = z .places; targets = length-set (g .targets) (g .imports) t ∙ z .targets; marks = length-set (g .marks) (g .imports) m ∙ z .marks };
     faults = sym (append-nil (faultsOf g));
     imports = import-pushed g z b t m hi ∙ ap (λ (q : Text). importsOf b g ++ (record { path = q; mark = m } ∷ [])) e;
+    targets = λ f x w. ⊎-elim (f x) (λ y. subst (λ (j : ℕ). Target b j) (sym y) (record { listed = subst (λ (r : Text). Listed b r) (sym e) k; is = q ∙ ap (targetOf b) (sym e) }))
+        (mem-snoc (take (g .imports) (g .targets)) (rw (add-one (g .imports), take-suc-set (g .targets) (g .imports) t (let a = z .targets in omega arith)) at w));
   }
 
   pub lookup-means : (mark : ℕ) (x : Resolved) → ResolvedListed b x → Means b g (looked (answer b x) mark g) (faultOf mark x) (importOf mark x)
   lookup-means mark (fails f) h = record {
     sized = record { numbers = length-set (g .numbers) (g .faults) (number f) ∙ z .numbers; places = length-set (g .places) (g .faults) mark ∙ z .places; targets = z .targets; marks = z .marks };
-    faults = fault-pushed g z (number f) mark hf;
+    faults = fault-pushed g (z .numbers) (z .places) (number f) mark hf;
     imports = sym (append-nil (importsOf b g));
+    targets = λ f. f;
   }
   lookup-means mark (to p rest) h = go (member p (b .files)) refl h
     where
       go : (t : Bool) → member p (b .files) ≡ t → (t || member p (b .folders)) ≡ true
           → Means b g (looked (cond t (File (position p (b .files)) (length rest)) (Folder (position p (b .folders)) (length rest))) mark g) [] (record { path = p; mark = mark } ∷ [])
-      go true e k = pushed-import (position p (b .files)) mark p (file-path b p few e)
-      go false e k = pushed-import (file-limit + position p (b .folders)) mark p (folder-path b p k)
+      go true e k = pushed-import (position p (b .files)) mark p (file-path b p few e) (rw e) (rw e)
+      go false e k = pushed-import (file-limit + position p (b .folders)) mark p (folder-path b p k) (rw e k) (rw e)
 
 -- ALL LOOKUPS OF A FILE
 pub lookups-mean : (b : Lists) (file : Text) → member file (b .files) ≡ true → length (b .files) ≤ file-limit → (us : List Use) (g : Graph) → Sized g
     → g .faults + length us ≤ use-limit → g .imports + length us ≤ use-limit
     → Means b g (lookedAll b file us g) (lookupFaults (map (resolveSingle b file) us)) (validImports (map (resolveSingle b file) us))
 unfolding lookedAll lookupFaults validImports
-lookups-mean b file known few [] g z hf hi = record { sized = z; faults = sym (append-nil (faultsOf g)); imports = sym (append-nil (importsOf b g)) }
+lookups-mean b file known few [] g z hf hi = record { sized = z; faults = sym (append-nil (faultsOf g)); imports = sym (append-nil (importsOf b g)); targets = λ f. f }
 lookups-mean b file known few (u ∷ us) g z hf hi =
     let x = resolvePathInternal b file (u .segments) in
     let a = lookup-means b g z (omega arith) (omega arith) few (u .mark) (resolvePathInternal b file (u .segments)) (resolved-listed b file known (u .segments)) in
@@ -188,4 +203,5 @@ lookups-mean b file known few (u ∷ us) g z hf hi =
       sized = r .sized;
       faults = r .faults ∙ (ap (λ (l : List Fault). l ++ lookupFaults (map (resolveSingle b file) us)) (a .faults) ∙ append-assoc (faultsOf g) (faultOf (u .mark) (resolvePathInternal b file (u .segments))) (lookupFaults (map (resolveSingle b file) us)));
       imports = r .imports ∙ (ap (λ (l : List Import). l ++ validImports (map (resolveSingle b file) us)) (a .imports) ∙ append-assoc (importsOf b g) (importOf (u .mark) (resolvePathInternal b file (u .segments))) (validImports (map (resolveSingle b file) us)));
+      targets = λ f. r .targets (a .targets f);
     }

@@ -1,5 +1,5 @@
 -- The code's record of the graph, and what a lookup pushes. Assumes nothing.
-use Prim.Native.Nat.{ℕ, suc, _+_, _-_, _≤_, _<_}
+use Prim.Native.Nat.{ℕ, zero, suc, _+_, _-_, _≤_, _<_}
 use native.Mathlib.Omega.{arith}
 use mathlib.Core.Bool.{Bool, true, false, cond}
 use mathlib.Core.Path.{_≡_, refl, sym, ap, _∙_}
@@ -229,7 +229,8 @@ pub record ReadRoom (g : Graph) (first target : ℕ) : Type 0 where
   pub faults : g .faults < use-limit
   pub units : g .units ≤ file-limit
   pub new-unit : target < file-limit → g .units ≤ unitOf g target → g .units < file-limit
-  pub unread : g .unread < folder-limit
+  pub unread : g .unread ≤ folder-limit
+  pub new-unread : file-limit ≤ target → g .unread ≤ indexIn (target - file-limit) (take (g .unread) (g .folders)) → g .unread < folder-limit
 
 module _ (g : Graph) (first target mark : ℕ) where
   module _ (h : target < file-limit) where
@@ -253,3 +254,54 @@ module _ (g : Graph) (first target mark : ℕ) where
     pub tell-unread : g .unread ≤ indexIn (target - file-limit) (take (g .unread) (g .folders)) → pushedFault (pushedUnread g (target - file-limit)) unreadable mark ≡ readTarget g first target mark
     unfolding readTarget
     tell-unread k = rw (le-ltb target file-limit h, le-ltb (indexIn (target - file-limit) (take (g .unread) (g .folders))) (g .unread) k)
+
+-- ALL READINGS OF A UNIT: i of them, where its list starts at first
+unfoldable pub readTo : Graph → ℕ → ℕ → Graph
+readTo g first zero = g
+readTo g first (suc i) = readTarget (readTo g first i) first (getD (g .targets) i 0) (getD (g .marks) i 0)
+
+-- the list of a unit is set
+abbrev pub withList : Graph → ℕ → ℕ → ℕ → Graph
+withList g unit first len = record {
+  files = g .files;
+  start = set (g .start) unit first;
+  len = set (g .len) unit len;
+  units = g .units;
+  ids = g .ids;
+  count = g .count;
+  numbers = g .numbers;
+  places = g .places;
+  faults = g .faults;
+  folders = g .folders;
+  unread = g .unread;
+  targets = g .targets;
+  marks = g .marks;
+  imports = g .imports;
+}
+
+abbrev pub readOut : Graph → Graph
+readOut g = readTo g (g .count) (g .imports)
+
+unfoldable pub readAll : Graph → ℕ → Graph
+readAll g unit = withList (readOut g) unit (g .count) (readOut g .count - g .count)
+
+-- room for them
+pub record ReadsRoom (g : Graph) (unit : ℕ) : Type 0 where
+  pub unit-small : unit < file-limit
+  pub imports : g .imports ≤ use-limit
+  pub each : (i : ℕ) → i < g .imports → ReadRoom (readTo g (g .count) i) (g .count) (getD (g .targets) i 0)
+  pub grows : g .count ≤ readOut g .count
+  pub ids : readOut g .count ≤ use-limit
+
+module _ (g : Graph) (first : ℕ) where
+  pub read-none : g ≡ readTo g first 0
+  unfolding readTo
+  read-none = refl
+
+  pub read-more : (i : ℕ) (w r : Graph) → w ≡ readTo g first i → r ≡ readTarget w first (getD (g .targets) i 0) (getD (g .marks) i 0) → r ≡ readTo g first (i + 1)
+  unfolding readTo
+  read-more i w r e q = rw (add-one i) (q ∙ ap (λ (x : Graph). readTarget x first (getD (g .targets) i 0) (getD (g .marks) i 0)) e)
+
+pub read-out : (g w : Graph) (unit : ℕ) → w ≡ readOut g → withList w unit (g .count) (w .count - g .count) ≡ readAll g unit
+unfolding readAll
+read-out g w unit e = ap (λ (x : Graph). withList x unit (g .count) (x .count - g .count)) e

@@ -2,7 +2,7 @@
 use Prim.Native.Nat.{ℕ, zero, suc, _+_, _-_, _≤_, _<_}
 use native.Mathlib.Omega.{arith}
 use mathlib.Core.Bool.{Bool, true, false, cond}
-use mathlib.Core.Path.{_≡_, refl, sym, ap, _∙_}
+use mathlib.Core.Path.{_≡_, refl, sym, ap, subst, _∙_}
 use mathlib.Core.List.{List, [], _∷_}
 use lib.Dec.{eqb, ltb}
 use lib.ListN.{length, length-append}
@@ -11,7 +11,7 @@ use Rattle.names.specs.Identifier.{isIdentifier}
 use Rattle.names.specs.Path.{isPath}
 use Rattle.bundle.specs.Bundle.{File, Bundle}
 use Rattle.bundle.specs.Limits.{version, header, folder-limit, remapping-limit, file-limit, use-limit, item-limit, use-kind, module-kind, depth-limit}
-use Rattle.bundle.specs.Scan.{byte, word, andThen, scanName, scanPath, scanLength, usesAfter, scanHead, scanBody, scanEnd, walkOn, walkThen, scanItemWith, siblings, scanModule, scanItem, scanFile, scanFiles, times, scanString, scanField, scanCount, scanList, scanHeader}
+use Rattle.bundle.specs.Scan.{byte, word, text, andThen, scanName, scanPath, scanLength, usesAfter, scanHead, scanBody, scanEnd, walkOn, walkThen, scanItemWith, siblings, scanModule, scanItem, scanFile, scanFiles, times, scanString, scanField, scanCount, scanList, scanHeader}
 use Rattle.bundle.specs.Steps.{string-next, formed-next, length-next, count-next, end-next, Head, head-next, read-then, walked-on, walked-then}
 use Rattle.bundle.specs.Walks.{file-goes}
 use Rattle.bundle.specs.Decode.{each, far, after, afterLength, afterRemapping, afterFile, afterList, fileAt, foldersAt, remappingsAt, filesAt, decode}
@@ -220,11 +220,17 @@ list-next field limit s end at x skip k h =
     let m = read-then (scanCount 0 limit s end at) h in
     times-far (byte s at) (scanField field s end) skip (m .mid) x k (m .second) ∙ ap (far skip (byte s at)) (count-next s end at 0 limit (m .first) .0)
 
--- at least one file, and no more files and uses than the arrays hold
+-- a list that was read has no more than its limit
+list-few : (field : Field) (limit : ℕ) (s : List ℕ) (end at x : ℕ) → scanList field limit s end at ≡ Next x → byte s at ≤ limit
+unfolding scanList
+list-few field limit s end at x h = let m = read-then (scanCount 0 limit s end at) h in count-next s end at 0 limit (m .first) .3
+
+-- at least one file, and no more files, folders and uses than the arrays hold
 pub record Roomy (b : Bundle) : Type 0 where
   pub some : 0 < length (b .files)
   pub files : length (b .files) ≤ file-limit
   pub uses : totalUses (b .files) ≤ use-limit
+  pub folders : length (b .folders) ≤ folder-limit
 
 pub length-each : {A : Type 0} (skip : ℕ → ℕ) (get : ℕ → A) (n at : ℕ) → length (each skip get n at) ≡ n
 unfolding each
@@ -274,4 +280,6 @@ checked-roomy s h = go (form s) refl h
         list-next Remapping remapping-limit s (length s) (c .mid) (d .mid) (afterRemapping s) (remapping-next s (length s)) (d .first) ∙ ap (afterList (afterRemapping s) s) y in
         let r = files-roomy s (filesAt s) (ap (files s) (sym z) ∙ d .second) in
         let n = length-each (afterFile s) (fileAt s) (byte s (filesAt s)) (filesAt s + 1) in
-        record { some = omega (arith, r .0); files = omega (arith, r .1); uses = r .2 }
+        let o = length-each (after s) (text s) (byte s (foldersAt s)) (foldersAt s + 1) in
+        let few : byte s (foldersAt s) ≤ folder-limit = subst (λ (k : ℕ). byte s k ≤ folder-limit) x (list-few Path folder-limit s (length s) (b .mid) (c .mid) (c .first)) in
+        record { some = omega (arith, r .0); files = omega (arith, r .1); uses = r .2; folders = omega arith }

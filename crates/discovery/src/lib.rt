@@ -1,17 +1,19 @@
 // Discovery: which files an entry reaches, and what each of them imports. The functions have the names of driver/mod.rs.
+mod driver;
 mod imports;
 mod lookups;
 mod readings;
 
+pub use driver::discover_dependencies;
 pub use imports::uses_of;
 
 // The most files and folders of a bundle, and the most uses, so the most ids in all lists and the most faults: the limits of the
-// reader (its specs/Limits.antt).
-pub const UNITS: usize = 64;
+// reader.
+pub const UNITS: usize = bundle::limits::FILES;
 
-pub const IDS: usize = 256;
+pub const IDS: usize = bundle::limits::USES;
 
-pub const FOLDERS: usize = 64;
+pub const FOLDERS: usize = bundle::limits::FOLDERS;
 
 // The marks of uses, in item order.
 pub struct Uses {

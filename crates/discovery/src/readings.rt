@@ -5,7 +5,7 @@ ghost use lib.ListN.{length, take, drop};
 ghost use Rattle.bundle.specs.Limits.{file-limit, folder-limit, use-limit};
 ghost use Rattle.discovery.specs.Discovery.{holds as Discovery·holds};
 ghost use Rattle.discovery.specs.Search.{indexIn};
-ghost use Rattle.discovery.specs.Record.{pushedUnit, pushedId, pushedUnread, readTarget, ReadRoom};
+ghost use Rattle.discovery.specs.Record.{pushedUnit, pushedId, pushedUnread, readTarget, ReadRoom, readAll, ReadsRoom};
 use crate::Graph;
 use crate::UNITS;
 use crate::lookups::push_fault;
@@ -102,4 +102,23 @@ pub fn load(g: Graph, first: usize, target: usize, mark: usize) -> Graph
     }
     let w = push_unread(g, folder);
     push_fault(w, UNREADABLE, mark)
+}
+
+// All readings of a unit, whose imports were gathered, and its list.
+pub fn load_and_parse_dependencies(g: Graph, unit: usize) -> Graph
+    requires { ⌜ ReadsRoom g unit ⌝ }
+    ensures { λ r. ⌜ r ≡ readAll g unit ⌝ }
+{
+    let first = g.count;
+    let n = g.imports;
+    let mut w = g;
+    let mut i = 0;
+    while i < n {
+        w = load(w, first, g.targets[i], g.marks[i]);
+        i += 1;
+    }
+    let end = w.count;
+    w.start[unit] = first as u16;
+    w.len[unit] = (end - first) as u16;
+    w
 }

@@ -80,7 +80,9 @@ returns-4 c =
 
 -- src/readings.rt:103:9
 push-unread-requires : tie.Need-push-unread-requires
-push-unread-requires c κs = search needs
+push-unread-requires c κs =
+    let e = c .before .index-of2 .ensures in
+    c .before .before .before .before .before .before .pre .new-unread (c .before .before .before .before .before .if1 .left) (omega (arith, c .if4 .left))
 
 -- src/readings.rt:104:5
 push-fault-requires : tie.Need-push-fault-requires

@@ -1,0 +1,59 @@
+// The driver of discovery: units are handled in the order of their ids, until none is left.
+ghost use mathlib.Core.Path.{_≡_};
+ghost use Prim.Native.Nat.{_+_, _<_};
+ghost use Rattle.bundle.specs.Decode.{decode};
+ghost use Rattle.bundle.specs.Read.{verdict};
+ghost use Rattle.bundle.specs.declared.Checked.the-variants.{Ok};
+ghost use Rattle.resolution.specs.Lists.{listsOf};
+ghost use Rattle.resolution.specs.Layouts.{listsAt, Small};
+ghost use Rattle.discovery.specs.Turns.{Invariant, Discovers};
+use crate::FOLDERS;
+use crate::Graph;
+use crate::IDS;
+use crate::UNITS;
+use crate::imports::uses_of;
+use crate::lookups::resolve_imports;
+use crate::readings::load_and_parse_dependencies;
+use resolution::Layout;
+
+// All lookups of a unit, then all its readings.
+fn turn(s: &[u8], at: Layout, g: Graph, unit: usize) -> Graph
+    requires { ⌜ (verdict (now s) ≡ Ok) × ((listsAt (now s) at ≡ listsOf (decode (now s))) × Small at) × (Invariant (decode (now s)) unit g × (unit < g .units)) ⌝ }
+    ensures { λ r. ⌜ Invariant (decode (now (s .entry))) (unit + 1) r ⌝ }
+{
+    let index = g.files[unit];
+    let place = bundle::file_at(s, index);
+    let u = uses_of(s, place);
+    let w = resolve_imports(s, at, bundle::file_path(s, place), index, u, g);
+    load_and_parse_dependencies(w, unit)
+}
+
+// The graph of a checked bundle. Ruled out: a graph of unit 0 alone where it imports another file; a list with an id twice.
+pub fn discover_dependencies(s: &[u8]) -> Graph
+    requires { ⌜ verdict (now s) ≡ Ok ⌝ }
+    ensures { λ r. ⌜ Discovers (decode (now (s .entry))) r ⌝ }
+{
+    let at = resolution::layout_of(s);
+    let mut g = Graph {
+        files: [0; UNITS],
+        start: [0; UNITS],
+        len: [0; UNITS],
+        units: 1,
+        ids: [0; IDS],
+        count: 0,
+        numbers: [0; IDS],
+        places: [0; IDS],
+        faults: 0,
+        folders: [0; FOLDERS],
+        unread: 0,
+        targets: [0; IDS],
+        marks: [0; IDS],
+        imports: 0,
+    };
+    let mut unit = 0;
+    while unit < g.units {
+        g = turn(s, at, g, unit);
+        unit += 1;
+    }
+    g
+}

@@ -1,0 +1,13 @@
+pub mod Run
+pub mod Files
+pub mod Units
+pub mod Theorems
+pub mod Report
+pub mod Listed
+pub mod Exact
+pub mod Call
+pub mod Demand
+pub mod Cases
+pub mod Writing
+pub mod Steps
+pub mod Join

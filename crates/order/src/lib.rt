@@ -1,0 +1,46 @@
+// From a bundle to the linked order of its units, or a report: steps 3 and 4 of document 01.
+mod report;
+mod steps;
+
+ghost use mathlib.Core.Path.{_≡_};
+ghost use Rattle.order.specs.Call.{orderAnswer, orderReport};
+
+// The most units of a bundle: the limit of the reader.
+pub const UNITS: usize = bundle::limits::FILES;
+
+// What becomes of a report that is written to a lent buffer.
+pub enum Reported {
+    // How many bytes at the start of the buffer are the report.
+    Report(usize),
+    // A number and a place: 14 at 0, where the report exceeds the buffer.
+    Refused(u8, usize),
+}
+
+// What the two steps answer: a refusal's number, 1 to 14, and its place; or how many bytes at the start of the lent buffer are
+// the report; or, where there is neither, the units. Unit u, below `units`, is the file files[u] of the bundle, and the first
+// `units` of ids are the linked order. What is not told is 0.
+pub struct Answer {
+    pub number: u8,
+    pub place: usize,
+    pub report: usize,
+    pub units: usize,
+    pub files: [usize; UNITS],
+    pub ids: [u16; UNITS],
+}
+
+// The units of a bundle in linked order, or a refusal: 1 to 13 of the bundle, the report of discovery's faults or of a ring, or
+// 14 where that exceeds the lent buffer, of which then not a byte is changed. Ruled out: the order of unit 0 alone where the
+// entry imports another file; a ring told of a file that imports only itself.
+pub fn order(s: &[u8], out: &mut [u8]) -> Answer
+    ensures { λ r. ⌜ r ≡ orderAnswer (now (s .entry)) (now (out .entry)) ⌝ }
+    ensures { λ r. ⌜ now (out .exit) ≡ orderReport (now (s .entry)) (now (out .entry)) ⌝ }
+{
+    let checked = bundle::check(s);
+    match checked {
+        bundle::Checked::Refused(n, p) => steps::refuse(n, p),
+        bundle::Checked::Ok => {
+            let g = discovery::discover_dependencies(s);
+            steps::order_of(g, out)
+        }
+    }
+}
