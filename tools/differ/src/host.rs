@@ -11,9 +11,6 @@ extern "C" {
         out: *mut usize,
         out_len: usize,
     ) -> u8;
-    #[cfg(order)]
-    fn gontsamy_discover(s: *const u8, s_len: usize, out: *mut usize, out_len: usize) -> u8;
-    #[cfg(order)]
     fn gontsamy_order(
         s: *const u8,
         s_len: usize,
@@ -22,6 +19,7 @@ extern "C" {
         out: *mut usize,
         out_len: usize,
     ) -> u8;
+    fn gontsamy_discover(s: *const u8, s_len: usize, out: *mut usize, out_len: usize) -> u8;
     fn gontsamy_is_keyword(s: *const u8, s_len: usize) -> u8;
     fn gontsamy_starts_with(f: *const u8, f_len: usize, p: *const u8, p_len: usize) -> u8;
     fn gontsamy_check(s: *const u8, s_len: usize, place: *mut usize, place_len: usize) -> u8;
@@ -75,7 +73,6 @@ pub fn resolve(bundle: &[u8], importer: &[u8], segments: &[u8]) -> (u8, [usize; 
 /// A number with its place in out[0]; or 0 with the report's length in out[0], which is 0 where
 /// there is none; then the count of units in out[1], each unit's place among the files from
 /// out[2] on, and the linked order from out[66] on.
-#[cfg(order)]
 pub fn order(bundle: &[u8], report: &mut [u8]) -> crate::order::Told {
     use crate::order::Told;
     let mut out = [usize::MAX; 2 + 64 + 64];
@@ -90,30 +87,39 @@ pub fn order(bundle: &[u8], report: &mut [u8]) -> crate::order::Told {
             out.len(),
         )
     };
+    // How many numbers are told at the start, and how many from out[2] and from out[66] on.
+    let (told, units) = match number {
+        0 => (2, out[1].min(64)),
+        _ => (1, 0),
+    };
+    let rest = [&out[told..2], &out[2 + units..66], &out[66 + units..]];
+    if rest.concat().iter().any(|&number| number != usize::MAX) {
+        return Told::Stray(out.to_vec());
+    }
     match (number, out[0]) {
-        (0, 0) => {
-            let units = out[1].min(64);
-            Told::Linked(out[2..2 + units].to_vec(), out[66..66 + units].to_vec())
-        }
-        (0, length) => Told::Report(report[..length.min(report.len())].to_vec()),
+        (0, 0) => Told::Linked(out[2..][..units].to_vec(), out[66..][..units].to_vec()),
+        (0, length) if units == 0 => Told::Report(report[..length.min(report.len())].to_vec()),
+        (0, _) => Told::Stray(out.to_vec()),
         (number, place) => Told::Refused(number, place),
     }
 }
 
-/// Each unit's place among the files, and the lists; none of a bundle that is refused.
-#[cfg(order)]
-pub fn discover(bundle: &[u8]) -> Option<(Vec<usize>, Vec<Vec<usize>>)> {
+/// A number with its place; or each unit's place among the files, and the ids that it lists: the
+/// count of units in out[0], the files from out[1] on, where the lists start from out[65] on, how
+/// long they are from out[129] on, and the ids from out[193] on.
+pub fn discover(bundle: &[u8]) -> Result<crate::order::Graph, (u8, usize)> {
     let mut out = [usize::MAX; 193 + 256];
     // SAFETY: as above.
     let number =
         unsafe { gontsamy_discover(bundle.as_ptr(), bundle.len(), out.as_mut_ptr(), out.len()) };
     if number != 0 {
-        return None;
+        return Err((number, out[0]));
     }
     let units = out[0].min(64);
     let list = |unit: usize| {
-        let ids = out[193..].iter().skip(out[65 + unit]);
-        ids.take(out[129 + unit]).copied().collect()
+        let (start, length) = (out[65 + unit], out[129 + unit]);
+        let ids = out[193..].iter().skip(start).take(length);
+        ids.copied().collect::<Vec<usize>>()
     };
-    Some((out[1..1 + units].to_vec(), (0..units).map(list).collect()))
+    Ok((out[1..][..units].to_vec(), (0..units).map(list).collect()))
 }

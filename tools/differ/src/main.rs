@@ -40,6 +40,16 @@ fn main() -> std::process::ExitCode {
             (Some(seed), Some(count)) => uses::generated(seed, count),
             _ => return usage(),
         },
+        #[cfg(original)]
+        ["resolve", seed, count] => match (number(seed), number(count)) {
+            (Some(seed), Some(count)) => uses::original(seed, count),
+            _ => return usage(),
+        },
+        #[cfg(original)]
+        ["clashes", seed, count] => match (number(seed), number(count)) {
+            (Some(seed), Some(count)) => uses::clashes(seed, count),
+            _ => return usage(),
+        },
         ["order", seed, count] => match (number(seed), number(count)) {
             (Some(seed), Some(count)) => order::generated(seed, count),
             _ => return usage(),
@@ -86,6 +96,8 @@ fn usage() -> std::process::ExitCode {
          \x20      differ damaged SEED COUNT    every truncation and single-byte change of small bundles\n\
          \x20      differ short                 every byte string of at most 4 bytes\n\
          \x20      differ uses SEED COUNT       the uses of generated bundles\n\
+         \x20      differ resolve SEED COUNT    the same against the original, every use of every file\n\
+         \x20      differ clashes SEED COUNT    the same on small bundles made for clashes of names\n\
          \x20      differ sample COUNT          the files stdin and stdout of crates/bundle_vectors\n\
          \x20      differ order SEED COUNT      discovery and order of generated bundles\n\
          \x20      differ order-sample FORM LENGTH  stored bundles and answers; FORM is lists or order\n\

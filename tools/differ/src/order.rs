@@ -1,5 +1,4 @@
-//! Discovery and order: the original, the model of tools/generate, and the port where the archive
-//! has `gontsamy_order`.
+//! Discovery and order: the port against the original and the model of tools/generate.
 
 use std::collections::BTreeMap;
 
@@ -13,7 +12,12 @@ pub enum Told {
     Refused(u8, usize),
     Report(Vec<u8>),
     Linked(Vec<usize>, Vec<usize>),
+    /// Numbers where none is to be told.
+    Stray(Vec<usize>),
 }
+
+/// Each unit's place among the bundle's files, and the ids that it lists.
+pub type Graph = (Vec<usize>, Vec<Vec<usize>>);
 
 const RING: u8 = 26;
 
@@ -26,9 +30,9 @@ fn record(number: u8, place: usize) -> [u8; 3] {
 fn told(discovered: &Discovered) -> Told {
     match discovered {
         Discovered::Refused(refusal) => Told::Refused(refusal.number, refusal.place),
-        Discovered::Faults(lines) => {
+        Discovered::Graph { faults, .. } if !faults.is_empty() => {
             let mut report = Vec::new();
-            for line in lines.lines() {
+            for line in faults.lines() {
                 let mut words = line.split(' ').skip(1).map(|word| word.parse::<usize>());
                 let mut next = || words.next().expect("two numbers").expect("a number");
                 let number = u8::try_from(next()).expect("a number of the table");
@@ -36,7 +40,7 @@ fn told(discovered: &Discovered) -> Told {
             }
             Told::Report(report)
         }
-        Discovered::Units {
+        Discovered::Graph {
             order: Err(ring), ..
         } => {
             let mut report = record(RING, 0).to_vec();
@@ -44,7 +48,7 @@ fn told(discovered: &Discovered) -> Told {
             report.extend(ring.iter().map(|&id| id as u8));
             Told::Report(report)
         }
-        Discovered::Units {
+        Discovered::Graph {
             files,
             order: Ok(order),
             ..
@@ -54,8 +58,16 @@ fn told(discovered: &Discovered) -> Told {
 
 /// The port's answers with buffers of several lengths: where the report does not fit it is 14, and
 /// a buffer's bytes change under the report alone.
-#[cfg(order)]
-fn port_difference(bytes: &[u8], expected: &Told) -> Option<String> {
+fn port_difference(bytes: &[u8], model: &Discovered) -> Option<String> {
+    let expected = &told(model);
+    let graph = match model {
+        Discovered::Refused(refusal) => Err((refusal.number, refusal.place)),
+        Discovered::Graph { files, lists, .. } => Ok((files.clone(), lists.clone())),
+    };
+    let found = crate::host::discover(bytes);
+    if found != graph {
+        return Some(format!("{graph:?} expected, {found:?} found"));
+    }
     let length = match expected {
         Told::Report(report) => report.len(),
         _ => 0,
@@ -84,29 +96,6 @@ fn port_difference(bytes: &[u8], expected: &Told) -> Option<String> {
     None
 }
 
-#[cfg(not(order))]
-fn port_difference(_: &[u8], _: &Told) -> Option<String> {
-    None
-}
-
-/// The port's units and lists.
-#[cfg(order)]
-fn graph_difference(bytes: &[u8], expected: &Discovered) -> Option<String> {
-    let wanted = match expected {
-        Discovered::Refused(_) => None,
-        Discovered::Units { files, lists, .. } => Some((files.clone(), lists.clone())),
-        // The original tells no graph where it has faults.
-        Discovered::Faults(_) => return None,
-    };
-    let found = crate::host::discover(bytes);
-    (found != wanted).then(|| format!("{wanted:?} expected, {found:?} found"))
-}
-
-#[cfg(not(order))]
-fn graph_difference(_: &[u8], _: &Discovered) -> Option<String> {
-    None
-}
-
 /// What the original says, as the model's text has it.
 #[cfg(original)]
 struct Original(oracle::judge::Judge);
@@ -117,8 +106,20 @@ impl Original {
         Original(oracle::judge::Judge::new().expect("a private root"))
     }
 
-    fn differs(&mut self, bytes: &[u8], model: &str) -> bool {
-        self.0.discover(bytes).print() != model
+    /// Of a bundle with faults the original keeps the units, not their lists.
+    fn differs(&mut self, bytes: &[u8], model: &Discovered) -> bool {
+        let original = self.0.discover(bytes);
+        let units = match (&original, model) {
+            (
+                oracle::discover::Discovered::Faults { units, .. },
+                Discovered::Graph { paths, .. },
+            ) => units
+                .iter()
+                .map(String::as_bytes)
+                .eq(paths.iter().map(Vec::as_slice)),
+            _ => true,
+        };
+        !units || original.print() != model.print()
     }
 }
 
@@ -131,38 +132,41 @@ impl Original {
         Original
     }
 
-    fn differs(&mut self, _: &[u8], _: &str) -> bool {
+    fn differs(&mut self, _: &[u8], _: &Discovered) -> bool {
         false
     }
 }
 
 fn against() -> &'static str {
-    match (cfg!(order), cfg!(original)) {
-        (true, true) => "port, original and model",
-        (true, false) => "port and model (the original is missing)",
-        (false, true) => "original and model (the archive has no gontsamy_order)",
-        (false, false) => "the model alone: nothing is compared",
+    match cfg!(original) {
+        true => "port, original and model",
+        false => "port and model (the original is missing)",
     }
 }
 
 pub fn generated(seed: u64, count: u64) -> u64 {
     let mut original = Original::new();
     let mut differences = 0;
-    let mut kinds: BTreeMap<String, u64> = BTreeMap::new();
+    let mut kinds: BTreeMap<&str, u64> = BTreeMap::new();
     let (mut most_units, mut most_faults) = (0, 0);
     for index in 0..count {
         let bytes = bundle_generate::bundle(seed, index, None);
         let model = link::discover(&bytes);
-        let text = model.print();
         let kind = match &model {
-            Discovered::Refused(_) => "refused".to_string(),
-            Discovered::Faults(lines) => {
-                most_faults = most_faults.max(lines.lines().count());
-                "faults".to_string()
-            }
-            Discovered::Units { files, order, .. } => {
+            Discovered::Refused(_) => "refused",
+            Discovered::Graph {
+                faults,
+                files,
+                order,
+                ..
+            } => {
                 most_units = most_units.max(files.len());
-                if order.is_ok() { "order" } else { "ring" }.to_string()
+                most_faults = most_faults.max(faults.lines().count());
+                match order {
+                    _ if !faults.is_empty() => "faults",
+                    Ok(_) => "order",
+                    Err(_) => "ring",
+                }
             }
         };
         *kinds.entry(kind).or_default() += 1;
@@ -173,13 +177,10 @@ pub fn generated(seed: u64, count: u64) -> u64 {
                 println!("bundle {index}: {what}: {hex}");
             }
         };
-        if original.differs(&bytes, &text) {
+        if original.differs(&bytes, &model) {
             differs("the original and the model differ".to_string());
         }
-        if let Some(what) = port_difference(&bytes, &told(&model)) {
-            differs(what);
-        }
-        if let Some(what) = graph_difference(&bytes, &model) {
+        if let Some(what) = port_difference(&bytes, &model) {
             differs(what);
         }
     }
@@ -194,7 +195,8 @@ pub fn generated(seed: u64, count: u64) -> u64 {
 /// The answer in the printing program's lines: units in linked order.
 fn in_order(model: &Discovered) -> String {
     match model {
-        Discovered::Units {
+        Discovered::Graph { faults, .. } if !faults.is_empty() => faults.clone(),
+        Discovered::Graph {
             paths,
             order: Ok(order),
             ..
@@ -205,13 +207,13 @@ fn in_order(model: &Discovered) -> String {
             }
             out
         }
-        Discovered::Units {
+        Discovered::Graph {
             order: Err(ring), ..
         } => {
             let ids: String = ring.iter().map(|id| format!(" {id}")).collect();
             format!("no {RING} 0\nring{ids}\n")
         }
-        _ => model.print(),
+        Discovered::Refused(_) => model.print(),
     }
 }
 
@@ -229,17 +231,16 @@ pub fn sample(form: &str, length: usize) -> std::io::Result<()> {
             continue;
         }
         let model = link::discover(&bytes);
-        let text = model.print();
         let (kind, limit) = match &model {
             Discovered::Refused(refusal) => (format!("no {}", refusal.number), 1),
-            Discovered::Faults(lines) => {
-                let numbers = lines.lines().filter_map(|line| line.split(' ').nth(1));
+            Discovered::Graph { faults, .. } if !faults.is_empty() => {
+                let numbers = faults.lines().filter_map(|line| line.split(' ').nth(1));
                 (numbers.collect::<Vec<_>>().join(" "), 2)
             }
-            Discovered::Units {
+            Discovered::Graph {
                 order: Err(ring), ..
             } => (format!("ring of {}", ring.len()), 6),
-            Discovered::Units { files, lists, .. } => {
+            Discovered::Graph { files, lists, .. } => {
                 let ids: usize = lists.iter().map(Vec::len).sum();
                 (format!("{} units, {ids} ids", files.len()), 3)
             }
@@ -248,14 +249,14 @@ pub fn sample(form: &str, length: usize) -> std::io::Result<()> {
         if *times == limit || input.len() + 4 + bytes.len() > length {
             continue;
         }
-        assert!(!original.differs(&bytes, &text), "bundle {index}");
+        assert!(!original.differs(&bytes, &model), "bundle {index}");
         *times += 1;
         count += 1;
         input.extend((bytes.len() as u32).to_be_bytes());
         input.extend(bytes);
         output += &match form {
             "order" => in_order(&model),
-            _ => text,
+            _ => model.print(),
         };
     }
     println!("{count} bundles, {} bytes; {}", input.len(), against());
@@ -273,7 +274,6 @@ pub fn measure(name: &str, who: &str, times: u64) -> u64 {
         "model" => (0..times).for_each(|_| {
             std::hint::black_box(link::discover(&bytes));
         }),
-        #[cfg(order)]
         "port" => (0..times).for_each(|_| {
             std::hint::black_box(crate::host::order(&bytes, &mut [0; 1024]));
         }),

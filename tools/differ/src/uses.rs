@@ -1,4 +1,5 @@
-//! `resolution::resolve` against the model of tools/generate, on every use of every file.
+//! `resolution::resolve` against the model of tools/generate, on every use of every file, and
+//! against the original.
 
 use bundle_format::{Body, Bundle, Item};
 use bundle_generate::lookup::Lookup;
@@ -89,4 +90,133 @@ pub fn generated(seed: u64, count: u64) -> u64 {
         println!("{number}: {count}");
     }
     differences
+}
+
+/// The port against the original: every use of every file of generated bundles.
+#[cfg(original)]
+pub fn original(seed: u64, count: u64) -> u64 {
+    let mut tally = Tally::new();
+    for index in 0..count {
+        let bytes = bundle_generate::bundle(seed, index, None);
+        let bundle = match Bundle::decode(&bytes) {
+            Ok(bundle) if bundle.check().is_none() => bundle,
+            _ => continue,
+        };
+        tally.lend(&bytes);
+        for file in &bundle.files {
+            let mut own = Vec::new();
+            uses(&file.items, &mut own);
+            for segments in own {
+                tally.compare(&bytes, &bundle, &file.path, segments);
+            }
+        }
+    }
+    tally.tell()
+}
+
+/// The same on small bundles made for clashes of names: from every file every use of up to four
+/// segments of a few words.
+#[cfg(original)]
+pub fn clashes(seed: u64, count: u64) -> u64 {
+    let mut asked: Vec<Vec<Vec<u8>>> = vec![Vec::new()];
+    let mut at = 0;
+    while asked[at].len() < 4 {
+        for word in bundle_generate::WORDS {
+            let mut longer = asked[at].clone();
+            longer.push(word.as_bytes().to_vec());
+            // `crate` is a word like others after the first.
+            if longer.len() == 1 || word != "crate" || longer.len() == 2 {
+                asked.push(longer);
+            }
+        }
+        at += 1;
+    }
+    let mut tally = Tally::new();
+    for index in 0..count {
+        let bytes = bundle_generate::clash(seed, index);
+        let bundle = Bundle::decode(&bytes).expect("a bundle that passes");
+        tally.lend(&bytes);
+        for file in &bundle.files {
+            for segments in &asked {
+                tally.compare(&bytes, &bundle, &file.path, segments);
+            }
+        }
+    }
+    tally.tell()
+}
+
+#[cfg(original)]
+struct Tally {
+    resolver: oracle::resolve::Resolver,
+    bundles: u64,
+    uses: u64,
+    differences: u64,
+    numbers: [u64; 256],
+}
+
+#[cfg(original)]
+impl Tally {
+    fn new() -> Self {
+        let judge = oracle::judge::Judge::new().expect("a private root");
+        Tally {
+            resolver: oracle::resolve::Resolver::new(judge),
+            bundles: 0,
+            uses: 0,
+            differences: 0,
+            numbers: [0; 256],
+        }
+    }
+
+    fn lend(&mut self, bytes: &[u8]) {
+        self.resolver.lend(bytes).expect("a bundle that passes");
+        self.bundles += 1;
+    }
+
+    fn compare(&mut self, bytes: &[u8], bundle: &Bundle, importer: &[u8], segments: &[Vec<u8>]) {
+        let original = self.resolver.resolve(importer, segments);
+        let expected = match original.expect("a bundle is lent") {
+            Err(refusal) => (refusal.number, [refusal.place, usize::MAX]),
+            Ok((path, left)) => {
+                let rest = segments.len() - left.len();
+                let same = left.iter().map(String::as_bytes);
+                assert!(same.eq(segments[rest..].iter().map(Vec::as_slice)));
+                let file = bundle.files.iter().position(|file| file.path == path);
+                let folder = bundle.folders.iter().position(|folder| *folder == path);
+                match file {
+                    Some(file) => (0, [file, left.len()]),
+                    None => (255, [folder.expect("a listed path"), left.len()]),
+                }
+            }
+        };
+        let found = host::resolve(bytes, importer, &encoded(segments));
+        self.uses += 1;
+        self.numbers[usize::from(expected.0)] += 1;
+        if expected != found {
+            self.differences += 1;
+            if self.differences <= 10 {
+                let hex: String = bytes.iter().map(|byte| format!("{byte:02x}")).collect();
+                let words: Vec<_> = segments
+                    .iter()
+                    .map(|word| String::from_utf8_lossy(word))
+                    .collect();
+                println!(
+                    "{} from {}: {expected:?} expected, {found:?} found: {hex}",
+                    words.join("::"),
+                    String::from_utf8_lossy(importer)
+                );
+            }
+        }
+    }
+
+    fn tell(self) -> u64 {
+        println!(
+            "{} bundles, {} uses, {} differences",
+            self.bundles, self.uses, self.differences
+        );
+        let numbers = self.numbers.iter().enumerate();
+        for (number, count) in numbers.filter(|(_, count)| **count > 0) {
+            println!("{number}: {count}");
+        }
+        self.differences
+    }
 }

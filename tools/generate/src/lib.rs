@@ -1,6 +1,7 @@
 //! A deterministic stream of bundles. The bundle of a seed and an index does not depend on those
 //! before it.
 
+mod clashes;
 mod families;
 pub mod link;
 pub mod lookup;
@@ -10,6 +11,7 @@ mod shapes;
 mod stats;
 mod tree;
 
+pub use clashes::{clash, WORDS};
 pub use families::{Family, FAMILIES};
 pub use rng::Rng;
 pub use shapes::{shape, SHAPES};

@@ -46,15 +46,15 @@ pub fn run(bytes: &[u8], largest: usize) -> Run {
 pub enum Discovered {
     /// 1 to 13.
     Refused(Refusal),
-    /// 20 to 25, in the order of the pushes, each as a line.
-    Faults(String),
-    Units {
+    Graph {
+        /// 20 to 25, in the order of the pushes, each as a line.
+        faults: String,
         /// Each unit's place among the bundle's files.
         files: Vec<usize>,
         paths: Vec<Vec<u8>>,
         /// The ids that each unit lists.
         lists: Vec<Vec<usize>>,
-        /// The linked order, or a ring.
+        /// The linked order, or a ring; of no meaning where there are faults.
         order: Result<Vec<usize>, Vec<usize>>,
     },
 }
@@ -69,13 +69,11 @@ pub fn discover(bytes: &[u8]) -> Discovered {
     }
     let mut linker = Linker::new(&bundle);
     linker.discover();
-    if !linker.report.is_empty() {
-        return Discovered::Faults(linker.report);
-    }
     let mut order = Vec::new();
     let walked = linker.order(0, &mut Vec::new(), &mut order);
     let path = |file: &usize| bundle.files[*file].path.clone();
-    Discovered::Units {
+    Discovered::Graph {
+        faults: linker.report,
         paths: linker.units.iter().map(path).collect(),
         files: linker.units,
         lists: linker.dependencies,
@@ -89,8 +87,8 @@ impl Discovered {
         let words = |ids: &[usize]| -> String { ids.iter().map(|id| format!(" {id}")).collect() };
         match self {
             Discovered::Refused(refusal) => format!("{refusal}\n"),
-            Discovered::Faults(faults) => faults.clone(),
-            Discovered::Units {
+            Discovered::Graph { faults, .. } if !faults.is_empty() => faults.clone(),
+            Discovered::Graph {
                 paths,
                 lists,
                 order,

@@ -2,7 +2,7 @@
 
 use bundle_format::Refusal;
 
-use crate::driver::DependencyGraph;
+use crate::driver::{DependencyGraph, SourceMap};
 use crate::judge::{record, Judge};
 
 /// What discovery and `linearize` make of a bundle.
@@ -10,8 +10,11 @@ use crate::judge::{record, Judge};
 pub enum Discovered {
     /// 1 to 13.
     Refused(Refusal),
-    /// 20 to 25, in the order of the pushes.
-    Faults(Vec<Refusal>),
+    /// 20 to 25, in the order of the pushes, and the paths of the units, by id.
+    Faults {
+        faults: Vec<Refusal>,
+        units: Vec<String>,
+    },
     Units {
         /// Path and list of each unit, by id.
         units: Vec<(String, Vec<usize>)>,
@@ -31,23 +34,32 @@ impl Judge {
             let sources = diagnostics.sources.expect("sources are handed over");
             let faults = diagnostics.pushed.iter();
             let faults = faults.map(|pushed| record(pushed, &sources).refusal);
-            return Discovered::Faults(faults.collect());
+            return Discovered::Faults {
+                faults: faults.collect(),
+                units: self.paths(&sources),
+            };
         };
         assert!(diagnostics.pushed.is_empty(), "a graph without errors");
 
         let sources = graph.sources();
-        let units = (0..sources.len()).map(|id| {
-            let path = sources.path(id).expect("an id is below the count");
-            let path = self.card().listed(path.as_path());
-            let list = graph.list(id).to_vec();
-            (String::from_utf8_lossy(path).into_owned(), list)
-        });
+        let paths = self.paths(sources).into_iter().enumerate();
         Discovered::Units {
-            units: units.collect(),
+            units: paths
+                .map(|(id, path)| (path, graph.list(id).to_vec()))
+                .collect(),
             order: graph
                 .linked_order()
                 .map_err(|ring| record(&ring, sources).ring),
         }
+    }
+
+    /// The paths of sources, by id.
+    fn paths(&self, sources: &SourceMap) -> Vec<String> {
+        let path = |id| {
+            let path = sources.path(id).expect("an id is below the count");
+            String::from_utf8_lossy(self.card().listed(path.as_path())).into_owned()
+        };
+        (0..sources.len()).map(path).collect()
     }
 
     /// Discovery and `linearize`, so many times: for a counter of instructions, which looks
@@ -76,7 +88,9 @@ impl Discovered {
         let words = |ids: &[usize]| -> String { ids.iter().map(|id| format!(" {id}")).collect() };
         match self {
             Discovered::Refused(refusal) => format!("{refusal}\n"),
-            Discovered::Faults(faults) => faults.iter().map(|fault| format!("{fault}\n")).collect(),
+            Discovered::Faults { faults, .. } => {
+                faults.iter().map(|fault| format!("{fault}\n")).collect()
+            }
             Discovered::Units { units, order } => {
                 let mut out = String::new();
                 for (id, (path, list)) in units.iter().enumerate() {

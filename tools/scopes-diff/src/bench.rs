@@ -15,6 +15,9 @@ use oracle::ast::scope::bare::{self, Bare};
 use crate::calls::Call;
 use crate::port;
 
+/// Large copies by vector instructions: valgrind counts `rep movsb` by the byte.
+const TUNABLES: &str = "glibc.cpu.x86_rep_movsb_threshold=100000000:\
+                        glibc.cpu.x86_rep_stosb_threshold=100000000";
 /// Fresh trees of the original.
 const TREES: usize = 20;
 const SIZES: [usize; 3] = [10, 100, 1000];
@@ -238,6 +241,7 @@ pub fn measure(row: &str, who: &str, entries: usize, with: bool) -> Option<()> {
 fn counted(row: &str, who: Who, entries: usize, with: bool, inside: Option<&str>) -> u64 {
     let program = std::env::current_exe().expect("this program");
     let mut valgrind = Command::new("valgrind");
+    valgrind.env("GLIBC_TUNABLES", TUNABLES);
     valgrind.args(["--tool=callgrind", "--callgrind-out-file=/dev/null"]);
     if let Some(name) = inside {
         valgrind.arg(format!("--toggle-collect={name}"));
