@@ -27,6 +27,10 @@ ringRecords ids count = ring (take count ids) ∷ []
 abbrev pub written3 : List ℕ → ℕ → ℕ → ℕ → List ℕ
 written3 out at number place = set (set (set out at number) (at + 1) (low (place / 256))) (at + 2) (low place)
 
+pub written-is : (o o₁ o₂ o₃ : List ℕ) (at number place a b : ℕ) → o₁ ≡ set o at number → a ≡ low (place / 256) → o₂ ≡ set o₁ (at + 1) a → b ≡ low place → o₃ ≡ set o₂ (at + 2) b
+    → o₃ ≡ written3 o at number place
+written-is o o₁ o₂ o₃ at number place a b e₁ ea e₂ eb e₃ = rw (e₃, eb, e₂, ea, e₁)
+
 -- STORES ONE AFTER THE OTHER
 -- w, and behind it what the buffer o held
 abbrev pub started : List ℕ → List ℕ → List ℕ
