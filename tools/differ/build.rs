@@ -5,14 +5,24 @@ use std::path::Path;
 
 fn main() {
     let folder = Path::new(env!("CARGO_MANIFEST_DIR")).join("../../target/staticlib");
-    println!(
-        "cargo:rerun-if-changed={}",
-        folder.join("libhost.a").display()
-    );
+    let archive = folder.join("libhost.a");
+    println!("cargo:rerun-if-changed={}", archive.display());
     println!("cargo:rustc-check-cfg=cfg(host)");
-    if folder.join("libhost.a").exists() {
-        println!("cargo:rustc-cfg=host");
-        println!("cargo:rustc-link-search=native={}", folder.display());
-        println!("cargo:rustc-link-lib=static=host");
+    println!("cargo:rustc-check-cfg=cfg(order)");
+    println!("cargo:rustc-check-cfg=cfg(original)");
+    // Told by the build of oracle.
+    if std::env::var_os("DEP_SIMPLICITYHL_FOUND").is_some() {
+        println!("cargo:rustc-cfg=original");
+    }
+    let Ok(bytes) = std::fs::read(&archive) else {
+        return;
+    };
+    println!("cargo:rustc-cfg=host");
+    println!("cargo:rustc-link-search=native={}", folder.display());
+    println!("cargo:rustc-link-lib=static=host");
+    // An archive made before this operation was there has no such name.
+    let name = b"gontsamy_order";
+    if bytes.windows(name.len()).any(|bytes| bytes == name) {
+        println!("cargo:rustc-cfg=order");
     }
 }

@@ -87,6 +87,7 @@ fn main() {
         Ok(files) => {
             generate(&package, &out, &files);
             println!("cargo:rustc-cfg=original");
+            println!("cargo:found=1");
         }
         Err(problem) => {
             println!(

@@ -1,5 +1,5 @@
-//! Links the proved crate `scopes_c`, built by `rt staticlib scopes_c`. Where the archive is missing,
-//! the workspace still builds, and `scopes-diff` says how to make it.
+//! Links the proved crate `scopes_c`, built by `rt staticlib scopes_c`. Where the archive or the
+//! original is missing, the workspace still builds, and `scopes-diff` says what to do.
 
 use std::path::Path;
 
@@ -8,9 +8,21 @@ fn main() {
     let archive = folder.join("libscopes_c.a");
     println!("cargo:rerun-if-changed={}", archive.display());
     println!("cargo:rustc-check-cfg=cfg(host)");
-    if archive.exists() {
-        println!("cargo:rustc-cfg=host");
-        println!("cargo:rustc-link-search=native={}", folder.display());
-        println!("cargo:rustc-link-lib=static=scopes_c");
+    println!("cargo:rustc-check-cfg=cfg(original)");
+    // Told by the build of oracle.
+    if std::env::var_os("DEP_SIMPLICITYHL_FOUND").is_some() {
+        println!("cargo:rustc-cfg=original");
+    }
+    println!("cargo:rustc-check-cfg=cfg(walk)");
+    let Ok(bytes) = std::fs::read(&archive) else {
+        return;
+    };
+    println!("cargo:rustc-cfg=host");
+    println!("cargo:rustc-link-search=native={}", folder.display());
+    println!("cargo:rustc-link-lib=static=scopes_c");
+    // An archive made before this function was there has no such name.
+    let name = b"scopes_walk";
+    if bytes.windows(name.len()).any(|bytes| bytes == name) {
+        println!("cargo:rustc-cfg=walk");
     }
 }

@@ -5,7 +5,7 @@ mod conflicts;
 mod fields;
 mod form;
 mod items;
-mod limits;
+pub mod limits;
 
 pub use access::Listed;
 pub use access::Range;

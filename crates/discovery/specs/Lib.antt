@@ -3,6 +3,7 @@ pub mod Reached
 pub mod Facts
 pub mod Right
 pub mod Clean
+pub mod Told
 pub mod Walk
 pub mod Room
 pub mod Weight

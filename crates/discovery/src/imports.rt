@@ -8,13 +8,9 @@ ghost use Rattle.discovery.specs.Discovery.{uses};
 ghost use Rattle.discovery.specs.Walk.{usesAt, itemUses, Gathered, Room, Small, UsesAre};
 use crate::IDS;
 use crate::Uses;
-
-// How deep modules nest, and the kinds of the items that are or hold uses, as the reader has them.
-const DEPTH: usize = 8;
-
-const USE: usize = 3;
-
-const MODULE: usize = 5;
+use bundle::limits::DEPTH;
+use bundle::limits::MODULE;
+use bundle::limits::USE;
 
 // An item: a use is added, a module's items are walked.
 fn process_item(s: &[u8], at: usize, depth: usize, u: Uses) -> Uses

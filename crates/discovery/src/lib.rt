@@ -8,12 +8,12 @@ pub use driver::discover_dependencies;
 pub use imports::uses_of;
 
 // The most files and folders of a bundle, and the most uses, so the most ids in all lists and the most faults: the limits of the
-// reader (its specs/Limits.antt).
-pub const UNITS: usize = 64;
+// reader.
+pub const UNITS: usize = bundle::limits::FILES;
 
-pub const IDS: usize = 256;
+pub const IDS: usize = bundle::limits::USES;
 
-pub const FOLDERS: usize = 64;
+pub const FOLDERS: usize = bundle::limits::FOLDERS;
 
 // The marks of uses, in item order.
 pub struct Uses {

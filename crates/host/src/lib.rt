@@ -2,9 +2,12 @@
 // operation that it calls.
 ghost use mathlib.Core.Path.{_≡_};
 ghost use Rattle.bundle.specs.Read.{numberOf, verdict};
-ghost use Rattle.host.specs.Told.{bitOf, kindOf, placeTold, resolvedTold};
+ghost use Prim.Native.Nat.{_+_, _<_, _^_};
+ghost use Rattle.host.specs.Told.{bitOf, kindOf, placeTold, resolvedTold, orderTold, GraphTold};
+ghost use Rattle.order.specs.Call.{orderAnswer, orderReport};
 ghost use Rattle.resolution.specs.Call.{resolve};
-ghost use lib.ListN.{set};
+ghost use lib.ListN.{set, take, length};
+ghost use lib.Seq.{sets};
 ghost use Rattle.names.specs.Keywords.{isKeyword};
 ghost use Rattle.names.specs.Prefix.{startsWith};
 
@@ -86,4 +89,86 @@ fn tell_both(out: &mut [usize], a: usize, b: usize)
 {
     tell(out, 0, a);
     tell(out, 1, b);
+}
+
+// Stores the first n of l, as far as there are so many, from `at` on, as far as there are places.
+fn tell_places(out: &mut [usize], at: usize, l: &[usize], n: usize)
+    requires { ⌜ at + length (now l) < 2 ^ 60 ⌝ }
+    ensures { λ r. ⌜ now (out .exit) ≡ sets (now (out .entry)) at (take n (now (l .entry))) ⌝ }
+{
+    let mut i = 0;
+    while i < n {
+        if i >= l.len() {
+            return;
+        }
+        tell(out, at + i, l[i]);
+        i += 1;
+    }
+}
+
+fn wide(x: u16) -> usize
+    ensures { λ r. ⌜ r ≡ x ⌝ }
+{
+    x as usize
+}
+
+fn tell_ids(out: &mut [usize], at: usize, l: &[u16], n: usize)
+    requires { ⌜ at + length (now l) < 2 ^ 60 ⌝ }
+    ensures { λ r. ⌜ now (out .exit) ≡ sets (now (out .entry)) at (take n (now (l .entry))) ⌝ }
+{
+    let mut i = 0;
+    while i < n {
+        if i >= l.len() {
+            return;
+        }
+        tell(out, at + i, wide(l[i]));
+        i += 1;
+    }
+}
+
+// The linked order of a bundle: a number from 1 to 14, with its place in out[0]; or 0 with the report's length in out[0], the
+// number of units in out[1], their files' indices from out[2] on and the linked order from out[66] on. Ruled out: unit 0 alone
+// where the entry imports another file; a byte of the report buffer changed where the number is 14.
+#[no_mangle]
+pub extern "C" fn gontsamy_order(s: &[u8], report: &mut [u8], out: &mut [usize]) -> u8
+    ensures { λ r. ⌜ r ≡ orderAnswer (now (s .entry)) (now (report .entry)) .number ⌝ }
+    ensures { λ r. ⌜ now (report .exit) ≡ orderReport (now (s .entry)) (now (report .entry)) ⌝ }
+    ensures { λ r. ⌜ now (out .exit) ≡ orderTold (orderAnswer (now (s .entry)) (now (report .entry))) (now (out .entry)) ⌝ }
+{
+    let a = order::order(s, report);
+    let number = a.number;
+    if number != 0 {
+        tell(out, 0, a.place);
+        return number;
+    }
+    tell_both(out, a.report, a.units);
+    tell_places(out, 2, &a.files, a.units);
+    tell_ids(out, 66, &a.ids, a.units);
+    number
+}
+
+// The graph of a bundle: a number from 1 to 13, with its place in out[0]; or 0 with the number of units in out[0], their files'
+// indices from out[1] on, where their lists start among the ids from out[65] on, how long they are from out[129] on, and the
+// ids from out[193] on. Ruled out: a list with an id twice; a unit that nothing reached imports.
+#[no_mangle]
+pub extern "C" fn gontsamy_discover(s: &[u8], out: &mut [usize]) -> u8
+    ensures { λ r. ⌜ r ≡ numberOf (verdict (now (s .entry))) ⌝ }
+    ensures { λ r. ⌜ GraphTold (now (s .entry)) (now (out .entry)) (now (out .exit)) ⌝ }
+{
+    let checked = bundle::check(s);
+    match checked {
+        bundle::Checked::Refused(n, p) => {
+            tell(out, 0, p);
+            n
+        }
+        bundle::Checked::Ok => {
+            let g = discovery::discover_dependencies(s);
+            tell(out, 0, g.units);
+            tell_places(out, 1, &g.files, g.units);
+            tell_ids(out, 65, &g.start, g.units);
+            tell_ids(out, 129, &g.len, g.units);
+            tell_ids(out, 193, &g.ids, g.count);
+            0
+        }
+    }
 }

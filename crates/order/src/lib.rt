@@ -4,12 +4,9 @@ mod steps;
 
 ghost use mathlib.Core.Path.{_≡_};
 ghost use Rattle.order.specs.Call.{orderAnswer, orderReport};
-pub use report::write_faults;
-pub use report::write_ring;
-pub use steps::order_of;
 
-// The most units of a bundle: the limit of the reader (its specs/Limits.antt).
-pub const UNITS: usize = 64;
+// The most units of a bundle: the limit of the reader.
+pub const UNITS: usize = bundle::limits::FILES;
 
 // What becomes of a report that is written to a lent buffer.
 pub enum Reported {

@@ -11,6 +11,15 @@ extern "C" {
         out: *mut usize,
         out_len: usize,
     ) -> u8;
+    #[cfg(order)]
+    fn gontsamy_order(
+        s: *const u8,
+        s_len: usize,
+        report: *mut u8,
+        report_len: usize,
+        out: *mut usize,
+        out_len: usize,
+    ) -> u8;
     fn gontsamy_is_keyword(s: *const u8, s_len: usize) -> u8;
     fn gontsamy_starts_with(f: *const u8, f_len: usize, p: *const u8, p_len: usize) -> u8;
     fn gontsamy_check(s: *const u8, s_len: usize, place: *mut usize, place_len: usize) -> u8;
@@ -59,4 +68,32 @@ pub fn resolve(bundle: &[u8], importer: &[u8], segments: &[u8]) -> (u8, [usize; 
         )
     };
     (kind, out)
+}
+
+/// A number with its place in out[0]; or 0 with the report's length in out[0], which is 0 where
+/// there is none; then the count of units in out[1], each unit's place among the files from
+/// out[2] on, and the linked order after them.
+#[cfg(order)]
+pub fn order(bundle: &[u8], report: &mut [u8]) -> crate::order::Told {
+    use crate::order::Told;
+    let mut out = [usize::MAX; 2 + 64 + 64];
+    // SAFETY: as above.
+    let number = unsafe {
+        gontsamy_order(
+            bundle.as_ptr(),
+            bundle.len(),
+            report.as_mut_ptr(),
+            report.len(),
+            out.as_mut_ptr(),
+            out.len(),
+        )
+    };
+    match (number, out[0]) {
+        (0, 0) => {
+            let (files, order) = out[2..].split_at(out[1].min(64));
+            Told::Linked(files.to_vec(), order[..files.len()].to_vec())
+        }
+        (0, length) => Told::Report(report[..length.min(report.len())].to_vec()),
+        (number, place) => Told::Refused(number, place),
+    }
 }

@@ -9,6 +9,8 @@ mod host;
 #[cfg(host)]
 mod names;
 #[cfg(host)]
+mod order;
+#[cfg(host)]
 mod uses;
 
 #[cfg(host)]
@@ -36,6 +38,24 @@ fn main() -> std::process::ExitCode {
         },
         ["uses", seed, count] => match (number(seed), number(count)) {
             (Some(seed), Some(count)) => uses::generated(seed, count),
+            _ => return usage(),
+        },
+        ["order", seed, count] => match (number(seed), number(count)) {
+            (Some(seed), Some(count)) => order::generated(seed, count),
+            _ => return usage(),
+        },
+        ["order-sample", form @ ("lists" | "order"), length] => {
+            match number(length).map(|length| order::sample(form, length as usize)) {
+                Some(Ok(())) => 0,
+                Some(Err(error)) => {
+                    eprintln!("differ: {error}");
+                    1
+                }
+                None => return usage(),
+            }
+        }
+        ["measure", "order", shape, who, times] => match number(times) {
+            Some(times) => order::measure(shape, who, times),
             _ => return usage(),
         },
         ["names", seed, count] => match (number(seed), number(count)) {
@@ -67,9 +87,12 @@ fn usage() -> std::process::ExitCode {
          \x20      differ short                 every byte string of at most 4 bytes\n\
          \x20      differ uses SEED COUNT       the uses of generated bundles\n\
          \x20      differ sample COUNT          the files stdin and stdout of crates/bundle_vectors\n\
+         \x20      differ order SEED COUNT      discovery and order of generated bundles\n\
+         \x20      differ order-sample FORM LENGTH  stored bundles and answers; FORM is lists or order\n\
          \x20      differ names SEED COUNT      prefixes and keywords\n\
          \x20      differ measure WHICH WHO TIMES   WHICH is largest or alike, WHO port or tools: checks\n\
-         \x20      differ measure names WHO TIMES   WHO is port or original: prefixes and keywords"
+         \x20      differ measure names WHO TIMES   WHO is port or original: prefixes and keywords\n\
+         \x20      differ measure order SHAPE WHO TIMES   WHO is port, original or model, SHAPE as in `generate`"
     );
     std::process::ExitCode::from(2)
 }

@@ -46,6 +46,20 @@ impl Bundle {
     }
 }
 
+/// A use by itself in the bundle's form, with up to so many segments, or the first number at its
+/// place in `bytes`.
+pub fn decode_use(bytes: &[u8], segments: usize) -> Result<Body, Refusal> {
+    let mut reader = Reader {
+        bytes,
+        at: 0,
+        items: 0,
+        uses: 0,
+    };
+    let body = reader.use_body(segments, bytes.len())?;
+    reader.nothing_left(bytes.len())?;
+    Ok(body)
+}
+
 /// A position in the bundle and the counts that hold for the whole of it. Each container's end
 /// is handed to what is read inside it.
 struct Reader<'a> {
@@ -223,7 +237,7 @@ impl<'a> Reader<'a> {
         let body = match kind {
             1 => Body::TypeAlias(self.identifier(end)?),
             2 => Body::Function(self.identifier(end)?),
-            3 => self.use_body(end)?,
+            3 => self.use_body(limits::SEGMENTS, end)?,
             4 => Body::Enum(self.identifier(end)?),
             5 => Body::Module {
                 name: self.identifier(end)?,
@@ -239,9 +253,9 @@ impl<'a> Reader<'a> {
         })
     }
 
-    fn use_body(&mut self, end: usize) -> Result<Body, Refusal> {
+    fn use_body(&mut self, limit: usize, end: usize) -> Result<Body, Refusal> {
         let mut segments = Vec::new();
-        for _ in 0..self.count(limits::SEGMENTS, end)?.0 {
+        for _ in 0..self.count(limit, end)?.0 {
             segments.push(self.identifier(end)?);
         }
         let mut elements = Vec::new();

@@ -9,6 +9,7 @@ mod encode;
 pub mod forms;
 pub mod limits;
 
+pub use decode::decode_use;
 pub use encode::{encode_file, encode_item, image};
 
 #[derive(Clone, Debug, Default, PartialEq, Eq)]

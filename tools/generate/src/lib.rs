@@ -6,11 +6,13 @@ pub mod link;
 pub mod lookup;
 mod project;
 pub mod rng;
+mod shapes;
 mod stats;
 mod tree;
 
 pub use families::{Family, FAMILIES};
 pub use rng::Rng;
+pub use shapes::{shape, SHAPES};
 pub use stats::stats;
 
 /// No tree of a generated bundle has more entries than this, written out.

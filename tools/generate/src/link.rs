@@ -41,6 +41,76 @@ pub fn run(bytes: &[u8], largest: usize) -> Run {
     }
 }
 
+/// What steps 3 and 4 make of a bundle.
+#[derive(Clone, Debug, PartialEq, Eq)]
+pub enum Discovered {
+    /// 1 to 13.
+    Refused(Refusal),
+    /// 20 to 25, in the order of the pushes, each as a line.
+    Faults(String),
+    Units {
+        /// Each unit's place among the bundle's files.
+        files: Vec<usize>,
+        paths: Vec<Vec<u8>>,
+        /// The ids that each unit lists.
+        lists: Vec<Vec<usize>>,
+        /// The linked order, or a ring.
+        order: Result<Vec<usize>, Vec<usize>>,
+    },
+}
+
+pub fn discover(bytes: &[u8]) -> Discovered {
+    let bundle = match Bundle::decode(bytes) {
+        Err(refusal) => return Discovered::Refused(refusal),
+        Ok(bundle) => bundle,
+    };
+    if let Some(refusal) = bundle.check() {
+        return Discovered::Refused(refusal);
+    }
+    let mut linker = Linker::new(&bundle);
+    linker.discover();
+    if !linker.report.is_empty() {
+        return Discovered::Faults(linker.report);
+    }
+    let mut order = Vec::new();
+    let walked = linker.order(0, &mut Vec::new(), &mut order);
+    let path = |file: &usize| bundle.files[*file].path.clone();
+    Discovered::Units {
+        paths: linker.units.iter().map(path).collect(),
+        files: linker.units,
+        lists: linker.dependencies,
+        order: walked.map(|()| order),
+    }
+}
+
+impl Discovered {
+    /// As `oracle --discover` prints it.
+    pub fn print(&self) -> String {
+        let words = |ids: &[usize]| -> String { ids.iter().map(|id| format!(" {id}")).collect() };
+        match self {
+            Discovered::Refused(refusal) => format!("{refusal}\n"),
+            Discovered::Faults(faults) => faults.clone(),
+            Discovered::Units {
+                paths,
+                lists,
+                order,
+                ..
+            } => {
+                let mut out = String::new();
+                for (id, (path, list)) in paths.iter().zip(lists).enumerate() {
+                    let path = String::from_utf8_lossy(path);
+                    out += &format!("unit {id} {path}{}\n", words(list));
+                }
+                match order {
+                    Ok(order) => out += &format!("order{}\n", words(order)),
+                    Err(ring) => out += &format!("ring{}\n", words(ring)),
+                }
+                out
+            }
+        }
+    }
+}
+
 enum Stop {
     Report(String),
     Refusal(Refusal),

@@ -3,12 +3,15 @@
 use std::io::{BufWriter, Read, Write};
 use std::process::ExitCode;
 
-use bundle_generate::{bundle, link, stats, Family, FAMILIES};
+use bundle_generate::{bundle, link, shape, stats, Family, FAMILIES};
 
 const USAGE: &str = "\
 usage: generate SEED COUNT [--family NAME]   a stream of bundles on standard output
        generate --list-families              their names
+       generate --shape NAME UNITS           one bundle whose imports are a chain, ring, star,
+                                             diamonds or next-four
        generate --answers [--image]          a stream of bundles in, the model's answers out
+       generate --discover                   the same, of discovery and order alone
        generate --stats                      answers in, a table of their numbers out";
 
 fn main() -> ExitCode {
@@ -20,8 +23,10 @@ fn main() -> ExitCode {
     let result = match arguments[..] {
         ["--list-families"] => list(),
         ["--stats"] => stats(std::io::stdin().lock()).and_then(|table| print(&table)),
-        ["--answers"] => answers(false),
-        ["--answers", "--image"] => answers(true),
+        ["--shape", name, units] => one_shape(name, units),
+        ["--answers"] => answers(|bytes| answer(bytes, false)),
+        ["--answers", "--image"] => answers(|bytes| answer(bytes, true)),
+        ["--discover"] => answers(|bytes| link::discover(bytes).print()),
         [seed, count] => stream(seed, count, None),
         [seed, count, "--family", name] | ["--family", name, seed, count] => {
             stream(seed, count, Some(name))
@@ -78,8 +83,28 @@ fn stream(seed: &str, count: &str, name: Option<&str>) -> std::io::Result<()> {
     out.flush()
 }
 
+fn one_shape(name: &str, units: &str) -> std::io::Result<()> {
+    let units = units.parse().ok().filter(|units| (1..=64).contains(units));
+    let Some(bytes) = units.and_then(|units| shape(name, units)) else {
+        return usage("shape or number of units");
+    };
+    let mut out = std::io::stdout().lock();
+    out.write_all(&bytes)?;
+    out.flush()
+}
+
+fn answer(bytes: &[u8], with_image: bool) -> String {
+    let run = link::run(bytes, 1_000_000);
+    let mut text = run.text;
+    if let (Some(image), true) = (run.image, with_image) {
+        let hex: String = image.iter().map(|byte| format!("{byte:02x}")).collect();
+        text += &format!("image {hex}\n");
+    }
+    text
+}
+
 /// What the model says of each bundle of a stream, each answer followed by a line `--`.
-fn answers(with_image: bool) -> std::io::Result<()> {
+fn answers(answer: impl Fn(&[u8]) -> String) -> std::io::Result<()> {
     let mut input = std::io::BufReader::with_capacity(1 << 18, std::io::stdin().lock());
     let mut out = BufWriter::with_capacity(1 << 18, std::io::stdout().lock());
     let mut bytes = Vec::new();
@@ -96,12 +121,7 @@ fn answers(with_image: bool) -> std::io::Result<()> {
         length.copy_from_slice(&bytes);
         bytes.resize(u32::from_be_bytes(length) as usize, 0);
         input.read_exact(&mut bytes)?;
-        let run = link::run(&bytes, 1_000_000);
-        out.write_all(run.text.as_bytes())?;
-        if let (Some(image), true) = (run.image, with_image) {
-            let hex: String = image.iter().map(|byte| format!("{byte:02x}")).collect();
-            writeln!(out, "image {hex}")?;
-        }
+        out.write_all(answer(&bytes).as_bytes())?;
         out.write_all(b"--\n")?;
     }
 }

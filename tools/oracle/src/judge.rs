@@ -75,17 +75,9 @@ impl Judge {
     }
 
     fn link(&mut self, bytes: &[u8]) -> Result<Linked, Answer> {
-        let (bundle, dependency_map) = self.unpack(bytes).map_err(Answer::Refused)?;
-        parse::parse_from(Rc::clone(&bundle));
-
-        let entry = &bundle.files[0].path;
-        let name = CanonPath::canonicalize(&self.card.at(entry)).expect("the entry is unpacked");
-        let content = std::str::from_utf8(entry).expect("a path is ASCII");
-        let (program, diagnostics) = DependencyGraph::build_program(
-            CanonSourceFile::new(name, Arc::from(content)),
-            Arc::new(dependency_map),
-            &UnstableFeatures,
-        );
+        let (entry, dependency_map) = self.program(bytes).map_err(Answer::Refused)?;
+        let (program, diagnostics) =
+            DependencyGraph::build_program(entry, dependency_map, &UnstableFeatures);
         let sources = diagnostics
             .sources
             .expect("the driver hands over its sources");
@@ -120,6 +112,22 @@ impl Judge {
             has: has(&tree),
             image: bundle_format::image(&units).expect("its length is tested"),
         })
+    }
+
+    /// The entry, to be parsed from the bundle, and the original's map; or the first of the
+    /// numbers 1 to 13.
+    pub(crate) fn program(
+        &mut self,
+        bytes: &[u8],
+    ) -> Result<(CanonSourceFile, Arc<DependencyMap>), Refusal> {
+        let (bundle, dependency_map) = self.unpack(bytes)?;
+        parse::parse_from(Rc::clone(&bundle));
+
+        let entry = &bundle.files[0].path;
+        let name = CanonPath::canonicalize(&self.card.at(entry)).expect("the entry is unpacked");
+        let content = std::str::from_utf8(entry).expect("a path is ASCII");
+        let entry = CanonSourceFile::new(name, Arc::from(content));
+        Ok((entry, Arc::new(dependency_map)))
     }
 
     /// The bundle, unpacked, and the original's map of its remappings and roots; or the first of
@@ -216,7 +224,7 @@ fn builder_number(error: &Error) -> u8 {
     }
 }
 
-fn record(pushed: &Diagnostic, sources: &SourceMap) -> Record {
+pub(crate) fn record(pushed: &Diagnostic, sources: &SourceMap) -> Record {
     let mut ring = Vec::new();
     let number = match (&*pushed.error, pushed.span) {
         (Error::LinearizationCycleDetected { deps }, None) => {

@@ -8,6 +8,7 @@
 
 pub mod ast;
 mod card;
+pub mod discover;
 pub mod error;
 pub mod graph;
 pub mod judge;

@@ -24,8 +24,9 @@ mod command {
     use oracle::resolve::Resolver;
     use oracle::{graph, names, tree};
 
-    const USAGE: &str =
-        "oracle [--image] [--stream], or one of oracle --names, --tree, --graph, --resolve";
+    const USAGE: &str = "\
+oracle [--image | --discover] [--stream], or one of oracle --names, --tree, --graph, --resolve, \
+or oracle --measure TIMES";
 
     /// Modules copied into modules nest deeper than the stack of a main thread may hold.
     const STACK: usize = 256 << 20;
@@ -43,29 +44,45 @@ mod command {
         }
     }
 
-    fn run() -> io::Result<ExitCode> {
-        let mut image = false;
-        let mut mode = None;
-        for argument in std::env::args().skip(1) {
-            match argument.as_str() {
-                "--image" if !image => image = true,
-                "--stream" | "--names" | "--tree" | "--graph" | "--resolve" if mode.is_none() => {
-                    mode = Some(argument);
-                }
-                _ => return Ok(usage()),
+    /// What is asked of a bundle.
+    #[derive(Clone, Copy, PartialEq, Eq)]
+    enum Asked {
+        Whole,
+        WithImage,
+        Discovery,
+    }
+
+    impl Asked {
+        fn answer(self, judge: &mut Judge, bytes: &[u8]) -> String {
+            match self {
+                Asked::Discovery => judge.discover(bytes).print(),
+                _ => judge.judge(bytes).print(self == Asked::WithImage),
             }
         }
-        match mode.as_deref() {
-            None => one(image),
-            Some("--stream") => stream(image),
-            _ if image => Ok(usage()),
-            Some("--names") => answer_lines(names::answer),
-            Some("--graph") => answer_lines(graph::answer),
-            Some("--resolve") => {
+    }
+
+    fn run() -> io::Result<ExitCode> {
+        let arguments: Vec<String> = std::env::args().skip(1).collect();
+        let arguments: Vec<&str> = arguments.iter().map(String::as_str).collect();
+        match arguments[..] {
+            [] => one(Asked::Whole),
+            ["--image"] => one(Asked::WithImage),
+            ["--discover"] => one(Asked::Discovery),
+            ["--stream"] => stream(Asked::Whole),
+            ["--image", "--stream"] | ["--stream", "--image"] => stream(Asked::WithImage),
+            ["--discover", "--stream"] | ["--stream", "--discover"] => stream(Asked::Discovery),
+            ["--names"] => answer_lines(names::answer),
+            ["--graph"] => answer_lines(graph::answer),
+            ["--resolve"] => {
                 let mut resolver = Resolver::new(Judge::new()?);
                 answer_lines(|line| resolver.answer(line))
             }
-            _ => trees(),
+            ["--tree"] => trees(),
+            ["--measure", times] => match times.parse() {
+                Ok(times) => measure(times),
+                Err(_) => Ok(usage()),
+            },
+            _ => Ok(usage()),
         }
     }
 
@@ -75,16 +92,27 @@ mod command {
     }
 
     /// One bundle on standard input.
-    fn one(image: bool) -> io::Result<ExitCode> {
+    fn one(asked: Asked) -> io::Result<ExitCode> {
         let mut bytes = Vec::new();
         io::stdin().lock().read_to_end(&mut bytes)?;
-        let answer = Judge::new()?.judge(&bytes).print(image);
+        let answer = asked.answer(&mut Judge::new()?, &bytes);
         io::stdout().lock().write_all(answer.as_bytes())?;
         Ok(ExitCode::SUCCESS)
     }
 
+    /// Discovery and order of the bundle on standard input, so many times.
+    fn measure(times: usize) -> io::Result<ExitCode> {
+        let mut bytes = Vec::new();
+        io::stdin().lock().read_to_end(&mut bytes)?;
+        match Judge::new()?.measure(&bytes, times) {
+            Ok(linked) => println!("{times} times, linked: {linked}"),
+            Err(refusal) => println!("{refusal}"),
+        }
+        Ok(ExitCode::SUCCESS)
+    }
+
     /// Bundles led by their length in 4 bytes; each answer is followed by a line `--`.
-    fn stream(image: bool) -> io::Result<ExitCode> {
+    fn stream(asked: Asked) -> io::Result<ExitCode> {
         let mut input = BufReader::with_capacity(1 << 20, io::stdin().lock());
         let mut output = BufWriter::with_capacity(1 << 20, io::stdout().lock());
         let mut judge = Judge::new()?;
@@ -99,7 +127,7 @@ mod command {
             let mut bytes = vec![0; u32::from_be_bytes(length) as usize];
             input.read_exact(&mut bytes)?;
 
-            let answer = panic::catch_unwind(AssertUnwindSafe(|| judge.judge(&bytes).print(image)));
+            let answer = panic::catch_unwind(AssertUnwindSafe(|| asked.answer(&mut judge, &bytes)));
             match answer {
                 Ok(answer) => output.write_all(answer.as_bytes())?,
                 Err(cause) => {

@@ -1,11 +1,11 @@
 //! Lists of calls on the original's module tree.
 
 use bundle_format::forms::is_identifier;
-use bundle_format::{limits, Element};
+use bundle_format::{decode_use, limits, Body, Element};
 
 use crate::ast::scope::{Fault, Tree};
 use crate::error::Span;
-use crate::parse::{use_decl, visibility_of, Visibility};
+use crate::parse::{use_decl, visibility_of, UseDecl, Visibility};
 use crate::str::{AliasName, FunctionName, ModuleName};
 use crate::types::AliasedType;
 
@@ -46,6 +46,12 @@ pub fn answer(tree: &mut Tree, line: &str) -> Option<String> {
             })
         }
         ["use", visibility, path, elements] => resolve_use(tree, visibility, path, elements)?,
+        ["use_form", visibility, bytes] => {
+            let bytes = crate::from_hex(bytes)?;
+            visible(visibility)?.and_then(|visibility| {
+                tree.resolve_use(&decoded(visibility, &bytes).map_err(Fault::Number)?)
+            })
+        }
         ["get_alias", name] => {
             let mark =
                 named(name).and_then(|name| tree.get_alias(&AliasName::from_str_unchecked(name)));
@@ -93,6 +99,20 @@ fn named(name: &str) -> Result<&str, Fault> {
     match is_identifier(name.as_bytes()) {
         true => Ok(name),
         false => Err(Fault::Number(BAD_NAME)),
+    }
+}
+
+/// A use by its bytes, or the number of the first that is wrong with them.
+fn decoded(visibility: Visibility, bytes: &[u8]) -> Result<UseDecl, u8> {
+    match decode_use(bytes, limits::TREE_SEGMENTS) {
+        Ok(Body::Use { segments, elements }) => Ok(use_decl(
+            visibility,
+            &segments,
+            &elements,
+            Span::new(0, 0..0),
+        )),
+        Ok(_) => unreachable!("a use"),
+        Err(refusal) => Err(refusal.number),
     }
 }
 

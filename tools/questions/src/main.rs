@@ -1,6 +1,9 @@
 //! `questions SEED COUNT`: questions on paths and names for `oracle --names` and for the program
 //! names_vectors, the same each time for the same seed. After a fixed list at the edges of the forms
-//! come COUNT drawn ones.
+//! come COUNT drawn ones. `questions graphs SEED COUNT`: graphs for `oracle --graph` and for the
+//! program graph_vectors, likewise; the fixed list has all graphs of one to three units.
+
+mod graphs;
 
 use std::io::Write;
 
@@ -162,18 +165,34 @@ fn drawn(rng: &mut Rng) -> String {
 
 fn main() {
     let arguments: Vec<String> = std::env::args().skip(1).collect();
+    let (are_graphs, arguments) = match arguments.split_first() {
+        Some((word, rest)) if word == "graphs" => (true, rest),
+        _ => (false, &arguments[..]),
+    };
     let numbers: Option<Vec<u64>> = arguments.iter().map(|word| word.parse().ok()).collect();
     let Some(&[seed, count]) = numbers.as_deref() else {
-        eprintln!("usage: questions SEED COUNT");
+        eprintln!("usage: questions [graphs] SEED COUNT");
         std::process::exit(2);
     };
-    let mut lines = edges();
+    let mut out = std::io::BufWriter::new(std::io::stdout().lock());
+    let mut write = |line: String| {
+        if writeln!(out, "{line}").is_err() {
+            std::process::exit(1);
+        }
+    };
+    let fixed = match are_graphs {
+        true => [graphs::edges(), graphs::small()].concat(),
+        false => edges(),
+    };
+    fixed.into_iter().for_each(&mut write);
     for index in 0..count {
-        lines.push(drawn(&mut Rng::new(seed, index)));
+        let rng = &mut Rng::new(seed, index);
+        write(match are_graphs {
+            true => graphs::drawn(rng),
+            false => drawn(rng),
+        });
     }
-    let mut text = lines.join("\n");
-    text.push('\n');
-    if std::io::stdout().write_all(text.as_bytes()).is_err() {
+    if out.flush().is_err() {
         std::process::exit(1);
     }
 }

@@ -1,107 +1,74 @@
-//! Random lists, and both sides' answers to them.
+//! Lists of calls, drawn. Each next call is chosen knowing what the original answered before, so
+//! that most uses find something; a share is aimed at refusals.
 
-use std::collections::BTreeMap;
-use std::io::{BufRead, BufReader, BufWriter, Write};
-use std::process::{Command, ExitCode, Stdio};
+use bundle_format::limits;
+use bundle_generate::Rng;
+use oracle::ast::scope::Tree;
+use oracle::tree;
 
-extern "C" {
-    fn scopes_replay(s: *const u8, s_len: usize, out: *mut u32, out_len: usize) -> usize;
-    fn scopes_rows(s: *const u8, s_len: usize, out: *mut u64, out_len: usize) -> usize;
+use crate::calls::{form, Call, Element};
+use crate::cover::Cover;
+use crate::register::{Register, View, MODULE};
+
+/// A list of calls with the original's answers, and the tree that it left.
+pub struct List {
+    pub calls: Vec<Call>,
+    pub answers: Vec<String>,
+    pub written: String,
+    pub cover: Cover,
 }
 
-fn replay(list: &[u8], out: &mut [u32]) -> usize {
-    // SAFETY: the pointers are those of slices that live over the call, with their lengths.
-    unsafe { scopes_replay(list.as_ptr(), list.len(), out.as_mut_ptr(), out.len()) }
+struct Family {
+    name: &'static str,
+    /// How many lists of ten thousand are of it.
+    weight: usize,
+    make: fn(&mut Session),
 }
 
-fn rows(list: &[u8], out: &mut [u64]) -> usize {
-    // SAFETY: as above.
-    unsafe { scopes_rows(list.as_ptr(), list.len(), out.as_mut_ptr(), out.len()) }
+const FAMILIES: [Family; 6] = [
+    Family {
+        name: "mixed",
+        weight: 2_600,
+        make: Session::mixed,
+    },
+    Family {
+        name: "guided",
+        weight: 5_000,
+        make: Session::guided,
+    },
+    Family {
+        name: "chain",
+        weight: 1_000,
+        make: Session::chain,
+    },
+    Family {
+        name: "ancestors",
+        weight: 900,
+        make: Session::ancestors,
+    },
+    Family {
+        name: "full by uses",
+        weight: 490,
+        make: Session::full_by_uses,
+    },
+    Family {
+        name: "full by declarations",
+        weight: 10,
+        make: Session::full_by_declarations,
+    },
+];
+
+pub fn family_names() -> impl Iterator<Item = &'static str> {
+    FAMILIES.iter().map(|family| family.name)
 }
 
-struct Random(u64);
-
-impl Random {
-    fn next(&mut self) -> u64 {
-        self.0 ^= self.0 << 13;
-        self.0 ^= self.0 >> 7;
-        self.0 ^= self.0 << 17;
-        self.0.wrapping_mul(0x2545_f491_4f6c_dd1d) >> 16
-    }
-    fn below(&mut self, n: usize) -> usize {
-        (self.next() % n as u64) as usize
-    }
-    fn chance(&mut self, percent: usize) -> bool {
-        self.below(100) < percent
-    }
-    fn of<'a>(&mut self, words: &[&'a str]) -> &'a str {
-        words[self.below(words.len())]
-    }
-}
-
-/// A list of calls as bytes and as the oracle's lines.
-#[derive(Default)]
-struct List {
-    bytes: Vec<u8>,
-    lines: Vec<String>,
-}
-
-impl List {
-    fn named(&mut self, op: u8, word: &str, name: &str, visible: bool, mark: u16) {
-        self.bytes.extend([op, name.len() as u8]);
-        self.bytes.extend(name.as_bytes());
-        self.bytes.push(visible as u8);
-        self.bytes.extend(mark.to_be_bytes());
-        self.lines
-            .push(format!("{word} {name} {} {mark}", visible as u8));
-    }
-    fn get(&mut self, op: u8, word: &str, name: &str) {
-        self.bytes.extend([op, name.len() as u8]);
-        self.bytes.extend(name.as_bytes());
-        self.lines.push(format!("{word} {name}"));
-    }
-    fn exit(&mut self) {
-        self.bytes.push(2);
-        self.lines.push("exit".to_string());
-    }
-    fn resolve_use(&mut self, visible: bool, path: &[&str], elements: &[(String, String)]) {
-        let mut decl = vec![path.len() as u8];
-        for segment in path {
-            decl.push(segment.len() as u8);
-            decl.extend(segment.as_bytes());
-        }
-        decl.push(elements.len() as u8);
-        for (name, alias) in elements {
-            for text in [name, alias] {
-                decl.push(text.len() as u8);
-                decl.extend(text.as_bytes());
-            }
-        }
-        self.bytes.push(6);
-        self.bytes.extend((decl.len() as u16).to_be_bytes());
-        self.bytes.extend(&decl);
-        self.bytes.push(visible as u8);
-        let empty = |text: String| {
-            if text.is_empty() {
-                "-".to_string()
-            } else {
-                text
-            }
-        };
-        let list: Vec<String> = elements
-            .iter()
-            .map(|(name, alias)| match alias.as_str() {
-                "" => name.clone(),
-                alias => format!("{name}={alias}"),
-            })
-            .collect();
-        self.lines.push(format!(
-            "use {} {} {}",
-            visible as u8,
-            empty(path.join("::")),
-            empty(list.join(","))
-        ));
-    }
+/// The list `index` of a seed, which does not depend on those before it; and its family.
+pub fn list(seed: u64, index: u64) -> (List, usize) {
+    let mut session = Session::new(Rng::new(seed, index));
+    let weights = FAMILIES.iter().map(|family| family.weight);
+    let family = session.rng.weighted(weights);
+    (FAMILIES[family].make)(&mut session);
+    (session.end(), family)
 }
 
 const NAMES: [&str; 8] = [
@@ -114,327 +81,535 @@ const NAMES: [&str; 8] = [
     "main",
     "longer_than_eight_bytes_of_text",
 ];
-const ODD: [&str; 3] = ["1a", "a-b", "this_name_has_more_than_32_bytes_in_it"];
+/// The second has 32 bytes and is a name; the others are none.
+const ODD: [&str; 6] = [
+    "1a",
+    "this_name_has_exactly_32_bytes__",
+    "a-b",
+    "this_name_has_more_than_32_bytes_in_it",
+    "",
+    "\u{e4}",
+];
 
-/// Nested modules, re-exports, copies of copies and of open ancestors, refused calls.
-fn list_of(random: &mut Random, calls: usize) -> List {
-    let mut list = List::default();
-    let mut open: Vec<&str> = Vec::new();
-    let mut made: Vec<Vec<&str>> = vec![Vec::new()];
-    let mut copies = 0;
-    for mark in 0..calls as u16 {
-        let name = if random.chance(1) {
-            random.of(&ODD)
-        } else {
-            random.of(&NAMES)
+struct Session {
+    rng: Rng,
+    tree: Tree,
+    register: Register,
+    /// How many entries the original may still copy.
+    budget: usize,
+    fresh: usize,
+    calls: Vec<Call>,
+    answers: Vec<String>,
+    cover: Cover,
+}
+
+impl Session {
+    fn new(mut rng: Rng) -> Self {
+        let budget = match rng.below(1000) {
+            0..=899 => 600,
+            900..=989 => 6_000,
+            990..=998 => 60_000,
+            _ => 400_000,
         };
-        let visible = random.chance(70);
-        match random.below(30) {
-            0..=6 => {
-                list.named(1, "enter", name, visible, mark);
-                // It may be refused; the guess is only where later uses look.
-                if open.len() < 9 {
-                    open.push(name);
-                    made.push(open.clone());
-                }
-            }
-            7..=10 => {
-                list.exit();
-                open.pop();
-            }
-            11..=12 => list.named(3, "alias", name, visible, mark),
-            13 => list.named(4, "enum", name, visible, mark),
-            14..=17 => list.named(5, "function", name, visible, mark),
-            18 => list.get(7, "get_alias", name),
-            19 => list.get(8, "get_function", name),
-            _ => {
-                let mut path = vec!["crate"];
-                if random.chance(2) {
-                    path.clear();
-                }
-                path.extend(made[random.below(made.len())].clone());
-                while random.chance(25) {
-                    path.push(random.of(&NAMES));
-                }
-                if random.chance(1) {
-                    path.extend([""; 18].map(|_| "a"));
-                }
-                let count = match random.below(40) {
-                    0 => 33,
-                    1 => 32,
-                    2..=3 => 0,
-                    n => 1 + n % 3,
-                };
-                let elements: Vec<(String, String)> = (0..count)
-                    .map(|_| {
-                        let name = random.of(&NAMES).to_string();
-                        let alias = if random.chance(50) {
-                            random.of(&NAMES).to_string()
-                        } else {
-                            String::new()
-                        };
-                        (name, alias)
-                    })
-                    .collect();
-                // Copies of open modules double the tree: few of them.
-                copies += 1;
-                if copies < 24 {
-                    list.resolve_use(visible, &path, &elements);
-                } else {
-                    list.get(8, "get_function", name);
-                }
-            }
+        Session {
+            rng,
+            tree: Tree::default(),
+            register: Register::default(),
+            budget,
+            fresh: 0,
+            calls: Vec::new(),
+            answers: Vec::new(),
+            cover: Cover::default(),
         }
     }
-    list
-}
 
-/// A tree near 1,024 entries, then uses of up to 32 elements.
-fn full_list(random: &mut Random) -> List {
-    let mut list = List::default();
-    list.named(1, "enter", "a", true, 0);
-    let many = 20 + random.below(12);
-    for i in 0..many {
-        list.named(5, "function", &format!("e{i}"), true, i as u16);
+    fn end(self) -> List {
+        List {
+            calls: self.calls,
+            answers: self.answers,
+            written: self.tree.write(),
+            cover: self.cover,
+        }
     }
-    list.exit();
-    let rest = 1024 - many - 1 - random.below(40);
-    for i in 0..rest {
-        list.named(3, "alias", &format!("t{i}"), random.chance(50), i as u16);
-    }
-    for _ in 0..12 {
-        let elements: Vec<(String, String)> = (0..1 + random.below(32))
-            .map(|_| {
-                (
-                    format!("e{}", random.below(many + 1)),
-                    format!("u{}", random.below(200)),
-                )
-            })
-            .collect();
-        list.resolve_use(true, &["crate", "a"], &elements);
-        list.named(1, "enter", random.of(&NAMES), true, 7);
-        list.named(4, "enum", random.of(&NAMES), true, 8);
-    }
-    for _ in 0..10 {
-        list.named(1, "enter", "deep", true, 9);
-    }
-    list
-}
 
-/// The entries of a scope at a time, written out in the oracle's order, unless there are too many.
-fn written(
-    rows: &[[u64; 11]],
-    scope: u64,
-    time: usize,
-    indent: usize,
-    out: &mut Vec<String>,
-) -> bool {
-    let mut order: BTreeMap<(u64, Vec<u8>), usize> = BTreeMap::new();
-    for (i, row) in rows.iter().enumerate().take(time).skip(scope as usize) {
-        if row[2] == scope {
-            let name: Vec<u8> = row[7..]
-                .iter()
-                .flat_map(|word| word.to_be_bytes())
-                .filter(|b| *b != 0)
+    /// Makes a call on the original; says whether it was accepted.
+    fn ask(&mut self, call: Call) -> bool {
+        let answer = tree::answer(&mut self.tree, &call.line()).expect("a line of `--tree`");
+        let accepted = answer.starts_with("ok");
+        self.cover.call(&call, &answer);
+        if accepted {
+            let imported = self.register.accept(&call);
+            self.cover.imported(&imported);
+        }
+        self.cover.tree(&self.register);
+        self.answers.push(answer);
+        self.calls.push(call);
+        accepted
+    }
+
+    fn mark(&self) -> u16 {
+        self.calls.len() as u16
+    }
+
+    fn name(&mut self) -> String {
+        match self.rng.below(100) {
+            0 => self.rng.pick(&ODD).to_string(),
+            1..=25 => self.fresh(),
+            _ => self.rng.pick(&NAMES).to_string(),
+        }
+    }
+
+    fn fresh(&mut self) -> String {
+        self.fresh += 1;
+        format!("x{}", self.fresh)
+    }
+
+    fn declare(&mut self, name: String, public: usize) {
+        let (visible, mark) = (self.rng.chance(public), self.mark());
+        let call = match self.rng.below(7) {
+            0..=1 => Call::Alias(name, visible, mark),
+            2 => Call::Enum(name, visible, mark),
+            _ => Call::Function(name, visible, mark),
+        };
+        self.ask(call);
+    }
+
+    fn get(&mut self, name: String) {
+        // Mostly of an entry of the current module.
+        let here = View {
+            scope: self.register.here(),
+            time: self.register.entries.len(),
+        };
+        let held: Vec<usize> = self.register.held(here).collect();
+        let name = match !held.is_empty() && self.rng.chance(70) {
+            true => self.register.entries[*self.rng.pick(&held)].name.clone(),
+            false => name,
+        };
+        let call = match self.rng.below(2) {
+            0 => Call::GetAlias(name),
+            _ => Call::GetFunction(name),
+        };
+        self.ask(call);
+    }
+
+    /// A use, unless the original would have to copy too much for it.
+    fn import(&mut self, visible: bool, path: Vec<String>, elements: Vec<Element>) -> bool {
+        let cost = self.register.cost(&path, &elements);
+        if cost > self.budget {
+            let name = self.name();
+            self.get(name);
+            return false;
+        }
+        self.budget -= cost;
+        self.ask(Call::Use(visible, path, elements))
+    }
+
+    /// The names of the open modules, the first `count` of them.
+    fn open_names(&self, count: usize) -> impl Iterator<Item = String> + '_ {
+        let open = self.register.open[..count].iter();
+        open.map(|&at| self.register.entries[at].name.clone())
+    }
+
+    /// A walk through modules, copies among them, from the root or along the open path.
+    fn drawn_path(&mut self) -> Vec<String> {
+        let mut path = vec!["crate".to_string()];
+        let depth = self.register.open.len();
+        if self.rng.chance(25) {
+            let count = self.rng.below(depth + 1);
+            path.extend(self.open_names(count));
+        }
+        let stop = *self.rng.pick(&[8, 15, 30, 60]);
+        while path.len() < 19 && !self.rng.chance(stop) {
+            let Some((view, _)) = self.register.module(&path[1..]) else {
+                break;
+            };
+            let modules: Vec<usize> = self
+                .register
+                .held(view)
+                .filter(|&at| self.register.entries[at].kind == MODULE)
                 .collect();
-            order.entry((row[0], name)).or_insert(i);
-        }
-    }
-    for ((kind, name), i) in order {
-        let row = &rows[i];
-        out.push(format!(
-            "{}{kind} {} {} {}",
-            "  ".repeat(indent),
-            String::from_utf8_lossy(&name),
-            row[1],
-            row[3]
-        ));
-        if out.len() > 100_000 {
-            return false;
-        }
-        let inside = match (kind, row[4]) {
-            (3, 0) => (i as u64 + 1, time),
-            _ => (row[5], (row[6] as usize).min(time)),
-        };
-        if kind == 3 && !written(rows, inside.0, inside.1, indent + 1, out) {
-            return false;
-        }
-    }
-    true
-}
-
-fn answer(number: u32) -> String {
-    match (number >> 16, number & 0xffff) {
-        (0, _) => "ok".to_string(),
-        (1, mark) => format!("ok {mark}"),
-        (_, number) => format!("no {number}"),
-    }
-}
-
-fn compare(seed: u64, lists: usize, oracle: &str) -> std::io::Result<bool> {
-    let mut child = Command::new(oracle)
-        .arg("--tree")
-        .stdin(Stdio::piped())
-        .stdout(Stdio::piped())
-        .spawn()?;
-    let mut input = BufWriter::new(child.stdin.take().expect("piped"));
-    let mut output = BufReader::new(child.stdout.take().expect("piped")).lines();
-    let writer = std::thread::spawn(move || -> std::io::Result<()> {
-        let mut random = Random(seed);
-        for i in 0..lists {
-            for line in made(&mut random, i).lines {
-                writeln!(input, "{line}")?;
-            }
-            writeln!(input)?;
-        }
-        input.flush()
-    });
-    let mut random = Random(seed);
-    let mut told: BTreeMap<String, usize> = BTreeMap::new();
-    let (mut calls, mut large, mut trees, mut most) = (0usize, 0usize, 0usize, 0usize);
-    for i in 0..lists {
-        let list = made(&mut random, i);
-        let mut numbers = vec![0u32; list.lines.len()];
-        assert_eq!(replay(&list.bytes, &mut numbers), list.lines.len());
-        let mut skipped = false;
-        for (line, number) in list.lines.iter().zip(&numbers) {
-            let theirs = output.next().expect("an answer")?;
-            if theirs == "large" {
-                skipped = true;
-            }
-            if skipped {
-                continue;
-            }
-            let ours = answer(*number);
-            calls += 1;
-            *told
-                .entry(
-                    ours.split(' ')
-                        .take(if ours.starts_with("ok") { 1 } else { 2 })
-                        .collect::<Vec<_>>()
-                        .join(" "),
-                )
-                .or_default() += 1;
-            if ours != theirs {
-                println!("list {i}: {line}: {ours}, the original {theirs}");
-                return Ok(false);
-            }
-        }
-        let mut theirs = Vec::new();
-        loop {
-            let line = output.next().expect("a tree")?;
-            if line == "--" {
+            if modules.is_empty() {
                 break;
             }
-            theirs.push(line);
+            // The last ones are copies more often.
+            let at = match self.rng.chance(40) {
+                true => modules[modules.len() - 1],
+                false => *self.rng.pick(&modules),
+            };
+            path.push(self.register.entries[at].name.clone());
         }
-        if skipped {
-            large += 1;
-            continue;
-        }
-        let mut numbers = vec![0u64; 11 * 1024];
-        let count = rows(&list.bytes, &mut numbers);
-        let table: Vec<[u64; 11]> = numbers
-            .chunks(11)
-            .take(count)
-            .map(|row| row.try_into().expect("eleven"))
-            .collect();
-        let mut ours = Vec::new();
-        if written(&table, 0, count, 0, &mut ours) {
-            trees += 1;
-            most = most.max(ours.len());
-            if ours != theirs {
-                println!("list {i}: the trees differ");
-                return Ok(false);
+        // Not to an empty module, mostly.
+        while path.len() > 1 && self.rng.chance(80) {
+            let view = self.register.module(&path[1..]);
+            if view.is_some_and(|(view, _)| self.register.held(view).next().is_some()) {
+                break;
             }
+            path.pop();
         }
+        path
     }
-    writer.join().expect("the writer ends")?;
-    child.wait()?;
-    println!("{lists} lists, {calls} calls alike, {trees} trees alike (the largest {most} lines), {large} lists left at `large`");
-    println!("{told:?}");
-    Ok(true)
-}
 
-fn made(random: &mut Random, i: usize) -> List {
-    if i % 997 == 0 {
-        full_list(random)
-    } else {
-        let calls = [6, 20, 40, 90][random.below(4)];
-        list_of(random, calls)
-    }
-}
-
-/// Nanoseconds a call on trees of 10, 100 and 1,000 entries, the record copied in and out.
-fn time() {
-    for entries in [10usize, 100, 1000] {
-        let mut list = List::default();
-        for i in 0..entries {
-            list.named(5, "function", &format!("f{i}"), true, i as u16);
-        }
-        let base = list.bytes.len();
-        for (word, op) in [
-            ("insert refused", 5u8),
-            ("get_function", 8),
-            ("use refused", 6),
-            ("exit refused", 2),
-        ] {
-            let mut bytes = list.bytes[..base].to_vec();
-            let one = {
-                let mut l = List::default();
-                match op {
-                    5 => l.named(5, "function", "f0", true, 0),
-                    8 => l.get(8, "get_function", &format!("f{}", entries - 1)),
-                    6 => l.resolve_use(true, &["crate"], &[("zz".to_string(), String::new())]),
-                    _ => l.exit(),
+    fn drawn_elements(&mut self, view: Option<View>) -> Vec<Element> {
+        let count = match self.rng.below(200) {
+            0 => 33,
+            1..=4 => 0,
+            5..=12 => self.rng.between(5, 32),
+            13..=70 => self.rng.between(2, 4),
+            _ => 1,
+        };
+        let held: Vec<usize> = view
+            .map(|view| self.register.held(view).collect())
+            .unwrap_or_default();
+        let mut elements = Vec::new();
+        for _ in 0..count {
+            let name = if held.is_empty() || self.rng.chance(6) {
+                self.name()
+            } else {
+                let mut at = *self.rng.pick(&held);
+                for _ in 0..3 {
+                    let entry = &self.register.entries[at];
+                    if !entry.public || (entry.kind != MODULE && self.rng.chance(30)) {
+                        at = *self.rng.pick(&held);
+                    }
                 }
-                l.bytes
+                self.register.entries[at].name.clone()
             };
-            let turns = 20_000;
-            let mut numbers = vec![0u32; entries + turns];
-            let start = std::time::Instant::now();
-            replay(&bytes, &mut numbers);
-            let before = start.elapsed();
-            for _ in 0..turns {
-                bytes.extend(&one);
-            }
-            let start = std::time::Instant::now();
-            replay(&bytes, &mut numbers);
-            let after = start.elapsed();
-            println!(
-                "{entries} entries, {word}: {} ns a call",
-                (after - before.min(after)).as_nanos() / turns as u128
-            );
+            let alias = match self.rng.below(100) {
+                0 => "main".to_string(),
+                1..=55 => self.fresh(),
+                56..=75 => self.name(),
+                _ => String::new(),
+            };
+            elements.push((name, alias));
         }
-        let start = std::time::Instant::now();
-        let mut numbers = vec![0u32; entries];
-        for _ in 0..100 {
-            replay(&list.bytes, &mut numbers);
-        }
-        println!(
-            "{entries} entries inserted: {} ns a call",
-            start.elapsed().as_nanos() / (100 * entries as u128)
-        );
+        elements
     }
-}
 
-pub fn main() -> ExitCode {
-    let args: Vec<String> = std::env::args().skip(1).collect();
-    let words: Vec<&str> = args.iter().map(String::as_str).collect();
-    match words[..] {
-        ["--time"] => time(),
-        [seed, lists, oracle] => {
-            let (Ok(seed), Ok(lists)) = (seed.parse::<u64>(), lists.parse()) else {
-                return ExitCode::from(2);
-            };
-            if !compare(seed * 2 + 1, lists, oracle).expect("the oracle runs") {
-                return ExitCode::FAILURE;
+    fn drawn_use(&mut self, public: usize) {
+        let mut path = self.drawn_path();
+        match self.rng.below(60) {
+            0 => path.clear(),
+            1 => path[0] = "a".to_string(),
+            2 => path.push(self.rng.pick(&NAMES).to_string()),
+            3 => path.push("missing".to_string()),
+            4 if path.len() > 1 => {
+                let at = self.rng.between(1, path.len() - 1);
+                path[at] = self.name();
             }
+            5 => {
+                let count = self.rng.between(12, 18);
+                path.resize_with(count.max(path.len()), || "a".to_string());
+            }
+            _ => {}
         }
-        _ => {
-            eprintln!("scopes-diff SEED LISTS ORACLE, or scopes-diff --time");
-            return ExitCode::from(2);
+        let view = self.register.module(path.get(1..).unwrap_or_default());
+        let elements = self.drawn_elements(view.map(|(view, _)| view));
+        let visible = self.rng.chance(public);
+        if self.rng.chance(4) {
+            self.damaged_use(visible, &path, &elements);
+        } else {
+            self.import(visible, path, elements);
         }
     }
-    ExitCode::SUCCESS
+
+    /// A use's bytes, cut, lengthened or changed.
+    fn damaged_use(&mut self, visible: bool, path: &[String], elements: &[Element]) {
+        let mut bytes = form(path, elements);
+        for _ in 0..self.rng.between(1, 2) {
+            let at = self.rng.below(bytes.len() + 1);
+            let byte = *self.rng.pick(b"\x00\x01\x02\x11\x12\x20\x21\xffaA_0-");
+            match self.rng.below(4) {
+                0 => bytes.truncate(at),
+                1 => bytes.insert(at, byte),
+                2 => bytes.push(byte),
+                _ if at < bytes.len() => bytes[at] = byte,
+                _ => {}
+            }
+        }
+        let cost = match crate::calls::read_form(&bytes) {
+            Some((path, elements)) => self.register.cost(&path, &elements),
+            None => 0,
+        };
+        if cost <= self.budget {
+            self.budget -= cost;
+            self.ask(Call::Form(visible, bytes));
+        }
+    }
+
+    /// A module around the place of the use: its copy shows it as it is now.
+    fn use_of_ancestor(&mut self, public: usize) {
+        let depth = self.register.open.len();
+        if depth == 0 {
+            return self.drawn_use(public);
+        }
+        let which = self.rng.below(depth);
+        let mut path = vec!["crate".to_string()];
+        path.extend(self.open_names(which));
+        let name = self.register.entries[self.register.open[which]]
+            .name
+            .clone();
+        let alias = match self.rng.chance(85) {
+            true => self.fresh(),
+            false => self.name(),
+        };
+        let visible = self.rng.chance(public);
+        self.import(visible, path, vec![(name, alias)]);
+    }
+
+    /// Calls by chance, with few names.
+    fn mixed(&mut self) {
+        let calls = *self.rng.pick(&[6, 20, 40]);
+        for _ in 0..calls {
+            let (name, visible, mark) = (
+                self.rng.pick(&NAMES).to_string(),
+                self.rng.chance(70),
+                self.mark(),
+            );
+            match self.rng.below(30) {
+                0..=6 => {
+                    self.ask(Call::Enter(name, visible, mark));
+                }
+                7..=10 => {
+                    self.ask(Call::Exit);
+                }
+                11..=17 => self.declare(name, 70),
+                18..=19 => self.get(name),
+                _ => {
+                    let mut path = vec!["crate".to_string()];
+                    while self.rng.chance(55) {
+                        path.push(self.rng.pick(&NAMES).to_string());
+                    }
+                    let count = 1 + self.rng.below(3);
+                    let elements = (0..count)
+                        .map(|_| {
+                            let name = self.rng.pick(&NAMES).to_string();
+                            let alias = match self.rng.chance(50) {
+                                true => self.rng.pick(&NAMES).to_string(),
+                                false => String::new(),
+                            };
+                            (name, alias)
+                        })
+                        .collect();
+                    self.import(visible, path, elements);
+                }
+            }
+        }
+    }
+
+    /// Nested modules, re-exports, copies of copies; the weights differ from list to list.
+    fn guided(&mut self) {
+        let calls = *self.rng.pick(&[10, 25, 25, 40, 60]);
+        let public = *self.rng.pick(&[50, 80, 95]);
+        let weights = [
+            self.rng.between(2, 8),
+            self.rng.between(1, 5),
+            self.rng.between(1, 6),
+            self.rng.between(0, 2),
+            self.rng.between(4, 14),
+            self.rng.between(0, 4),
+        ];
+        for _ in 0..calls {
+            match self.rng.weighted(weights.iter().copied()) {
+                0 => {
+                    let (name, visible, mark) = (self.name(), self.rng.chance(public), self.mark());
+                    self.ask(Call::Enter(name, visible, mark));
+                }
+                1 => {
+                    self.ask(Call::Exit);
+                }
+                2 => {
+                    let name = self.name();
+                    self.declare(name, public);
+                }
+                3 => {
+                    let name = self.name();
+                    self.get(name);
+                }
+                4 => self.drawn_use(public),
+                _ => self.use_of_ancestor(public),
+            }
+        }
+    }
+
+    /// Each module imports the one before it, so that copies stand in copies in copies, deeper
+    /// than a path may reach; then uses through them.
+    fn chain(&mut self) {
+        let links = self.rng.between(3, 22);
+        let public = *self.rng.pick(&[80, 100]);
+        let inner = self.rng.between(1, 3);
+        self.budget = self.budget.max(3_000);
+        let mut before: Option<String> = None;
+        for _ in 0..links {
+            let (name, visible, mark) = (self.fresh(), self.rng.chance(public), self.mark());
+            self.ask(Call::Enter(name.clone(), visible, mark));
+            for _ in 0..self.rng.below(inner + 1) {
+                let name = self.rng.pick(&NAMES).to_string();
+                self.declare(name, public);
+            }
+            if let Some(before) = before {
+                let alias = match self.rng.below(3) {
+                    0 => String::new(),
+                    _ => self.rng.pick(&["p", "q"]).to_string(),
+                };
+                let path = vec!["crate".to_string()];
+                self.import(
+                    !self.register.entries.len().is_multiple_of(9),
+                    path,
+                    vec![(before, alias)],
+                );
+            }
+            // Sometimes the next module stands inside this one.
+            if self.rng.chance(85) || self.register.open.len() == limits::OPEN {
+                self.ask(Call::Exit);
+            }
+            before = Some(name);
+        }
+        for _ in 0..self.rng.between(4, 12) {
+            self.drawn_use(public);
+        }
+    }
+
+    /// Uses of modules around them, which double the tree, with entries made in between.
+    fn ancestors(&mut self) {
+        let public = *self.rng.pick(&[85, 100]);
+        let depth = self.rng.between(1, 9);
+        self.budget = self.budget.max(3_000);
+        for _ in 0..depth {
+            let (name, visible, mark) = (self.name(), self.rng.chance(public), self.mark());
+            self.ask(Call::Enter(name, visible, mark));
+            if self.rng.chance(40) {
+                let name = self.name();
+                self.declare(name, public);
+            }
+        }
+        for _ in 0..self.rng.between(6, 20) {
+            match self.rng.below(10) {
+                0..=3 => self.use_of_ancestor(public),
+                4..=6 => self.drawn_use(public),
+                7 => {
+                    let name = self.name();
+                    self.declare(name, public);
+                }
+                8 => {
+                    self.ask(Call::Exit);
+                }
+                _ => {
+                    let (name, visible, mark) = (self.name(), true, self.mark());
+                    self.ask(Call::Enter(name, visible, mark));
+                }
+            }
+        }
+    }
+
+    /// Up to 1,024 entries by uses of elements of all three kinds, and on to the limit by ones.
+    fn full_by_uses(&mut self) {
+        self.budget = self.budget.max(30_000);
+        let inner = self.rng.below(4);
+        self.ask(Call::Enter("a".to_string(), true, 1));
+        self.ask(Call::Alias("all".to_string(), true, 2));
+        self.ask(Call::Function("all".to_string(), true, 3));
+        self.ask(Call::Enum("ty".to_string(), true, 4));
+        self.ask(Call::Function("fun".to_string(), true, 5));
+        self.ask(Call::Enter("all".to_string(), true, 6));
+        for _ in 0..inner {
+            let name = self.fresh();
+            self.declare(name, 80);
+        }
+        self.ask(Call::Exit);
+        self.ask(Call::Exit);
+        // Full inside a module or at the root.
+        for _ in 0..*self.rng.pick(&[0, 0, 1, 3, 8, 9]) {
+            let (name, mark) = (self.fresh(), self.mark());
+            self.ask(Call::Enter(name, true, mark));
+        }
+        let path = || vec!["crate".to_string(), "a".to_string()];
+        while self.register.entries.len() + 96 <= limits::ENTRIES {
+            if self.rng.chance(6) {
+                let name = self.fresh();
+                self.declare(name, 80);
+            }
+            let elements = (0..self.rng.between(28, 32))
+                .map(|_| ("all".to_string(), self.fresh()))
+                .collect();
+            if !self.import(true, path(), elements) {
+                break;
+            }
+        }
+        for _ in 0..self.rng.between(6, 16) {
+            let left = limits::ENTRIES - self.register.entries.len();
+            match self.rng.below(12) {
+                // As many entries as are left, or one more.
+                0..=4 => {
+                    let wanted = (left + self.rng.below(2)).min(96);
+                    let mut elements = Vec::new();
+                    let mut count = 0;
+                    while count < wanted && elements.len() < 32 {
+                        let (name, makes) = match wanted - count >= 3 {
+                            true => ("all", 3),
+                            false => (*self.rng.pick(&["ty", "fun"]), 1),
+                        };
+                        elements.push((name.to_string(), self.fresh()));
+                        count += makes;
+                    }
+                    let visible = self.rng.chance(80);
+                    self.import(visible, path(), elements);
+                }
+                5 => {
+                    let name = self.fresh();
+                    self.declare(name, 80);
+                }
+                6 => {
+                    let name = format!("x{}", self.rng.between(1, self.fresh.max(1)));
+                    self.declare(name, 80);
+                }
+                7 => {
+                    let (name, mark) = (self.fresh(), self.mark());
+                    self.ask(Call::Enter(name, true, mark));
+                }
+                8 => {
+                    self.ask(Call::Exit);
+                }
+                9 => {
+                    let name = format!("x{}", self.rng.between(1, self.fresh.max(1)));
+                    self.get(name);
+                }
+                10 => self.use_of_ancestor(90),
+                _ => self.drawn_use(80),
+            }
+        }
+    }
+
+    /// A tree near 1,024 entries by declarations, then uses of up to 32 elements.
+    fn full_by_declarations(&mut self) {
+        self.budget = self.budget.max(30_000);
+        self.ask(Call::Enter("a".to_string(), true, 0));
+        let many = 20 + self.rng.below(12);
+        for i in 0..many {
+            self.ask(Call::Function(format!("e{i}"), true, i as u16));
+        }
+        self.ask(Call::Exit);
+        let rest = limits::ENTRIES - many - 1 - self.rng.below(40);
+        for i in 0..rest {
+            let visible = self.rng.chance(50);
+            self.ask(Call::Alias(format!("t{i}"), visible, i as u16));
+        }
+        for _ in 0..12 {
+            let elements = (0..1 + self.rng.below(32))
+                .map(|_| {
+                    (
+                        format!("e{}", self.rng.below(many + 1)),
+                        format!("u{}", self.rng.below(200)),
+                    )
+                })
+                .collect();
+            self.import(true, vec!["crate".to_string(), "a".to_string()], elements);
+            let name = self.name();
+            self.ask(Call::Enter(name, true, 7));
+            let name = self.name();
+            self.ask(Call::Enum(name, true, 8));
+        }
+        for _ in 0..10 {
+            self.ask(Call::Enter("deep".to_string(), true, 9));
+        }
+    }
 }

@@ -5,10 +5,11 @@ use std::path::Path;
 use std::sync::Arc;
 
 use super::{DependencyGraph, SourceMap, SourceModule, MAIN_MODULE};
-use crate::error::{Diagnostic, Error, Span};
+use crate::error::{Diagnostic, DiagnosticManager, Error, Span};
 use crate::parse::Program;
-use crate::resolution::DependencyMapBuilder;
+use crate::resolution::{DependencyMap, DependencyMapBuilder};
 use crate::source::{CanonPath, CanonSourceFile};
+use crate::unstable::UnstableFeatures;
 
 impl DependencyGraph {
     /// A graph of units without items, whose sources are named by their ids.
@@ -29,6 +30,23 @@ impl DependencyGraph {
             use_cache: HashMap::new(),
             dependencies: lists.iter().map(|list| list.to_vec()).enumerate().collect(),
         })
+    }
+
+    /// The graph of a program, where discovery met no fault.
+    pub(crate) fn discover(
+        root_source: CanonSourceFile,
+        dependency_map: Arc<DependencyMap>,
+    ) -> (Option<Self>, DiagnosticManager) {
+        Self::build_graph(root_source, dependency_map, &UnstableFeatures)
+    }
+
+    pub(crate) fn sources(&self) -> &SourceMap {
+        &self.sources
+    }
+
+    /// The ids that a unit lists.
+    pub(crate) fn list(&self, id: usize) -> &[usize] {
+        self.dependencies.get(&id).map_or(&[], Vec::as_slice)
     }
 
     pub(crate) fn linked_order(&self) -> Result<Vec<usize>, Diagnostic> {

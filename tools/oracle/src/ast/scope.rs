@@ -1,6 +1,8 @@
 //! The original's module tree behind calls that give document 01's numbers, keep its limits and
 //! log the entries in the order made.
 
+pub mod bare;
+
 use std::rc::Rc;
 use std::sync::Arc;
 

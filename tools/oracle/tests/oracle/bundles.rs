@@ -2,6 +2,7 @@
 //! number that is not about the bundle's own bytes.
 
 use crate::common::*;
+use oracle::judge::Judge;
 
 /// The printed case: bundle, answer and image.
 #[test]
@@ -650,4 +651,61 @@ fn large() {
     };
     assert_eq!(of(19).line(0), "ok 1");
     assert_eq!(of(21).answer(), "large\n");
+}
+
+/// Steps 3 and 4 alone.
+#[test]
+fn discovery() {
+    let discover = |bytes: &[u8]| Judge::new().expect("a root").discover(bytes).print();
+    let of = |main: Vec<Item>, a: Vec<Item>, b: Vec<Item>| {
+        let files = [
+            file("/r/m.simf", main),
+            file("/r/a.simf", a),
+            file("/r/b.simf", b),
+        ];
+        discover(&bundle("/r", ["/r", "/r/c.simf"], [], files).bytes)
+    };
+    let nested = module("n", [use_("crate::b", ""), use_("crate::a", "")]);
+    assert_eq!(
+        of(
+            vec![nested, use_("crate::b::x", "")],
+            vec![],
+            vec![use_("crate::a", "")]
+        ),
+        "unit 0 /r/m.simf 1 2\nunit 1 /r/b.simf 2\nunit 2 /r/a.simf\norder 2 1 0\n"
+    );
+    // A file that only imports itself is no ring; `main` and enums are no concern of these steps.
+    assert_eq!(
+        of(
+            vec![use_("crate::m", ""), use_("crate::a", "")],
+            vec![enum_("E")],
+            vec![]
+        ),
+        "unit 0 /r/m.simf 0 1\nunit 1 /r/a.simf\norder 1 0\n"
+    );
+    assert_eq!(
+        of(
+            vec![use_("crate::a", "")],
+            vec![use_("crate::b", "")],
+            vec![use_("crate::a", "")]
+        ),
+        "unit 0 /r/m.simf 1\nunit 1 /r/a.simf 2\nunit 2 /r/b.simf 1\nring 1 2\n"
+    );
+    // Lookups come before readings; a folder that cannot be read is told once.
+    let faulty = of(
+        vec![
+            use_("crate::c", ""),
+            use_("lib::a", ""),
+            use_("crate::c", ""),
+            use_("crate::a", ""),
+        ],
+        vec![use_("", "")],
+        vec![],
+    );
+    let numbers: Vec<&str> = faulty
+        .lines()
+        .map(|line| line.split(' ').nth(1).expect("a number"))
+        .collect();
+    assert_eq!(numbers, ["21", "23", "20"]);
+    assert_eq!(discover(&[1, 0, 1, 0, 255]), "no 1 4\n");
 }

@@ -143,6 +143,37 @@ fn tree_arguments() {
     assert_eq!(written, "");
 }
 
+/// A use by its bytes: cut and left-over bytes, counts, names; the first in byte order is told.
+#[test]
+fn tree_use_bytes() {
+    let crate_f = "0105637261746501016600";
+    let list = [
+        ("function f 1 1".to_string(), "ok"),
+        (format!("use_form 0 {crate_f}"), "no 45"),
+        (
+            format!("use_form 0 {}", crate_f.replace("00", "0167")),
+            "ok",
+        ),
+        (format!("use_form 0 {crate_f}00"), "no 1"),
+        (format!("use_form 0 {}", &crate_f[..20]), "no 1"),
+        (format!("use_form 2 {}", &crate_f[..20]), "no 6"),
+        ("use_form 0 ".to_string(), "no 1"),
+        ("use_form 0 00".to_string(), "no 1"),
+        ("use_form 0 0000".to_string(), "no 40"),
+        ("use_form 0 12".to_string(), "no 3"),
+        ("use_form 0 11".to_string(), "no 1"),
+        ("use_form 0 0021".to_string(), "no 3"),
+        ("use_form 0 010130".to_string(), "no 5"),
+        ("use_form 0 0100".to_string(), "no 5"),
+        ("use_form 0 01ff61".to_string(), "no 1"),
+        ("get_function g".to_string(), "ok 1"),
+    ];
+    let lines: Vec<&str> = list.iter().map(|(line, _)| line.as_str()).collect();
+    let (answers, _) = calls(&lines);
+    let expected: Vec<&str> = list.iter().map(|(_, answer)| *answer).collect();
+    assert_eq!(answers, expected);
+}
+
 /// 51 leaves the tree as it was: nine open modules, 1,024 entries.
 #[test]
 fn tree_limits() {

@@ -1,0 +1,473 @@
+//! The cost of calls, of the port and of the original, in instructions, time and stack.
+//!
+//! A call is measured in a tree of so many entries, most of them in the current module, so that
+//! a search passes them all. The port's calls go through crates/scopes_c, which reads them from
+//! bytes: a call's cost is that of a list that ends with it less that of the list without it. The
+//! original's are counted inside `scopes_diff_measured`, over fresh trees, since the seeds of its
+//! hash maps differ from run to run.
+
+use std::hint::black_box;
+use std::process::{Command, Stdio};
+use std::time::{Duration, Instant};
+
+use oracle::ast::scope::bare::{self, Bare};
+
+use crate::calls::Call;
+use crate::port;
+
+/// Fresh trees of the original.
+const TREES: usize = 20;
+const SIZES: [usize; 3] = [10, 100, 1000];
+
+/// Calls to measure, and the list that they follow.
+struct Case {
+    before: Vec<Call>,
+    calls: Vec<Call>,
+}
+
+#[derive(Clone, Copy, PartialEq, Eq)]
+enum Who {
+    /// By value, through the replay.
+    Port,
+    /// Over lent arrays, where the archive has that walk.
+    Walk,
+    Original,
+}
+
+impl Who {
+    const ALL: [Who; 3] = [Who::Port, Who::Walk, Who::Original];
+
+    fn word(self) -> &'static str {
+        match self {
+            Who::Port => "port",
+            Who::Walk => "walk",
+            Who::Original => "original",
+        }
+    }
+
+    fn of(word: &str) -> Option<Who> {
+        Who::ALL.into_iter().find(|who| who.word() == word)
+    }
+}
+
+/// The calls by name: the eight, and a list of 1,000 calls from an empty tree.
+const ROWS: [&str; 8] = [
+    "enter",
+    "exit",
+    "insert_alias",
+    "insert_enum",
+    "insert_function",
+    "resolve_use",
+    "get_alias",
+    "get_function",
+];
+
+fn function(name: &str) -> Call {
+    Call::Function(name.to_string(), true, 1)
+}
+
+fn alias(name: &str) -> Call {
+    Call::Alias(name.to_string(), true, 1)
+}
+
+fn enter(name: &str) -> Call {
+    Call::Enter(name.to_string(), true, 1)
+}
+
+fn use_of(module: &str, elements: Vec<(String, String)>) -> Call {
+    let path = vec!["crate".to_string(), module.to_string()];
+    Call::Use(true, path, elements)
+}
+
+/// A module `m` with a type, a function and a module `g` of one entry; and an open module with
+/// uses of `g` that fill up.
+fn tree_of(entries: usize) -> Vec<Call> {
+    let mut calls = vec![enter("m"), alias("g"), function("g"), enter("g")];
+    calls.extend([function("i"), Call::Exit, Call::Exit, enter("here")]);
+    let mut left = entries - 6;
+    while left >= 3 {
+        let count = (left / 3).min(32);
+        let elements = (0..count).map(|at| ("g".to_string(), format!("u{left}_{at}")));
+        calls.push(use_of("m", elements.collect()));
+        left -= 3 * count;
+    }
+    calls.extend((0..left).map(|at| function(&format!("d{at}"))));
+    calls
+}
+
+/// Modules of eight calls each: 1,000 calls that make 624 entries.
+fn list_of_1000() -> Vec<Call> {
+    let mut calls = Vec::new();
+    for at in 0..125 {
+        calls.extend([
+            enter(&format!("m{at}")),
+            alias("t"),
+            Call::Enum("e".to_string(), true, 1),
+            function("f"),
+            match at {
+                0 => function("main"),
+                _ => {
+                    let before = format!("m{}", at - 1);
+                    use_of(&before, vec![("f".to_string(), "g".to_string())])
+                }
+            },
+            Call::GetAlias("t".to_string()),
+            Call::GetFunction("f".to_string()),
+            Call::Exit,
+        ]);
+    }
+    calls
+}
+
+fn case(row: &str, entries: usize) -> Option<Case> {
+    if row == "list" {
+        return Some(Case {
+            before: Vec::new(),
+            calls: list_of_1000(),
+        });
+    }
+    let mut before = tree_of(entries);
+    // A second enter would search an empty module.
+    let times = if row == "enter" { 1 } else { 8 };
+    let calls = (0..times).map(|at| match row {
+        "enter" => enter(&format!("x{at}")),
+        "exit" => Call::Exit,
+        "insert_alias" => alias(&format!("x{at}")),
+        "insert_enum" => Call::Enum(format!("x{at}"), true, 1),
+        "insert_function" => function(&format!("x{at}")),
+        "resolve_use" => use_of("m", vec![("g".to_string(), format!("x{at}"))]),
+        "get_alias" => Call::GetAlias("q".to_string()),
+        _ => Call::GetFunction("q".to_string()),
+    });
+    let calls: Vec<Call> = calls.collect();
+    match row {
+        "exit" => before.extend((0..times).map(|at| enter(&format!("x{at}")))),
+        "get_alias" => before.push(alias("q")),
+        "get_function" => before.push(function("q")),
+        _ if ROWS.contains(&row) => {}
+        _ => return None,
+    }
+    Some(Case { before, calls })
+}
+
+fn bytes(calls: &[Call]) -> Vec<u8> {
+    let mut bytes = Vec::new();
+    for call in calls {
+        call.bytes(&mut bytes);
+    }
+    bytes
+}
+
+fn prepared(calls: &[Call]) -> Vec<bare::Call> {
+    let element = |(name, alias): &(String, String)| bundle_format::Element {
+        name: name.clone().into_bytes(),
+        alias: (!alias.is_empty()).then(|| alias.clone().into_bytes()),
+    };
+    let prepare = |call: &Call| match call {
+        Call::Enter(name, public, _) => bare::Call::enter(name, *public),
+        Call::Exit => bare::Call::Exit,
+        Call::Alias(name, public, mark) => bare::Call::alias(name, *public, (*mark).into()),
+        Call::Enum(name, public, mark) => bare::Call::enumeration(name, *public, (*mark).into()),
+        Call::Function(name, public, mark) => bare::Call::function(name, *public, (*mark).into()),
+        Call::Use(public, path, elements) => {
+            let path: Vec<Vec<u8>> = path.iter().map(|name| name.clone().into_bytes()).collect();
+            let elements: Vec<_> = elements.iter().map(element).collect();
+            bare::Call::resolve_use(*public, &path, &elements)
+        }
+        Call::Form(..) => unreachable!("no use by its bytes is measured"),
+        Call::GetAlias(name) => bare::Call::get_alias(name),
+        Call::GetFunction(name) => bare::Call::get_function(name),
+    };
+    calls.iter().map(prepare).collect()
+}
+
+/// Replays bytes; all calls are to be accepted.
+fn replay(who: Who, list: &[u8], numbers: &mut [u32]) {
+    let count = match who {
+        Who::Walk => port::walk(black_box(list), numbers),
+        _ => port::replay(black_box(list), numbers),
+    };
+    assert!(numbers[..count].iter().all(|number| number >> 16 < 2));
+}
+
+/// Makes calls; all are to be accepted.
+fn make(tree: &mut Bare, calls: &[bare::Call]) {
+    for call in black_box(calls) {
+        assert!(tree.call(call));
+    }
+}
+
+/// What is counted of the original.
+#[no_mangle]
+#[inline(never)]
+pub fn scopes_diff_measured(tree: &mut Bare, calls: &[bare::Call]) {
+    make(tree, calls);
+}
+
+/// `measure ROW WHO ENTRIES WITH`, for a counter of instructions: WITH is 1 with the calls, 0
+/// without them; what is made beforehand does not depend on it. The row `list` is the list of
+/// 1,000 calls.
+pub fn measure(row: &str, who: &str, entries: usize, with: bool) -> Option<()> {
+    let who = Who::of(who)?;
+    let case = case(row, entries)?;
+    match who {
+        Who::Port | Who::Walk => {
+            let mut list = bytes(&case.before);
+            let end = list.len();
+            list.extend(bytes(&case.calls));
+            let mut numbers = vec![0; case.before.len() + case.calls.len()];
+            let end = if with { list.len() } else { end };
+            replay(who, &list[..end], &mut numbers);
+        }
+        Who::Original => {
+            let (before, calls) = (prepared(&case.before), prepared(&case.calls));
+            for _ in 0..TREES {
+                let mut tree = Bare::default();
+                make(&mut tree, &before);
+                scopes_diff_measured(&mut tree, &calls[..if with { calls.len() } else { 0 }]);
+                // What a tree costs when it is dropped is no part of a call.
+                std::mem::forget(tree);
+            }
+        }
+    }
+    Some(())
+}
+
+/// Instructions of this program with `measure` and these arguments; where a function is named,
+/// those spent in it alone.
+fn counted(row: &str, who: Who, entries: usize, with: bool, inside: Option<&str>) -> u64 {
+    let program = std::env::current_exe().expect("this program");
+    let mut valgrind = Command::new("valgrind");
+    valgrind.args(["--tool=callgrind", "--callgrind-out-file=/dev/null"]);
+    if let Some(name) = inside {
+        valgrind.arg(format!("--toggle-collect={name}"));
+    }
+    let done = valgrind
+        .arg(program)
+        .args(["measure", row, who.word()])
+        .args([entries.to_string(), u8::from(with).to_string()])
+        .output()
+        .expect("valgrind runs");
+    let text = String::from_utf8_lossy(&done.stderr);
+    let line = text
+        .lines()
+        .find_map(|line| line.split_once("Collected : "));
+    let number = line.and_then(|(_, number)| number.trim().parse().ok());
+    number.unwrap_or_else(|| panic!("no count: {text}"))
+}
+
+/// Instructions of the calls of a row.
+fn spent(row: &str, who: Who, entries: usize, inside: Option<&str>) -> u64 {
+    match who {
+        Who::Port | Who::Walk => {
+            let with = counted(row, who, entries, true, inside);
+            with - counted(row, who, entries, false, inside)
+        }
+        Who::Original => {
+            counted(row, who, entries, true, Some("scopes_diff_measured")) / TREES as u64
+        }
+    }
+}
+
+/// The rows of a table, each with its sizes; the last is the list.
+fn rows() -> impl Iterator<Item = (&'static str, usize)> {
+    let sizes = |row| SIZES.map(|entries| (row, entries));
+    ROWS.into_iter().flat_map(sizes).chain([("list", 0)])
+}
+
+fn tell(row: &str, entries: usize, port: f64, inside: Option<f64>, walk: f64, original: f64) {
+    let title = match row {
+        "list" => "list of 1,000 calls | ".to_string(),
+        row => format!("{row} | {entries}"),
+    };
+    let inside = inside.map_or("".to_string(), |count| format!("{count:.0}"));
+    let (ratio, walk) = match cfg!(walk) {
+        true => (format!("{:.1}", walk / original), format!("{walk:.0}")),
+        false => Default::default(),
+    };
+    println!(
+        "| {title} | {port:.0} | {inside} | {walk} | {original:.0} | {:.0} | {ratio} |",
+        port / original
+    );
+}
+
+/// A table of instructions a call, and of the list as a whole.
+pub fn instructions() {
+    println!("| Call | Entries | By value | Inside the call | Lent | Original | Ratio by value | Ratio lent |");
+    println!("|---|---|---|---|---|---|---|---|");
+    for (row, entries) in rows() {
+        // Where the compiler left the call, or all of it but a few instructions, a function.
+        let inside = match row {
+            "get_alias" | "get_function" => Some("scopes::get"),
+            "enter" | "insert_alias" | "insert_enum" | "insert_function" => Some("scopes::insert"),
+            _ => None,
+        };
+        let times = match row {
+            "list" => 1,
+            row => case(row, entries).expect("a row").calls.len(),
+        };
+        let spent = |who, inside| spent(row, who, entries, inside) as f64 / times as f64;
+        let walk = match cfg!(walk) {
+            true => spent(Who::Walk, None),
+            false => 0.0,
+        };
+        let inside = inside.map(|name| spent(Who::Port, Some(name)));
+        let (port, original) = (spent(Who::Port, None), spent(Who::Original, None));
+        tell(row, entries, port, inside, walk, original);
+    }
+}
+
+/// The least of many runs.
+fn least(runs: usize, mut run: impl FnMut() -> Duration) -> f64 {
+    let least = (0..runs).map(|_| run()).min().expect("a run");
+    least.as_nanos() as f64
+}
+
+fn timed(run: impl FnOnce()) -> Duration {
+    let start = Instant::now();
+    run();
+    start.elapsed()
+}
+
+/// A table of nanoseconds a call, the least of many runs in this one process.
+pub fn time() {
+    println!("| Call | Entries | By value | | Lent | Original | Ratio by value | Ratio lent |");
+    println!("|---|---|---|---|---|---|---|---|");
+    for (row, entries) in rows() {
+        let case = case(row, entries).expect("a row");
+        let (runs, times) = match row {
+            "list" => (50, 1.0),
+            _ => (500, case.calls.len() as f64),
+        };
+        let mut list = bytes(&case.before);
+        let end = list.len();
+        list.extend(bytes(&case.calls));
+        let mut numbers = vec![0; case.before.len() + case.calls.len()];
+        let [port, walk] = [Who::Port, Who::Walk].map(|who| {
+            let with = least(runs, || timed(|| replay(who, &list, &mut numbers)));
+            let without = least(runs, || timed(|| replay(who, &list[..end], &mut numbers)));
+            (with - without) / times
+        });
+
+        let (before, calls) = (prepared(&case.before), prepared(&case.calls));
+        let original = least(runs, || {
+            let mut tree = Bare::default();
+            make(&mut tree, &before);
+            timed(|| make(&mut tree, &calls))
+        });
+        tell(row, entries, port, None, walk, original / times);
+    }
+}
+
+/// A tree whose modules stand in each other: nine open, then copies of a chain of copies.
+fn deepest(copies: usize) -> Vec<Call> {
+    let mut calls = vec![enter("c0"), function("f"), Call::Exit];
+    for at in 1..=copies {
+        let before = format!("c{}", at - 1);
+        let path = vec!["crate".to_string()];
+        calls.push(enter(&format!("c{at}")));
+        calls.push(Call::Use(true, path, vec![(before, String::new())]));
+        calls.push(Call::Exit);
+    }
+    calls.extend((0..9).map(|at| enter(&format!("n{at}"))));
+    calls
+}
+
+fn stack_case(row: &str) -> Option<Vec<Call>> {
+    let mut calls = deepest(60);
+    let last = match row {
+        "nothing" => return Some(Vec::new()),
+        "enter" => {
+            calls.push(Call::Exit);
+            enter("x")
+        }
+        "exit" => Call::Exit,
+        "insert_alias" => alias("x"),
+        "insert_enum" => Call::Enum("x".to_string(), true, 1),
+        "insert_function" => function("x"),
+        "resolve_use" => {
+            let path = vec!["crate".to_string()];
+            Call::Use(true, path, vec![("c60".to_string(), String::new())])
+        }
+        "get_alias" => Call::GetAlias("x".to_string()),
+        "get_function" => Call::GetFunction("x".to_string()),
+        _ => return None,
+    };
+    calls.push(last);
+    Some(calls)
+}
+
+/// `stack ROW WHO PAGES`: a list that ends with the call, in a thread whose stack has so many
+/// pages of 4 KB. Where they are too few the process ends by a signal.
+pub fn stack(row: &str, who: &str, pages: usize) -> Option<()> {
+    let (who, calls) = (Who::of(who)?, stack_case(row)?);
+    // All but the last call, which is made in the thread; the port makes the whole list there.
+    let (list, mut numbers) = (bytes(&calls), vec![0; calls.len()]);
+    let calls = prepared(&calls);
+    let (last, before) = match calls.split_last() {
+        Some((last, before)) => (Some(last), before),
+        None => (None, &[][..]),
+    };
+    let mut tree = Bare::default();
+    make(&mut tree, before);
+    std::thread::scope(|scope| {
+        let thread = std::thread::Builder::new().stack_size(4096 * pages);
+        let thread = thread.spawn_scoped(scope, || match who {
+            Who::Port | Who::Walk if list.is_empty() => {}
+            Who::Port => {
+                port::replay(&list, &mut numbers);
+            }
+            Who::Walk => {
+                port::walk(&list, &mut numbers);
+            }
+            Who::Original => {
+                last.map(|last| tree.call(last));
+            }
+        });
+        thread.expect("a thread").join().expect("no panic");
+    });
+    // A deep tree is dropped by recursion.
+    std::mem::forget(tree);
+    Some(())
+}
+
+/// The fewest pages with which a call ends well.
+fn pages(row: &str, who: Who) -> usize {
+    let program = std::env::current_exe().expect("this program");
+    let ends_well = |pages: usize| {
+        Command::new(&program)
+            .args(["stack", row, who.word(), &pages.to_string()])
+            .stderr(Stdio::null())
+            .status()
+            .expect("this program runs")
+            .success()
+    };
+    let (mut few, mut enough) = (0, 4096);
+    assert!(ends_well(enough), "{row}");
+    while few + 1 < enough {
+        let middle = (few + enough) / 2;
+        match ends_well(middle) {
+            true => enough = middle,
+            false => few = middle,
+        }
+    }
+    enough
+}
+
+/// A table of the stack that a call needs over that of an empty thread.
+pub fn stacks() {
+    println!("| Call | By value, KB | Lent, KB | Original, KB |");
+    println!("|---|---|---|---|");
+    for row in ROWS {
+        let over = |who| 4 * (pages(row, who) - pages("nothing", who));
+        let walk = match cfg!(walk) {
+            true => over(Who::Walk).to_string(),
+            false => String::new(),
+        };
+        println!(
+            "| {row} | {} | {walk} | {} |",
+            over(Who::Port),
+            over(Who::Original)
+        );
+    }
+}
