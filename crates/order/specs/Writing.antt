@@ -1,19 +1,16 @@
 -- Writing a report byte by byte. Assumes nothing.
-use Prim.Native.Nat.{ℕ, zero, suc, _+_, _*_, _/_, _%_, _<_, _≤_}
+use Prim.Native.Nat.{ℕ, zero, suc, _+_, _*_, _/_, _<_, _≤_}
 use native.Mathlib.Nat.{mod-eq-of-lt}
 use native.Mathlib.Numerals.{add-one}
 use native.Mathlib.Omega.{arith}
 use mathlib.Core.Path.{_≡_, refl, sym, ap, _∙_}
 use mathlib.Core.List.{List, [], _∷_, _++_, map, map-append, append-assoc, append-nil}
-use lib.ListN.{length, getD, set, take, drop, length-append, length-map, length-drop, length-set}
-use lib.Seq.{take-at, drop-at, set-at, drop-cons, take-suc, append-snoc, length-take-le, drop-drop}
+use lib.ListN.{length, getD, set, take, drop, length-append, length-map, length-set}
+use lib.Seq.{set-at, drop-cons, take-suc, append-snoc, length-take-le, drop-drop}
 use borrow.Author.Tests.{le-leb, lt-leb}
 use Rattle.bundle.specs.Encode.{joined}
-use Rattle.bundle.specs.Limits.{file-limit, use-limit}
-use Rattle.discovery.specs.Discovery.{Fault}
 use Rattle.discovery.specs.Meaning.{faultsIn}
 use Rattle.order.specs.Report.{Record, fault, ring, ring-met, low, placeBytes, recordBytes, reportBytes, recordLength, reportLength, report-length, lentReport, reporting, small-buffer}
-use Rattle.order.specs.declared.Reported.{Reported}
 use Rattle.order.specs.declared.Reported.the-variants as reported
 
 -- the records that the arrays stand for
