@@ -1,11 +1,11 @@
 -- DEMAND 3, FIRST HALF, of what the operation answers: for whatever bytes and whatever buffer, the answer and the buffer are one
 -- of five kinds. Assumes nothing.
-use Prim.Native.Nat.{ℕ, zero, suc, _+_, _<_, _≤_}
+use Prim.Native.Nat.{ℕ, zero, suc, _<_, _≤_}
 use native.Mathlib.Nat.{not-suc-le-zero, le-of-suc-le-suc}
 use native.Mathlib.Omega.{arith}
 use mathlib.Core.Path.{_≡_, refl, sym, ap, subst, _∙_}
-use mathlib.Core.Bool.{Bool, true, false, cond}
-use mathlib.Core.List.{List, [], _∷_, _++_, map, List·Memᴰ, List·Memᴰ·head, List·Memᴰ·tail}
+use mathlib.Core.Bool.{Bool, true, false}
+use mathlib.Core.List.{List, [], _∷_, map, List·Memᴰ, List·Memᴰ·head, List·Memᴰ·tail}
 use lib.Dec.{ltb}
 use lib.ListN.{length, getD, take, drop, replicate, length-map, List·getD-append}
 use lib.Seq.{take-at}
@@ -14,8 +14,7 @@ use Rattle.bundle.specs.Bundle.{Text, Bundle}
 use Rattle.bundle.specs.Limits.{file-limit}
 use Rattle.bundle.specs.Read.{Reading, value, refused, read}
 use Rattle.resolution.specs.Call.{position}
-use Rattle.discovery.specs.Discovery.{Fault, discoverDependencies, pathsOf}
-use Rattle.discovery.specs.Reached.{Reached}
+use Rattle.discovery.specs.Discovery.{Fault, pathsOf}
 use Rattle.discovery.specs.Facts.{getD-mem, id-found, pigeons, pathsAt}
 use Rattle.discovery.specs.Right.{discovered}
 use Rattle.order.specs.Run.{Outcome, faulty, closed, linked, ordered, unitsOf, filesOf}
@@ -27,7 +26,6 @@ use Rattle.order.specs.Listed.{reached-listed}
 use Rattle.order.specs.Call.{padded, refusing, reportedTo, linking, answering, unitFiles, answerTo, reportTo, orderAnswer, orderReport}
 use Rattle.order.specs.declared.Answer.{Answer}
 use Rattle.order.specs.declared.Reported.{Reported}
-use Rattle.order.specs.declared.Reported.the-variants as reported
 
 -- the paths of the linked order that an answer gives: of each id, in order, the path of its file
 abbrev pub linkedPaths : Bundle → Answer → List Text

@@ -1,13 +1,12 @@
 -- No number is cut in a report of an accepted bundle: a fault's number is one from 20 to 25, its place is the mark of a use of a
 -- file, two bytes hold it, and one byte holds each id of a ring. Assumes nothing.
-use Prim.Native.Nat.{ℕ, zero, suc, _+_, _-_, _<_, _≤_}
+use Prim.Native.Nat.{ℕ, zero, suc, _+_, _<_, _≤_}
 use native.Mathlib.Omega.{arith}
 use mathlib.Core.Path.{_≡_, refl, sym, ap, subst, _∙_}
-use mathlib.Core.Bool.{Bool, true, false, cond}
 use mathlib.Core.Logic.{⊎-elim}
 use mathlib.Core.List.{List, [], _∷_, _++_, map, List·Memᴰ, List·Memᴰ·head, List·Memᴰ·tail, List·Memᴰ·not-nil, List·Memᴰ·cases-cons, List·Memᴰ·append-cases, List·Memᴰ·eq-of-singleton, Memᴰ·of-map}
 use lib.Dec.{ltb}
-use lib.ListN.{length, getD, drop, length-append, length-drop, length-map}
+use lib.ListN.{length, getD, length-append, length-drop, length-map}
 use Rattle.names.specs.Bytes.{same, member}
 use Rattle.bundle.specs.Bundle.{Text, Items, none, named, use-of, module-of, ignored, File, Bundle}
 use Rattle.bundle.specs.Encode.{two, string, counted, element, sized, fields, encode}
@@ -18,7 +17,7 @@ use Rattle.bundle.specs.Theorems.{marks-are-offsets}
 use Rattle.resolution.specs.Lists.{listsOf}
 use Rattle.resolution.specs.Resolution.{Resolved, to, fails, number}
 use Rattle.resolution.specs.Resolution as resolution
-use Rattle.discovery.specs.Discovery.{Use, uses, programOf, ResolvedUse, resolveSingle, useCache, Fault, Import, faultOf, importOf, lookupFaults, validImports, Loading, load, loadAll, Graph, current, handled, turn, turns, start, pathsOf, discoverDependencies}
+use Rattle.discovery.specs.Discovery.{Use, uses, programOf, ResolvedUse, resolveSingle, useCache, Fault, Import, faultOf, importOf, lookupFaults, validImports, Loading, load, loadAll, Graph, current, turn, turns, start, pathsOf, discoverDependencies}
 use Rattle.discovery.specs.Facts.{cond-elim, mem-snoc, pigeons}
 use Rattle.discovery.specs.Right.{discovered}
 use Rattle.graph.specs.Facts.{pigeonhole}
