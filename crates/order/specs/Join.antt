@@ -22,6 +22,7 @@ use Rattle.bundle.specs.declared.Checked.the-variants.{Ok, Refused}
 use Rattle.resolution.specs.Call.{position}
 use Rattle.discovery.specs.declared.Graph.{Graph}
 use Rattle.discovery.specs.Discovery.{Fault, discoverDependencies, pathsOf}
+use Rattle.discovery.specs.Weight.{reached-file}
 use Rattle.discovery.specs.Right.{discovered}
 use Rattle.discovery.specs.Meaning.{faultsOf}
 use Rattle.discovery.specs.Turns.{firstLists, length-lists, Discovers}
@@ -34,7 +35,7 @@ use Rattle.graph.specs.Given.{depsOf, below, all, fits, knows, fitting, known}
 use Rattle.graph.specs.GivenFacts.{is-accepted}
 use Rattle.order.specs.Run.{listOf, outcome, ordered, unitsOf}
 use Rattle.order.specs.Units.{within}
-use Rattle.order.specs.Listed.{reached-listed, placed}
+use Rattle.order.specs.Listed.{placed}
 use Rattle.order.specs.Report.{recordsOf, lentReport}
 use Rattle.order.specs.Call.{refusing, answering, unitFiles, orderAnswer, orderReport}
 use Rattle.order.specs.Steps.{givenOf, Found, outcomeOf, answerOf}
@@ -156,7 +157,7 @@ module _ (b : Bundle) (w : WellFormed b) (g : Graph) (d : Discovers b g) where
       record {
         units = sym (discovered b .handled-all) ∙ (ap length deps ∙ n);
         sources = sources-are;
-        places = λ x m. placed b w x (reached-listed b (getD (pathsOf b) x [])
+        places = λ x m. placed b w x (reached-file b (getD (pathsOf b) x [])
             (discovered b .sound (getD (pathsOf b) x []) (subst (λ (l : List Text). List·Memᴰ (getD (pathsOf b) x []) l) (sym sources-are) (Memᴰ·map (λ (y : ℕ). getD (pathsOf b) y []) m))));
         lists = λ u h. ap (λ (l : List (List ℕ)). getD l u []) deps ∙ list-at (g .units) (record-of.listOf g) u h;
         faults = ap (λ (x : definition.Graph). x .faults) (d .is);

@@ -1,7 +1,6 @@
 -- The loop of `tell_ids` goes on while something is left. Assumes nothing.
-use Prim.Native.Nat.{ℕ, _+_, _-_, _≤_, _<_, _^_}
+use Prim.Native.Nat.{_-_}
 use borrow.Author.Needs.{needs}
-use lib.ListN.{length}
 use Rattle.order_vectors.proofs.tell_ids.Statement.{statement}
 use Rattle.order_vectors.proofs.tell_ids.Tie as tie
 

@@ -1,5 +1,5 @@
 -- The loop of `tell_ring` goes on while something is left. Assumes nothing.
-use Prim.Native.Nat.{ℕ, _+_, _-_, _≤_, _<_, _^_}
+use Prim.Native.Nat.{_-_}
 use borrow.Author.Needs.{needs}
 use lib.ListN.{length}
 use Rattle.order_vectors.proofs.tell_ring.Statement.{statement}
