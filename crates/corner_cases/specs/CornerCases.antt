@@ -14,6 +14,7 @@ use Rattle.discovery.specs.Cases as discovery
 use Rattle.graph.specs.Linearize.{linearize}
 use Rattle.graph.specs.Corners.{corners, lists, holds}
 use Rattle.graph.specs.Corners as graph
+use Rattle.order.specs.Cases as order
 use Rattle.scopes.specs.Register.{registered}
 use Rattle.scopes.specs.Form.{calls-of}
 use Rattle.scopes.specs.Cases.{Case, answers, expected}
@@ -26,6 +27,8 @@ pub data Row : Type 0 where
   discovers : discovery.Row → Row
   -- C7, C8: lists, and the order or ring
   orders : graph.Row → Row
+  -- C6 to C8 and the printed case: a bundle, and its linked order or the report
+  links : order.Row → Row
   -- C9 to C12: tree calls, and their answers
   tells : Case → Row
 
@@ -33,6 +36,7 @@ abbrev pub Right : Row → Type 0
 Right (resolves r) = resolve (r .bundle) (r .importer) (r .use-bytes) ≡ r .answer
 Right (discovers r) = discovery.discovery (read (encode (r .bundle))) ≡ r .expected
 Right (orders r) = linearize (lists (r .deps)) (length (r .deps)) ≡ r .out
+Right (links r) = order.ordering (read (encode (r .bundle))) ≡ r .expected
 Right (tells c) = registered (calls-of (c .calls)) .1 ≡ c .told
 
 abbrev pub All : List Row → Type 0
@@ -41,7 +45,7 @@ All (r ∷ l) = Right r × All l
 
 abbrev pub table : List Row
 table =
-    map resolves (corner-rows ++ number-rows) ++ (map discovers rows ++ (map orders corners ++ map tells scopes.table))
+    map resolves (corner-rows ++ number-rows) ++ (map discovers rows ++ (map orders corners ++ (map links order.rows ++ map tells scopes.table)))
 
 -- rows of two tables
 both : (l m : List Row) → All l → All m → All (l ++ m)
@@ -71,8 +75,10 @@ told (c ∷ l) e =
 -- THE THEOREM
 pub corner-cases : All table
 corner-cases =
-    both (map resolves (corner-rows ++ number-rows)) (map discovers rows ++ (map orders corners ++ map tells scopes.table))
+    both (map resolves (corner-rows ++ number-rows)) (map discovers rows ++ (map orders corners ++ (map links order.rows ++ map tells scopes.table)))
     (each (λ r. resolve (r .bundle) (r .importer) (r .use-bytes)) (λ r. r .answer) resolves (λ r e. e) (corner-rows ++ number-rows) resolution.corner-cases)
-    (both (map discovers rows) (map orders corners ++ map tells scopes.table)
+    (both (map discovers rows) (map orders corners ++ (map links order.rows ++ map tells scopes.table))
     (each (λ r. discovery.discovery (read (encode (r .bundle)))) (λ r. r .expected) discovers (λ r e. e) rows rows-hold)
-    (both (map orders corners) (map tells scopes.table) (ordered corners graph.corner-cases) (told scopes.table scopes.corner-cases)))
+    (both (map orders corners) (map links order.rows ++ map tells scopes.table) (ordered corners graph.corner-cases)
+    (both (map links order.rows) (map tells scopes.table)
+    (each (λ r. order.ordering (read (encode (r .bundle)))) (λ r. r .expected) links (λ r e. e) order.rows order.rows-hold) (told scopes.table scopes.corner-cases))))

@@ -5,7 +5,7 @@ use native.Mathlib.Omega.{arith}
 use mathlib.Core.Path.{_≡_, refl, sym, ap, _∙_}
 use mathlib.Core.Bool.{Bool, true, false, cond, _||_, or-true}
 use mathlib.Core.Logic.{_⊎_, inl, inr, ⊎-elim}
-use mathlib.Core.List.{List, [], _∷_, _++_, append-nil, List·Memᴰ, List·Memᴰ·head, List·Memᴰ·tail, List·Memᴰ·not-nil, List·Memᴰ·cases-cons, List·Memᴰ·append-cases, List·Memᴰ·eq-of-singleton, Memᴰ·cast, Memᴰ·append-left, Memᴰ·append-right}
+use mathlib.Core.List.{List, [], _∷_, _++_, map, append-nil, List·Memᴰ, List·Memᴰ·head, List·Memᴰ·tail, List·Memᴰ·not-nil, List·Memᴰ·cases-cons, List·Memᴰ·append-cases, List·Memᴰ·eq-of-singleton, Memᴰ·cast, Memᴰ·append-left, Memᴰ·append-right}
 use lib.Dec.{eqb}
 use lib.ListN.{length, getD, List·getD-append}
 use lib.Seq.{append-snoc, getD-append-seam}
@@ -103,6 +103,16 @@ module _ {A : Type 0} where
   once-place d (more {a} {l} f o) zero (suc j) hi hj e = absurd (f (Memᴰ·cast e (getD-mem l j d (le-of-suc-le-suc hj))))
   once-place d (more {a} {l} f o) (suc i) zero hi hj e = absurd (f (Memᴰ·cast (sym e) (getD-mem l i d (le-of-suc-le-suc hi))))
   once-place d (more f o) (suc i) (suc j) hi hj e = ap suc (once-place d o i j (le-of-suc-le-suc hi) (le-of-suc-le-suc hj) e)
+
+-- the default does not matter within a list
+pub getD-any : {A : Type 0} (l : List A) (i : ℕ) (d e : A) → i < length l → getD l i d ≡ getD l i e
+getD-any [] i d e h = absurd (not-suc-le-zero h)
+getD-any (x ∷ l) zero d e h = refl
+getD-any (x ∷ l) (suc i) d e h = getD-any l i d e (le-of-suc-le-suc h)
+
+pub map-snoc : {A B : Type 0} (f : A → B) (l : List A) (a : A) → map f (l ++ (a ∷ [])) ≡ map f l ++ (f a ∷ [])
+map-snoc f [] a = refl
+map-snoc f (x ∷ l) a = rw (map-snoc f l a)
 
 -- what holds at each place of a list, and of one more at its end
 pub each-snoc : {A : Type 0} (P : ℕ → A → Type 0) (l : List A) (a d : A) → ((u : ℕ) → u < length l → P u (getD l u d)) → P (length l) a

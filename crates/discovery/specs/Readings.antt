@@ -5,23 +5,23 @@ use native.Mathlib.Omega.{arith}
 use mathlib.Core.Bool.{Bool, true, false, cond, _||_}
 use mathlib.Core.Logic.{_⊎_, ⊎-elim}
 use mathlib.Core.Path.{_≡_, refl, sym, ap, subst, _∙_}
-use mathlib.Core.List.{List, [], _∷_, _++_, map, List·Memᴰ, List·Memᴰ·head, List·Memᴰ·tail, List·Memᴰ·not-nil, List·Memᴰ·cases-cons, Memᴰ·cast, Memᴰ·append-left, Memᴰ·append-right, Memᴰ·map, Memᴰ·of-map}
+use mathlib.Core.List.{List, [], _∷_, _++_, map, List·Memᴰ, List·Memᴰ·head, List·Memᴰ·tail, List·Memᴰ·not-nil, List·Memᴰ·cases-cons, Memᴰ·cast, Memᴰ·of-map}
 use lib.Dec.{eqb, ltb}
 use lib.ListN.{length, getD, take, drop, set, length-set, length-map, length-append}
 use lib.Seq.{take-suc, take-suc-set, length-take-le, take-set-le, drop-append-le, getD-take}
-use borrow.Author.Tests.{ltb-true, ltb-false, lt-ltb, le-ltb, eq-eqb, ne-eqb, eqb-true, eqb-false}
-use Rattle.names.specs.Bytes.{same, member, false-true, same-refl, same-eq, different}
+use borrow.Author.Tests.{ltb-true, ltb-false, lt-ltb, le-ltb, eqb-true, eqb-false}
+use Rattle.names.specs.Bytes.{same, member, false-true, same-refl, different}
 use Rattle.bundle.specs.Bundle.{Text}
 use Rattle.bundle.specs.Limits.{file-limit, folder-limit, use-limit}
 use Rattle.resolution.specs.Lists.{Lists}
 use Rattle.resolution.specs.Call.{position}
 use Rattle.discovery.specs.declared.Graph.{Graph}
 use Rattle.discovery.specs.Discovery.{Import, Loading, holds, addOnce, load, loadAll, unreadable}
-use Rattle.discovery.specs.Reached.{Once, none, more}
-use Rattle.discovery.specs.Facts.{getD-mem, cond-elim, member-true, mem-member, member-false, not-member, mem-snoc, once-snoc, pigeons, id-found}
+use Rattle.discovery.specs.Reached.{Once, more}
+use Rattle.discovery.specs.Facts.{getD-mem, map-snoc, cond-elim, member-true, mem-member, member-false, not-member, mem-snoc, once-snoc, pigeons, id-found}
 use Rattle.discovery.specs.Search.{indexIn, index-small}
 use Rattle.discovery.specs.Record.{pushedFault, pushedUnit, pushedId, pushedUnread, unitOf, readTarget, ReadRoom, read-again, read-known, read-new, skip-unread, tell-unread, readTo, ReadsRoom}
-use Rattle.discovery.specs.Meaning.{faultsOf, importsIn, imports-snoc, targetPath, Targets, Sized, targetOf, Target, Listed, fault-pushed}
+use Rattle.discovery.specs.Meaning.{faultsOf, importsIn, imports-snoc, targetPath, Targets, Sized, Target, fault-pushed}
 
 -- FIRST PLACES: x is the first place of what stands there
 pub record FirstOf (l : List Text) (x : ℕ) : Type 0 where
@@ -158,10 +158,6 @@ pub record After (b : Lists) (first : ℕ) (g : Graph) (i : Import) (r : Graph) 
 
 pub grown-none : (g : Graph) → Grown g g
 grown-none g = record { start = refl; len = refl; targets = refl; marks = refl; imports = refl; more = omega arith; ids = λ k h. refl; units-more = omega arith; files = λ k h. refl }
-
-map-snoc : {A B : Type 0} (f : A → B) (l : List A) (a : A) → map f (l ++ (a ∷ [])) ≡ map f l ++ (f a ∷ [])
-map-snoc f [] a = refl
-map-snoc f (x ∷ l) a = rw (map-snoc f l a)
 
 -- one more in an array
 pushed : {A : Type 0} (f : ℕ → A) (l : List ℕ) (n x : ℕ) → n < length l → map f (take (n + 1) (set l n x)) ≡ map f (take n l) ++ (f x ∷ [])

@@ -1,13 +1,11 @@
 -- The record after each unit is the definition's graph. Assumes nothing.
 use Prim.Native.Nat.{ℕ, zero, suc, _+_, _-_, _≤_, _<_}
-use native.Mathlib.Numerals.{add-one, unary-clauses}
 use native.Mathlib.Nat.{not-suc-le-zero, le-of-suc-le-suc, eq-or-lt-of-le}
 use native.Mathlib.Omega.{arith}
 use mathlib.Core.Bool.{Bool, true, false, cond}
 use mathlib.Core.Logic.{⊎-elim}
 use mathlib.Core.Path.{_≡_, refl, sym, ap, subst, _∙_}
-use mathlib.Core.List.{List, [], _∷_, _++_, map, append-nil, List·Memᴰ, List·Memᴰ·head, List·Memᴰ·tail, List·Memᴰ·not-nil, List·Memᴰ·cases-cons, List·Memᴰ·eq-of-singleton, Memᴰ·cast, Memᴰ·of-map}
-use lib.Dec.{ltb}
+use mathlib.Core.List.{List, [], _∷_, _++_, map, List·Memᴰ, List·Memᴰ·head, List·Memᴰ·tail, List·Memᴰ·not-nil, List·Memᴰ·cases-cons, List·Memᴰ·eq-of-singleton, Memᴰ·cast, Memᴰ·of-map}
 use lib.ListN.{length, getD, take, drop, set, replicate, length-set, length-map, length-append, length-replicate, drop-of-length-le, List·getD-map}
 use lib.Seq.{take-suc, length-take-le, take-take, take-nil, getD-take, getD-set-same, getD-set-other}
 use borrow.Author.Tests.{lt-ltb, le-ltb}
@@ -21,13 +19,13 @@ use Rattle.resolution.specs.Resolution.{resolvePathInternal}
 use Rattle.resolution.specs.declared.Resolution.{Resolution}
 use Rattle.resolution.specs.declared.Resolution.the-variants as resolution
 use Rattle.discovery.specs.declared.Graph.{Graph}
-use Rattle.discovery.specs.Discovery.{Use, uses, programOf, ResolvedUse, resolveSingle, useCache, Fault, Import, faultOf, importOf, lookupFaults, validImports, Loading, loadAll, turn, turns, start, pathsOf, discoverDependencies}
+use Rattle.discovery.specs.Discovery.{Use, uses, programOf, ResolvedUse, resolveSingle, useCache, Fault, Import, lookupFaults, validImports, Loading, loadAll, turn, turns, start, pathsOf, discoverDependencies}
 use Rattle.discovery.specs.Discovery as definition
 use Rattle.discovery.specs.Reached.{Once, none, more}
-use Rattle.discovery.specs.Facts.{cond-elim, mem-member, getD-mem, id-found}
-use Rattle.discovery.specs.Room.{Roomy, totalUses}
+use Rattle.discovery.specs.Facts.{mem-member, getD-mem, getD-any}
+use Rattle.discovery.specs.Room.{Roomy}
 use Rattle.discovery.specs.Weight.{sumUses, weigh}
-use Rattle.discovery.specs.Record.{looked, lookedUse, lookedAll, noImports, readTo, readOut, readAll, withList, ReadsRoom}
+use Rattle.discovery.specs.Record.{looked, lookedUse, lookedAll, noImports, readOut, readAll, withList, ReadsRoom}
 use Rattle.discovery.specs.Meaning.{faultsOf, faultsIn, importsIn, Sized, Targets, Means, lookups-mean}
 use Rattle.discovery.specs.Readings.{FirstOf, Kept, Few, filePath, folderPath, sourcesOf, invalidOf, loadingOf, ReadTo, read-to, reads-room}
 
@@ -79,11 +77,6 @@ take-map : {A B : Type 0} (f : A → B) (k : ℕ) (l : List A) → take k (map f
 take-map f zero l = refl
 take-map f (suc k) [] = refl
 take-map f (suc k) (x ∷ l) = ap (λ m. f x ∷ m) (take-map f k l)
-
-getD-any : {A : Type 0} (l : List A) (i : ℕ) (d e : A) → i < length l → getD l i d ≡ getD l i e
-getD-any [] i d e h = absurd (not-suc-le-zero h)
-getD-any (x ∷ l) zero d e h = refl
-getD-any (x ∷ l) (suc i) d e h = getD-any l i d e (le-of-suc-le-suc h)
 
 take-within : {A : Type 0} (k : ℕ) (l : List A) {p : A} → List·Memᴰ p (take k l) → List·Memᴰ p l
 take-within zero l m = absurd (List·Memᴰ·not-nil m)

@@ -8,7 +8,6 @@ use mathlib.Core.Logic.{⊎-elim}
 use mathlib.Core.List.{List, [], _∷_, _++_, map, append-nil, append-assoc, List·Memᴰ, List·Memᴰ·not-nil, Memᴰ·cast}
 use lib.Dec.{eqb}
 use lib.ListN.{length, getD, take, set, replicate, length-append, length-map, List·getD-map}
-use native.Mathlib.Nat.{not-suc-le-zero, le-of-suc-le-suc}
 use lib.Seq.{take-suc-set, length-take-le, getD-take}
 use borrow.Author.Tests.{eq-eqb, ne-eqb}
 use Rattle.bundle.specs.Bundle.{Items}
@@ -18,7 +17,7 @@ use Rattle.bundle.specs.Decode.{each, counted, after, afterLength, itemsAt}
 use Rattle.bundle.specs.Access.{insideOf, items-end, items-step, by-kind, kindOf, restOf, innerOf, first-kind, first-rest, first-inner, first-segments, segmentsOf}
 use Rattle.discovery.specs.declared.Uses.{Uses}
 use Rattle.discovery.specs.Discovery.{Use, uses}
-use Rattle.discovery.specs.Facts.{mem-snoc, getD-mem}
+use Rattle.discovery.specs.Facts.{mem-snoc, getD-mem, getD-any, map-snoc}
 
 -- the use at a mark
 abbrev pub useAt : List ℕ → ℕ → Use
@@ -74,10 +73,6 @@ pub record Gathered (s : List ℕ) (u r : Uses) (l : List Use) : Type 0 where
 
 abbrev pub Room : Uses → List Use → Type 0
 Room u l = u .count + length l ≤ use-limit
-
-map-snoc : {A B : Type 0} (f : A → B) (l : List A) (a : A) → map f (l ++ (a ∷ [])) ≡ map f l ++ (f a ∷ [])
-map-snoc f [] a = refl
-map-snoc f (x ∷ l) a = rw (map-snoc f l a)
 
 module _ (s : List ℕ) where
   pub gathered-none : (u : Uses) → Gathered s u u []
@@ -204,11 +199,6 @@ segments-at s mark first n m f =
 module _ (s : List ℕ) (u : Uses) (fits : u .count ≤ length (u .marks)) where
   pub use-list-length : length (useList s u) ≡ u .count
   use-list-length = length-map (take (u .count) (u .marks)) (useAt s) ∙ length-take-le (u .count) (u .marks) fits
-
-  getD-any : (l : List ℕ) (i d e : ℕ) → i < length l → getD l i d ≡ getD l i e
-  getD-any [] i d e h = absurd (not-suc-le-zero h)
-  getD-any (x ∷ l) zero d e h = refl
-  getD-any (x ∷ l) (suc i) d e h = getD-any l i d e (le-of-suc-le-suc h)
 
   module _ (i : ℕ) (h : i < u .count) where
     pub use-at-place : getD (useList s u) i (useAt s (getD (u .marks) i 0)) ≡ useAt s (getD (u .marks) i 0)

@@ -74,10 +74,11 @@ weigh (more {a} {l} f o) fs h =
     let s = sum-same (without a fs) fs l (λ q m. program-without a q (ne q m) fs) in
     omega arith
 
--- the units' uses are no more than the bundle's
-reached-file : (b : Bundle) (p : Text) → Reached b p → List·Memᴰ p (pathsOf b)
+-- what is reached is listed
+pub reached-file : (b : Bundle) (p : Text) → Reached b p → List·Memᴰ p (pathsOf b)
 reached-file b p (entry {p = q} {ps = ps} e) = rw e (List·Memᴰ·head refl)
 reached-file b p (imported r i) = i .readable
 
+-- the units' uses are no more than the bundle's
 pub units-weigh : (b : Bundle) → sumUses (b .files) (discoverDependencies b .sources) ≤ totalUses (b .files)
 units-weigh b = let d = discovered b in weigh (d .once) (b .files) (λ p m. reached-file b p (d .sound p m))

@@ -1,5 +1,4 @@
 // The uses of a file, in item order, those of inline modules included.
-ghost use mathlib.Core.Path.{_≡_};
 ghost use Prim.Native.Nat.{_+_, _<_, _≤_, _^_};
 ghost use Rattle.bundle.specs.Limits.{use-limit};
 ghost use Rattle.bundle.specs.Decode.{fileAt};

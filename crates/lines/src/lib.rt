@@ -1,5 +1,6 @@
-// Lines and words of a text, for the programs that replay stored answers.
-ghost use Prim.Native.Nat.{_≤_, _<_};
+// Lines and words of a text, and parts led by their length, for the programs that replay stored answers.
+ghost use Prim.Native.Nat.{_+_, _<_, _≤_, _^_};
+ghost use lib.ListN.{length};
 
 // Where the first byte `stop` from `at` on is, or the end.
 pub fn end_of(s: &[u8], at: usize, stop: u8) -> usize
@@ -42,4 +43,51 @@ pub fn digit(b: u8) -> u8
         return b - 87;
     }
     0
+}
+
+// A part that is led by its length: where it starts and ends.
+pub struct Framed {
+    pub at: usize,
+    pub end: usize,
+    // Whether it is all there.
+    pub whole: bool,
+}
+
+fn wide(b: u8) -> usize
+    ensures { λ r. ⌜ r < 256 ⌝ }
+{
+    b as usize
+}
+
+// The number in 4 bytes, big-endian.
+fn number_at(s: &[u8], at: usize) -> usize
+    requires { ⌜ at + 4 ≤ length (now s) ⌝ }
+    ensures { λ r. ⌜ r < 2 ^ 32 ⌝ }
+{
+    ((wide(s[at]) * 256 + wide(s[at + 1])) * 256 + wide(s[at + 2])) * 256 + wide(s[at + 3])
+}
+
+// The part whose length stands at `at` in 4 bytes, big-endian; it ends further on.
+pub fn frame_at(s: &[u8], at: usize) -> Framed
+    requires { ⌜ at < length (now s) ⌝ }
+    ensures { λ r. ⌜ at < r .end ⌝ }
+{
+    let cut = Framed {
+        at: s.len(),
+        end: s.len(),
+        whole: false,
+    };
+    if s.len() - at < 4 {
+        return cut;
+    }
+    let n = number_at(s, at);
+    let a = at + 4;
+    if s.len() - a < n {
+        return cut;
+    }
+    Framed {
+        at: a,
+        end: a + n,
+        whole: true,
+    }
 }

@@ -1,8 +1,8 @@
 -- The operation: bytes and a lent report buffer, and what is answered. Assumes nothing.
 use Prim.Native.Nat.{ℕ}
-use mathlib.Core.List.{List, [], _∷_, _++_, map}
+use mathlib.Core.List.{List, _++_, map}
 use lib.ListN.{length, drop, replicate}
-use Rattle.bundle.specs.Bundle.{Text, Bundle}
+use Rattle.bundle.specs.Bundle.{Bundle}
 use Rattle.bundle.specs.Limits.{file-limit}
 use Rattle.bundle.specs.Read.{Reading, value, refused, read}
 use Rattle.resolution.specs.Call.{position}

@@ -1,11 +1,11 @@
 -- DEMAND 3, FIRST HALF, of what the operation answers: for whatever bytes and whatever buffer, the answer and the buffer are one
 -- of five kinds. Assumes nothing.
-use Prim.Native.Nat.{ℕ, zero, suc, _+_, _<_, _≤_}
+use Prim.Native.Nat.{ℕ, zero, suc, _<_, _≤_}
 use native.Mathlib.Nat.{not-suc-le-zero, le-of-suc-le-suc}
 use native.Mathlib.Omega.{arith}
 use mathlib.Core.Path.{_≡_, refl, sym, ap, subst, _∙_}
-use mathlib.Core.Bool.{Bool, true, false, cond}
-use mathlib.Core.List.{List, [], _∷_, _++_, map, List·Memᴰ, List·Memᴰ·head, List·Memᴰ·tail}
+use mathlib.Core.Bool.{Bool, true, false}
+use mathlib.Core.List.{List, [], _∷_, map, List·Memᴰ, List·Memᴰ·head, List·Memᴰ·tail}
 use lib.Dec.{ltb}
 use lib.ListN.{length, getD, take, drop, replicate, length-map, List·getD-append}
 use lib.Seq.{take-at}
@@ -14,20 +14,18 @@ use Rattle.bundle.specs.Bundle.{Text, Bundle}
 use Rattle.bundle.specs.Limits.{file-limit}
 use Rattle.bundle.specs.Read.{Reading, value, refused, read}
 use Rattle.resolution.specs.Call.{position}
-use Rattle.discovery.specs.Discovery.{Fault, discoverDependencies, pathsOf}
-use Rattle.discovery.specs.Reached.{Reached}
+use Rattle.discovery.specs.Discovery.{Fault, pathsOf}
 use Rattle.discovery.specs.Facts.{getD-mem, id-found, pigeons, pathsAt}
+use Rattle.discovery.specs.Weight.{reached-file}
 use Rattle.discovery.specs.Right.{discovered}
 use Rattle.order.specs.Run.{Outcome, faulty, closed, linked, ordered, unitsOf, filesOf}
 use Rattle.order.specs.Files.{LinkedFiles, ImportEachOther, NamedRing}
 use Rattle.order.specs.Theorems.{faultsOf, LinkedIds, FirstHalf, first-half-read}
 use Rattle.order.specs.Report.{Record, fault, ring, small-buffer, recordsOf, reportBytes, reportLength, lentReport, reporting, fits, exceeds, nothing-lent}
 use Rattle.order.specs.Report as report
-use Rattle.order.specs.Listed.{reached-listed}
 use Rattle.order.specs.Call.{padded, refusing, reportedTo, linking, answering, unitFiles, answerTo, reportTo, orderAnswer, orderReport}
 use Rattle.order.specs.declared.Answer.{Answer}
 use Rattle.order.specs.declared.Reported.{Reported}
-use Rattle.order.specs.declared.Reported.the-variants as reported
 
 -- the paths of the linked order that an answer gives: of each id, in order, the path of its file
 abbrev pub linkedPaths : Bundle → Answer → List Text
@@ -80,7 +78,7 @@ module _ (b : Bundle) (o : List ℕ) (ids : LinkedIds b o) (files : LinkedFiles 
       let lt : u < length (unitFiles b) = omega arith in
       let at : getD (padded (unitFiles b)) u 0 ≡ position (getD (unitsOf b) u []) (pathsOf b)
       = List·getD-append (unitFiles b) (drop (length (unitFiles b)) (replicate file-limit 0)) 0 u lt ∙ getD-map-in (λ (p : Text). position p (pathsOf b)) (unitsOf b) u [] 0 h in
-      let listed = reached-listed b (getD (unitsOf b) u []) (discovered b .sound (getD (unitsOf b) u []) (getD-mem (unitsOf b) u [] h)) in
+      let listed = reached-file b (getD (unitsOf b) u []) (discovered b .sound (getD (unitsOf b) u []) (getD-mem (unitsOf b) u [] h)) in
       ap (λ (x : ℕ). getD (pathsOf b) x []) at ∙ id-found (getD (unitsOf b) u []) (pathsOf b) listed .1
 
   paths-back : (l : List ℕ) → ((u : ℕ) → List·Memᴰ u l → u < length (unitsOf b)) → map (λ u. getD (pathsOf b) (getD (padded (unitFiles b)) u 0) []) l ≡ filesOf b l

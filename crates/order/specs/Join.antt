@@ -4,11 +4,11 @@ use Prim.Native.Nat.{ℕ, zero, suc, _+_, _<_, _≤_}
 use native.Mathlib.Nat.{le-of-suc-le-suc, eq-or-lt-of-le}
 use native.Mathlib.Omega.{arith}
 use mathlib.Core.Path.{_≡_, refl, sym, ap, subst, _∙_}
-use mathlib.Core.Bool.{Bool, true, false, cond, _&&_}
+use mathlib.Core.Bool.{Bool, true, false, cond}
 use mathlib.Core.Logic.{⊎-elim}
-use mathlib.Core.List.{List, [], _∷_, _++_, map, List·Memᴰ, List·Memᴰ·head, List·Memᴰ·tail, List·Memᴰ·not-nil, List·Memᴰ·cases-cons, Memᴰ·map}
+use mathlib.Core.List.{List, [], _∷_, _++_, map, List·Memᴰ, List·Memᴰ·head, List·Memᴰ·tail, Memᴰ·map}
 use lib.Dec.{eqb, ltb}
-use lib.ListN.{length, getD, take, length-map, length-append, List·getD-append}
+use lib.ListN.{length, getD, take, length-map, List·getD-append}
 use lib.Seq.{getD-append-seam}
 use borrow.Author.Tests.{lt-ltb, le-leb}
 use Rattle.bundle.specs.Bundle.{Text, File, Bundle}
@@ -16,29 +16,28 @@ use Rattle.bundle.specs.Limits.{file-limit, use-limit}
 use Rattle.bundle.specs.Form.{WellFormed}
 use Rattle.bundle.specs.Stand.{Bytes}
 use Rattle.bundle.specs.Decode.{decode}
-use Rattle.bundle.specs.Read.{verdict, read}
+use Rattle.bundle.specs.Read.{verdict}
 use Rattle.bundle.specs.Theorems.{sound, accepted, told}
 use Rattle.bundle.specs.declared.Checked.the-variants.{Ok, Refused}
 use Rattle.resolution.specs.Call.{position}
 use Rattle.discovery.specs.declared.Graph.{Graph}
 use Rattle.discovery.specs.Discovery.{Fault, discoverDependencies, pathsOf}
+use Rattle.discovery.specs.Weight.{reached-file}
 use Rattle.discovery.specs.Right.{discovered}
 use Rattle.discovery.specs.Meaning.{faultsOf}
-use Rattle.discovery.specs.Turns.{firstLists, graphOf, length-lists, Discovers}
+use Rattle.discovery.specs.Turns.{firstLists, length-lists, Discovers}
 use Rattle.discovery.specs.Turns as record-of
 use Rattle.discovery.specs.Room.{checked-roomy}
 use Rattle.discovery.specs.Discovery as definition
-use Rattle.graph.specs.declared.Graph as given
-use Rattle.graph.specs.Limits.{unit-limit, id-limit}
 use Rattle.graph.specs.Linearize.{Out, order, ring, memb, from, andThen, each, visit, linearize}
 use Rattle.graph.specs.Order.{Within}
-use Rattle.graph.specs.Given.{depsOf, below, all, fits, knows, fitting, known, refusal}
-use Rattle.graph.specs.GivenFacts.{below-none, below-more, is-accepted}
-use Rattle.order.specs.Run.{listOf, walkOf, outcome, ordered, unitsOf}
+use Rattle.graph.specs.Given.{depsOf, below, all, fits, knows, fitting, known}
+use Rattle.graph.specs.GivenFacts.{is-accepted}
+use Rattle.order.specs.Run.{listOf, outcome, ordered, unitsOf}
 use Rattle.order.specs.Units.{within}
-use Rattle.order.specs.Listed.{reached-listed, placed}
+use Rattle.order.specs.Listed.{placed}
 use Rattle.order.specs.Report.{recordsOf, lentReport}
-use Rattle.order.specs.Call.{refusing, answering, unitFiles, answerTo, orderAnswer, orderReport}
+use Rattle.order.specs.Call.{refusing, answering, unitFiles, orderAnswer, orderReport}
 use Rattle.order.specs.Steps.{givenOf, Found, outcomeOf, answerOf}
 use Rattle.order.specs.declared.Answer.{Answer}
 
@@ -158,7 +157,7 @@ module _ (b : Bundle) (w : WellFormed b) (g : Graph) (d : Discovers b g) where
       record {
         units = sym (discovered b .handled-all) ∙ (ap length deps ∙ n);
         sources = sources-are;
-        places = λ x m. placed b w x (reached-listed b (getD (pathsOf b) x [])
+        places = λ x m. placed b w x (reached-file b (getD (pathsOf b) x [])
             (discovered b .sound (getD (pathsOf b) x []) (subst (λ (l : List Text). List·Memᴰ (getD (pathsOf b) x []) l) (sym sources-are) (Memᴰ·map (λ (y : ℕ). getD (pathsOf b) y []) m))));
         lists = λ u h. ap (λ (l : List (List ℕ)). getD l u []) deps ∙ list-at (g .units) (record-of.listOf g) u h;
         faults = ap (λ (x : definition.Graph). x .faults) (d .is);

@@ -8,6 +8,7 @@ pub mod Exact
 pub mod Call
 pub mod Demand
 pub mod Cases
+pub mod Examples
 pub mod Writing
 pub mod Steps
 pub mod Join

@@ -1,11 +1,10 @@
 -- The files that a well-formed bundle lists: their paths are different and none is empty, so a path's place is the place where
 -- it stands. Assumes nothing.
-use Prim.Native.Nat.{ℕ, _<_, _≤_}
-use native.Mathlib.Omega.{arith}
-use mathlib.Core.Path.{_≡_, refl, sym, ap, subst, _∙_}
+use Prim.Native.Nat.{ℕ, _≤_}
+use mathlib.Core.Path.{_≡_, refl, sym, ap, _∙_}
 use mathlib.Core.Bool.{Bool, true, false, _&&_, not}
 use mathlib.Core.Logic.{⊎-elim}
-use mathlib.Core.List.{List, [], _∷_, _++_, map, List·Memᴰ, List·Memᴰ·head, List·Memᴰ·tail, List·Memᴰ·not-nil, List·Memᴰ·cases-cons, Memᴰ·cast, Memᴰ·append-left, Memᴰ·append-right}
+use mathlib.Core.List.{List, [], _∷_, _++_, map, List·Memᴰ, List·Memᴰ·head, List·Memᴰ·not-nil, List·Memᴰ·cases-cons, Memᴰ·cast, Memᴰ·append-left, Memᴰ·append-right}
 use lib.Dec.{ltb}
 use lib.ListN.{length, getD, List·getD-eq-default}
 use borrow.Author.Tests.{ltb-true, ltb-false}
@@ -17,7 +16,7 @@ use Rattle.bundle.specs.Conflicts.{any}
 use Rattle.bundle.specs.Form.{Every, FormedFile, fresh, WellFormed}
 use Rattle.resolution.specs.Call.{position}
 use Rattle.discovery.specs.Discovery.{pathsOf}
-use Rattle.discovery.specs.Reached.{Imports, Reached, entry, imported, Once, none, more}
+use Rattle.discovery.specs.Reached.{Once, none, more}
 use Rattle.discovery.specs.Facts.{mem-member, once-place, id-found}
 
 -- FRESH paths are different, and different from those seen
@@ -49,11 +48,6 @@ form-of : (fs : List File) (p : Text) → Every FormedFile fs → List·Memᴰ p
 unfolding Every
 form-of [] p e m = absurd (List·Memᴰ·not-nil m)
 form-of (f ∷ fs) p e m = ⊎-elim (λ q. ap isPath q ∙ e .0 .0) (λ w. form-of fs p (e .1) w) (List·Memᴰ·cases-cons m)
-
--- what is reached is listed
-pub reached-listed : (b : Bundle) (p : Text) → Reached b p → List·Memᴰ p (pathsOf b)
-reached-listed b p (entry {p = q} {ps} e) = rw e (List·Memᴰ·head refl)
-reached-listed b p (imported r i) = i .readable
 
 module _ (b : Bundle) (w : WellFormed b) where
   pub listed-once : Once (pathsOf b)

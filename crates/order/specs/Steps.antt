@@ -4,7 +4,7 @@ use native.Mathlib.Numerals.{add-one}
 use native.Mathlib.Omega.{arith}
 use mathlib.Core.Path.{_≡_, refl, sym, ap, subst, _∙_}
 use mathlib.Core.List.{List, [], _∷_, _++_}
-use lib.ListN.{length, getD, set, take, drop, replicate, length-replicate, length-append, length-drop}
+use lib.ListN.{length, getD, set, take, drop, replicate, length-replicate, length-append}
 use lib.Seq.{length-take-le, take-suc, take-at}
 use Rattle.bundle.specs.Limits.{file-limit, use-limit}
 use Rattle.discovery.specs.declared.Graph.{Graph}
@@ -16,7 +16,7 @@ use Rattle.graph.specs.Linearize.{Out, order, ring, linearize}
 use Rattle.graph.specs.Limits.{unit-limit, id-limit}
 use Rattle.graph.specs.Given.{depsOf, refusal, numbered, linearizeGiven}
 use Rattle.graph.specs.GivenFacts.{sound-of, given-accepted}
-use Rattle.order.specs.Run.{Outcome, faulty, closed, linked, step4, outcome}
+use Rattle.order.specs.Run.{Outcome, faulty, closed, step4, outcome}
 use Rattle.order.specs.Report.{recordsOf, lentReport, reporting, nothing-lent}
 use Rattle.order.specs.Writing.{faultRecords, ringRecords, put-one}
 use Rattle.order.specs.Call.{cleared, reportedTo, linking, answering}

@@ -1,8 +1,8 @@
 -- DEMAND 3, FIRST HALF, of the files of any bundle: what the order and the ring that `ordered` gives are, and when it gives
 -- which. Assumes nothing.
-use Prim.Native.Nat.{ℕ, _<_, _≤_}
+use Prim.Native.Nat.{ℕ, _<_}
 use native.Mathlib.Omega.{arith}
-use mathlib.Core.Path.{_≡_, refl, sym, ap, subst, _∙_}
+use mathlib.Core.Path.{_≡_, refl, sym, subst, _∙_}
 use mathlib.Core.List.{List, [], _∷_, List·Memᴰ}
 use lib.ListN.{length, length-map}
 use Rattle.bundle.specs.Bundle.{Text, File, Bundle}
@@ -14,12 +14,11 @@ use Rattle.resolution.specs.Lists.{listsOf}
 use Rattle.resolution.specs.Resolution.{to, resolvePathInternal}
 use Rattle.discovery.specs.Discovery.{Use, uses, programOf, Fault, discoverDependencies, pathsOf}
 use Rattle.discovery.specs.Reached.{Reached, Once}
-use Rattle.discovery.specs.Facts.{pathsAt}
-use Rattle.discovery.specs.Right.{Discovered, discovered}
+use Rattle.discovery.specs.Right.{discovered}
 use Rattle.discovery.specs.Clean.{no-fault}
 use Rattle.discovery.specs.Room.{checked-roomy}
-use Rattle.graph.specs.Linearize.{Out, order, ring, linearize}
-use Rattle.graph.specs.Order.{Cyclic, Within}
+use Rattle.graph.specs.Linearize.{Out, order, ring}
+use Rattle.graph.specs.Order.{Within}
 use Rattle.graph.specs.Order as graph
 use Rattle.graph.specs.OrderTheorems.{Linearizes, linearize-right, ring-there}
 use Rattle.order.specs.Run.{listOf, walkOf, Outcome, faulty, closed, linked, outcome, ordered, unitsOf, filesOf}

@@ -1,19 +1,16 @@
 -- Writing a report byte by byte. Assumes nothing.
-use Prim.Native.Nat.{ℕ, zero, suc, _+_, _*_, _/_, _%_, _<_, _≤_}
+use Prim.Native.Nat.{ℕ, zero, suc, _+_, _*_, _/_, _<_, _≤_}
 use native.Mathlib.Nat.{mod-eq-of-lt}
 use native.Mathlib.Numerals.{add-one}
 use native.Mathlib.Omega.{arith}
 use mathlib.Core.Path.{_≡_, refl, sym, ap, _∙_}
 use mathlib.Core.List.{List, [], _∷_, _++_, map, map-append, append-assoc, append-nil}
-use lib.ListN.{length, getD, set, take, drop, length-append, length-map, length-drop, length-set}
-use lib.Seq.{take-at, drop-at, set-at, drop-cons, take-suc, append-snoc, length-take-le, drop-drop}
+use lib.ListN.{length, getD, set, take, drop, length-append, length-map, length-set}
+use lib.Seq.{set-at, drop-cons, take-suc, append-snoc, length-take-le, drop-drop}
 use borrow.Author.Tests.{le-leb, lt-leb}
 use Rattle.bundle.specs.Encode.{joined}
-use Rattle.bundle.specs.Limits.{file-limit, use-limit}
-use Rattle.discovery.specs.Discovery.{Fault}
 use Rattle.discovery.specs.Meaning.{faultsIn}
 use Rattle.order.specs.Report.{Record, fault, ring, ring-met, low, placeBytes, recordBytes, reportBytes, recordLength, reportLength, report-length, lentReport, reporting, small-buffer}
-use Rattle.order.specs.declared.Reported.{Reported}
 use Rattle.order.specs.declared.Reported.the-variants as reported
 
 -- the records that the arrays stand for
@@ -26,6 +23,10 @@ ringRecords ids count = ring (take count ids) ∷ []
 -- a number and a place written at `at`
 abbrev pub written3 : List ℕ → ℕ → ℕ → ℕ → List ℕ
 written3 out at number place = set (set (set out at number) (at + 1) (low (place / 256))) (at + 2) (low place)
+
+pub written-is : (o o₁ o₂ o₃ : List ℕ) (at number place a b : ℕ) → o₁ ≡ set o at number → a ≡ low (place / 256) → o₂ ≡ set o₁ (at + 1) a → b ≡ low place → o₃ ≡ set o₂ (at + 2) b
+    → o₃ ≡ written3 o at number place
+written-is o o₁ o₂ o₃ at number place a b e₁ ea e₂ eb e₃ = rw (e₃, eb, e₂, ea, e₁)
 
 -- STORES ONE AFTER THE OTHER
 -- w, and behind it what the buffer o held

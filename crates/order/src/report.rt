@@ -1,11 +1,9 @@
 // The report in a lent buffer: it is written only where all of it fits.
 ghost use mathlib.Core.Path.{_≡_};
-ghost use mathlib.Core.List.{map};
 ghost use Prim.Native.Nat.{_+_, _/_, _<_, _≤_};
-ghost use lib.ListN.{length, set, take};
+ghost use lib.ListN.{length, set};
 ghost use Rattle.bundle.specs.Limits.{file-limit, use-limit};
-ghost use Rattle.discovery.specs.Meaning.{faultsIn};
-ghost use Rattle.order.specs.Report.{low as Report·low, fault, ring, lentReport, reporting};
+ghost use Rattle.order.specs.Report.{low as Report·low, lentReport, reporting};
 ghost use Rattle.order.specs.Writing.{faultRecords, ringRecords, written3};
 use crate::Reported;
 

@@ -1,6 +1,6 @@
--- The loop goes on while bytes are left. Assumes nothing.
-use borrow.Author.Needs.{needs}
+-- The loop of `replay` goes on while something is left. Assumes nothing.
 use Prim.Native.Nat.{_-_}
+use borrow.Author.Needs.{needs}
 use lib.ListN.{length}
 use Rattle.bundle_vectors.proofs.replay.Statement.{statement}
 use Rattle.bundle_vectors.proofs.replay.Tie as tie
@@ -11,20 +11,54 @@ Inv-loop s at₀ at = Unit {0}
 abbrev μ-loop : tie.MeasureT-loop
 μ-loop s at₀ at = length s - at
 
+-- src/main.rt:23:5
 loop-holds : tie.Need-loop-holds Inv-loop μ-loop
 loop-holds c = tt
 
-one-requires : tie.Need-one-requires Inv-loop μ-loop
-one-requires c κs = search needs
+-- src/main.rt:24:13
+frame-at-requires : tie.Need-frame-at-requires Inv-loop μ-loop
+frame-at-requires c κs = search needs
 
+-- src/main.rt:26:18
+part-requires : tie.Need-part-requires Inv-loop μ-loop
+part-requires c κs = search needs
+
+-- src/main.rt:26:13
+tell-requires : tie.Need-tell-requires Inv-loop μ-loop
+tell-requires c κs = search needs
+
+-- src/main.rt:23:5
 loop-less : tie.Need-loop-less Inv-loop μ-loop
 loop-less c = search needs
 
+-- src/main.rt:23:5
 loop-again : tie.Need-loop-again Inv-loop μ-loop
 loop-again c = tt
 
+-- src/main.rt:23:5
+loop-less-2 : tie.Need-loop-less-2 Inv-loop μ-loop
+loop-less-2 c = search needs
+
+-- src/main.rt:23:5
+loop-again-2 : tie.Need-loop-again-2 Inv-loop μ-loop
+loop-again-2 c = search needs
+
+-- src/main.rt:21:1
 returns : tie.Need-returns Inv-loop μ-loop
 returns c = search needs
 
 pub replay-spec : {M : Type 1} → statement M
-replay-spec = tie.close (tie.spec Inv-loop μ-loop loop-holds one-requires loop-less loop-again returns)
+replay-spec =
+    tie.close
+    (tie.spec
+    Inv-loop
+    μ-loop
+    loop-holds
+    frame-at-requires
+    part-requires
+    tell-requires
+    loop-less
+    loop-again
+    loop-less-2
+    loop-again-2
+    returns)

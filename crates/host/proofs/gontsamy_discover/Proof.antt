@@ -1,5 +1,5 @@
 -- `gontsamy_discover` meets its contract. Assumes nothing.
-use mathlib.Core.Path.{_≡_, sym, _∙_}
+use mathlib.Core.Path.{sym, _∙_}
 use borrow.Author.Needs.{needs}
 use Rattle.host.specs.Told.{told-ok, told-refused, refused, accepted, graph-told}
 use Rattle.host.proofs.gontsamy_discover.Statement.{statement}

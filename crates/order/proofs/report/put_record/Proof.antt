@@ -1,5 +1,7 @@
 -- `order::report::put_record` meets its contract. Assumes nothing.
+use denote.Ref.{now}
 use borrow.Author.Needs.{needs}
+use Rattle.order.specs.Writing.{written-is}
 use Rattle.order.proofs.report.put_record.Statement.{statement}
 use Rattle.order.proofs.report.put_record.Tie as tie
 
@@ -28,7 +30,9 @@ same-length : tie.Need-same-length
 same-length c = search needs
 
 returns : tie.Need-returns
-returns c = cc
+returns c =
+    written-is (now (c .before .before .before .before .before .before .before .before .before .before .before .before .before .before .before .args .out)) (c .before .before .before .before .before .before .before .before .before .before .before .before .put .last .0) (c .before .before .before .before .before .before .before .put2 .last .0) (c .before .before .put3 .last .0) (c .before .before .before .before .before .before .before .before .before .before .before .before .before .before .before .args .at) (c .before .before .before .before .before .before .before .before .before .before .before .before .before .before .before .args .number) (c .before .before .before .before .before .before .before .before .before .before .before .before .before .before .before .args .place) (c .before .before .before .before .before .before .before .before .low .result) (c .before .before .before .low2 .result)
+    (c .before .before .before .before .before .before .before .before .before .before .before .before .put .ensures) (c .before .before .before .before .before .before .before .before .low .ensures) (c .before .before .before .before .before .before .before .put2 .ensures) (c .before .before .before .low2 .ensures) (c .before .before .put3 .ensures)
 
 pub put-record-spec : {M : Type 1} → statement M
 put-record-spec =

@@ -1,6 +1,6 @@
 -- `order::report::write_ring` meets its contract. Assumes nothing.
 use Prim.Native.Nat.{ℕ, _+_, _-_, _<_, _≤_}
-use mathlib.Core.Path.{_≡_}
+use mathlib.Core.Path.{_≡_, ap, _∙_}
 use mathlib.Core.List.{List}
 use lib.ListN.{length, set}
 use Rattle.order.specs.Report.{ring-met, low}
@@ -28,7 +28,9 @@ abbrev Count : tie.After-put Inv-loop μ-loop → ℕ
 Count p = p .before .before .before .before .before .before .before .before .before .before .args .count
 
 head : (p : tie.After-put Inv-loop μ-loop) → p .put .last .0 ≡ set (written3 (Out p) 0 ring-met 0) 3 (low (Count p))
-head p = cc
+head p =
+    p .put .ensures
+    ∙ (ap (set (p .before .before .before .before .before .put-record .last .0) 3) (p .before .low .ensures) ∙ ap (λ (l : List ℕ). set l 3 (low (Count p))) (p .before .before .before .before .before .put-record .ensures))
 
 few : (p : tie.After-put Inv-loop μ-loop) → Count p ≤ length (Ids p)
 few p = p .before .before .before .before .before .before .before .before .before .before .pre .1

@@ -1,6 +1,5 @@
 -- `order::steps::linked` meets its contract. Assumes nothing.
 use Prim.Native.Nat.{_-_}
-use native.Mathlib.Omega.{arith}
 use denote.Ref.{now}
 use borrow.Author.Needs.{needs}
 use Rattle.order.specs.Steps.{CopiedTo, copied-none, copied-one, copied-all}
