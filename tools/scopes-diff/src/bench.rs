@@ -236,15 +236,15 @@ pub fn measure(row: &str, who: &str, entries: usize, with: bool) -> Option<()> {
     Some(())
 }
 
-/// Instructions of this program with `measure` and these arguments; where a function is named,
-/// those spent in it alone.
-fn counted(row: &str, who: Who, entries: usize, with: bool, inside: Option<&str>) -> u64 {
+/// Instructions of this program with `measure` and these arguments; of the original those alone
+/// that are spent in `scopes_diff_measured`.
+fn counted(row: &str, who: Who, entries: usize, with: bool) -> u64 {
     let program = std::env::current_exe().expect("this program");
     let mut valgrind = Command::new("valgrind");
     valgrind.env("GLIBC_TUNABLES", TUNABLES);
     valgrind.args(["--tool=callgrind", "--callgrind-out-file=/dev/null"]);
-    if let Some(name) = inside {
-        valgrind.arg(format!("--toggle-collect={name}"));
+    if who == Who::Original {
+        valgrind.arg("--toggle-collect=scopes_diff_measured");
     }
     let done = valgrind
         .arg(program)
@@ -261,15 +261,12 @@ fn counted(row: &str, who: Who, entries: usize, with: bool, inside: Option<&str>
 }
 
 /// Instructions of the calls of a row.
-fn spent(row: &str, who: Who, entries: usize, inside: Option<&str>) -> u64 {
+fn spent(row: &str, who: Who, entries: usize) -> u64 {
     match who {
         Who::Port | Who::Walk => {
-            let with = counted(row, who, entries, true, inside);
-            with - counted(row, who, entries, false, inside)
+            counted(row, who, entries, true) - counted(row, who, entries, false)
         }
-        Who::Original => {
-            counted(row, who, entries, true, Some("scopes_diff_measured")) / TREES as u64
-        }
+        Who::Original => counted(row, who, entries, true) / TREES as u64,
     }
 }
 
@@ -279,45 +276,41 @@ fn rows() -> impl Iterator<Item = (&'static str, usize)> {
     ROWS.into_iter().flat_map(sizes).chain([("list", 0)])
 }
 
-fn tell(row: &str, entries: usize, port: f64, inside: Option<f64>, walk: f64, original: f64) {
+fn tell(row: &str, entries: usize, port: f64, walk: f64, original: f64) {
     let title = match row {
         "list" => "list of 1,000 calls | ".to_string(),
         row => format!("{row} | {entries}"),
     };
-    let inside = inside.map_or("".to_string(), |count| format!("{count:.0}"));
     let (ratio, walk) = match cfg!(walk) {
         true => (format!("{:.1}", walk / original), format!("{walk:.0}")),
         false => Default::default(),
     };
     println!(
-        "| {title} | {port:.0} | {inside} | {walk} | {original:.0} | {:.0} | {ratio} |",
+        "| {title} | {port:.0} | {walk} | {original:.0} | {:.0} | {ratio} |",
         port / original
     );
 }
 
+/// The head of a table.
+fn head() {
+    println!("| Call | Entries | By value | Lent | Original | Ratio by value | Ratio lent |");
+    println!("|---|---|---|---|---|---|---|");
+}
+
 /// A table of instructions a call, and of the list as a whole.
 pub fn instructions() {
-    println!("| Call | Entries | By value | Inside the call | Lent | Original | Ratio by value | Ratio lent |");
-    println!("|---|---|---|---|---|---|---|---|");
+    head();
     for (row, entries) in rows() {
-        // Where the compiler left the call, or all of it but a few instructions, a function.
-        let inside = match row {
-            "get_alias" | "get_function" => Some("scopes::get"),
-            "enter" | "insert_alias" | "insert_enum" | "insert_function" => Some("scopes::insert"),
-            _ => None,
-        };
         let times = match row {
             "list" => 1,
             row => case(row, entries).expect("a row").calls.len(),
         };
-        let spent = |who, inside| spent(row, who, entries, inside) as f64 / times as f64;
+        let spent = |who| spent(row, who, entries) as f64 / times as f64;
         let walk = match cfg!(walk) {
-            true => spent(Who::Walk, None),
+            true => spent(Who::Walk),
             false => 0.0,
         };
-        let inside = inside.map(|name| spent(Who::Port, Some(name)));
-        let (port, original) = (spent(Who::Port, None), spent(Who::Original, None));
-        tell(row, entries, port, inside, walk, original);
+        tell(row, entries, spent(Who::Port), walk, spent(Who::Original));
     }
 }
 
@@ -325,6 +318,16 @@ pub fn instructions() {
 fn least(runs: usize, mut run: impl FnMut() -> Duration) -> f64 {
     let least = (0..runs).map(|_| run()).min().expect("a run");
     least.as_nanos() as f64
+}
+
+/// By how much the least of many runs of the one exceeds that of the other, in turn.
+fn excess(runs: usize, mut long: impl FnMut(), mut short: impl FnMut()) -> f64 {
+    let (mut longs, mut shorts) = (Duration::MAX, Duration::MAX);
+    for _ in 0..runs {
+        longs = longs.min(timed(&mut long));
+        shorts = shorts.min(timed(&mut short));
+    }
+    longs.as_nanos() as f64 - shorts.as_nanos() as f64
 }
 
 fn timed(run: impl FnOnce()) -> Duration {
@@ -335,8 +338,7 @@ fn timed(run: impl FnOnce()) -> Duration {
 
 /// A table of nanoseconds a call, the least of many runs in this one process.
 pub fn time() {
-    println!("| Call | Entries | By value | | Lent | Original | Ratio by value | Ratio lent |");
-    println!("|---|---|---|---|---|---|---|---|");
+    head();
     for (row, entries) in rows() {
         let case = case(row, entries).expect("a row");
         let (runs, times) = match row {
@@ -347,10 +349,15 @@ pub fn time() {
         let end = list.len();
         list.extend(bytes(&case.calls));
         let mut numbers = vec![0; case.before.len() + case.calls.len()];
+        let mut others = numbers.clone();
         let [port, walk] = [Who::Port, Who::Walk].map(|who| {
-            let with = least(runs, || timed(|| replay(who, &list, &mut numbers)));
-            let without = least(runs, || timed(|| replay(who, &list[..end], &mut numbers)));
-            (with - without) / times
+            let more = excess(
+                // A short run is measured more often.
+                if who == Who::Walk { 8 * runs } else { runs },
+                || replay(who, &list, &mut numbers),
+                || replay(who, &list[..end], &mut others),
+            );
+            more / times
         });
 
         let (before, calls) = (prepared(&case.before), prepared(&case.calls));
@@ -359,7 +366,7 @@ pub fn time() {
             make(&mut tree, &before);
             timed(|| make(&mut tree, &calls))
         });
-        tell(row, entries, port, None, walk, original / times);
+        tell(row, entries, port, walk, original / times);
     }
 }
 
