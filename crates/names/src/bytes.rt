@@ -3,16 +3,21 @@ ghost use mathlib.Core.Path.{_≡_};
 ghost use lib.ListN.{drop};
 ghost use Rattle.names.specs.Bytes.{hasPrefix, same};
 
-// Whether two byte strings are equal. Ruled out: `true` where one is only the start of the other; `false` of equal ones.
+// Whether two byte strings are equal; from both ends, since paths of one folder begin alike and those of files end alike. Ruled
+// out: `true` where one is only the start of the other; `false` of equal ones.
 pub fn same_bytes(a: &[u8], b: &[u8]) -> bool
     ensures { λ r. ⌜ r ≡ same (now (a .entry)) (now (b .entry)) ⌝ }
 {
     if a.len() != b.len() {
         return false;
     }
+    let n = a.len();
     let mut i = 0;
-    while i < a.len() {
+    while i + i < n {
         if a[i] != b[i] {
+            return false;
+        }
+        if a[n - 1 - i] != b[n - 1 - i] {
             return false;
         }
         i += 1;
