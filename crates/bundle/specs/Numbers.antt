@@ -12,7 +12,7 @@ use Rattle.names.specs.Prefix.{directlyIn}
 use Rattle.names.specs.Identifier.{isIdentifier}
 use Rattle.names.specs.Keywords.{isCrate, isKeyword}
 use Rattle.bundle.specs.Bundle.{Text}
-use Rattle.bundle.specs.Limits.{folder-limit, remapping-limit, file-limit, depth-limit, segment-limit, element-limit}
+use Rattle.bundle.specs.Limits.{folder-limit, remapping-limit, file-limit, item-limit, use-limit, depth-limit, segment-limit, element-limit}
 use Rattle.bundle.specs.Scan.{byte, word, text, andThen, times, scanString, scanFormed, scanPath, scanName, scanAlias, scanField, scanCount, scanList, scanUse, scanLength, scanMark, usesAfter, scanHead, scanBody, scanEnd, walkOn, walkThen, scanItemWith, siblings, scanModule, scanItem, scanFile, scanFiles, scanHeader}
 use Rattle.bundle.specs.Conflicts.{Placed, PlacedRemapping, orElse, any, listed, located, sameRemapping, remapped, conflicts}
 use Rattle.bundle.specs.Conflicts.{named as nameTold}
@@ -124,7 +124,7 @@ module _ (s : List ℕ) where
   head-right end at c u =
       then-right (scanLength s end at) _ (length-right end at) (λ next.
       then-right (scanMark 1 6 s next (at + 2)) _ (mark-right 1 6 next (at + 2)) (λ v.
-      then-right (scanMark 0 1 s next v) _ (mark-right 0 1 next v) (λ w. pick Right (ltb c 1024 && leb (usesAfter s at u) 256) tt (omega arith))))
+      then-right (scanMark 0 1 s next v) _ (mark-right 0 1 next v) (λ w. pick Right (ltb c item-limit && leb (usesAfter s at u) use-limit) tt (omega arith))))
 
   body-right : (end at : ℕ) → Right (scanBody s end at)
   unfolding scanBody scanUse

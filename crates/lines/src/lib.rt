@@ -45,6 +45,23 @@ pub fn digit(b: u8) -> u8
     0
 }
 
+// The bytes that a word spells in hexadecimal, as many as there is room for.
+pub fn unhex(s: &[u8], out: &mut [u8]) -> usize
+    ensures { λ r. ⌜ r ≤ length (now (out .entry)) ⌝ }
+{
+    let mut n = 0;
+    let mut at = 0;
+    while n < out.len() {
+        if s.len() <= at + 1 {
+            return n;
+        }
+        out[n] = digit(s[at]) * 16 + digit(s[at + 1]);
+        n += 1;
+        at += 2;
+    }
+    n
+}
+
 // A part that is led by its length: where it starts and ends.
 pub struct Framed {
     pub at: usize,

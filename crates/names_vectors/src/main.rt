@@ -2,7 +2,6 @@
 // operands in hexadecimal (of `unit` a number in decimal). The stored questions are in stdin and the oracle's answers in
 // stdout.
 ghost use Prim.Native.Nat.{_≤_, _<_};
-ghost use lib.ListN.{length};
 use libc::STDIN_FILENO;
 use libc::STDOUT_FILENO;
 
@@ -16,23 +15,6 @@ struct Operand {
     next: usize,
 }
 
-// The bytes that a word spells in hexadecimal, as many as there is room for.
-fn unhex(s: &[u8], out: &mut [u8; 512]) -> usize
-    ensures { λ r. ⌜ r ≤ 512 ⌝ }
-{
-    let mut n = 0;
-    let mut at = 0;
-    while n < 512 {
-        if s.len() <= at + 1 {
-            return n;
-        }
-        out[n] = lines::digit(s[at]) * 16 + lines::digit(s[at + 1]);
-        n += 1;
-        at += 2;
-    }
-    n
-}
-
 // The first n bytes, or none where there are not so many.
 fn head(a: &[u8; 512], n: usize) -> &[u8] {
     lines::part(a, 0, n)
@@ -42,7 +24,7 @@ fn read_operand(s: &[u8], at: usize, out: &mut [u8; 512]) -> Operand
     ensures { λ r. ⌜ (r .len ≤ 512) × (at ≤ r .next) ⌝ }
 {
     let e = lines::end_of(s, at, 32);
-    let n = unhex(lines::part(s, at, e), out);
+    let n = lines::unhex(lines::part(s, at, e), out);
     if e < s.len() {
         return Operand {
             len: n,

@@ -29,21 +29,10 @@ fn bundle_head(a: &[u8; 32768], n: usize) -> &[u8] {
     lines::part(a, 0, n)
 }
 
-// The bytes that a word spells in hexadecimal, as many as there is room for.
 fn unhex(s: &[u8], out: &mut [u8; 32768]) -> usize
     ensures { λ r. ⌜ r ≤ 32768 ⌝ }
 {
-    let mut n = 0;
-    let mut at = 0;
-    while n < 32768 {
-        if s.len() <= at + 1 {
-            return n;
-        }
-        out[n] = lines::digit(s[at]) * 16 + lines::digit(s[at + 1]);
-        n += 1;
-        at += 2;
-    }
-    n
+    lines::unhex(s, out)
 }
 
 // The low byte of a number.
