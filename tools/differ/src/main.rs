@@ -64,6 +64,11 @@ fn main() -> std::process::ExitCode {
                 None => return usage(),
             }
         }
+        ["stacks"] => order::stacks(),
+        ["stack", shape, pages] => match number(pages) {
+            Some(pages) => order::stack(shape, pages as usize),
+            _ => return usage(),
+        },
         ["measure", "order", shape, who, times] => match number(times) {
             Some(times) => order::measure(shape, who, times),
             _ => return usage(),
@@ -104,7 +109,8 @@ fn usage() -> std::process::ExitCode {
          \x20      differ names SEED COUNT      prefixes and keywords\n\
          \x20      differ measure WHICH WHO TIMES   WHICH is largest or alike, WHO port or tools: checks\n\
          \x20      differ measure names WHO TIMES   WHO is port or original: prefixes and keywords\n\
-         \x20      differ measure order SHAPE WHO TIMES   WHO is port, original or model, SHAPE as in `generate`"
+         \x20      differ measure order SHAPE WHO TIMES   WHO is port, original or model, SHAPE as in `generate`\n\
+         \x20      differ stacks                the stack of discovery and order"
     );
     std::process::ExitCode::from(2)
 }

@@ -286,3 +286,34 @@ pub fn measure(name: &str, who: &str, times: u64) -> u64 {
     }
     0
 }
+
+/// `stack SHAPE PAGES`: one run of the port in a thread whose stack has so many pages of 4 KB. Where
+/// they are too few the process ends by a signal.
+pub fn stack(name: &str, pages: usize) -> u64 {
+    let Some(bytes) = shape(name, 64) else {
+        return 1;
+    };
+    let thread = std::thread::Builder::new().stack_size(4096 * pages);
+    let thread = thread.spawn(move || crate::host::order(&bytes, &mut [0; 1024]));
+    thread.expect("a thread").join().expect("no panic");
+    0
+}
+
+/// The smallest stacks in which discovery and order run.
+pub fn stacks() -> u64 {
+    let program = std::env::current_exe().expect("this program");
+    for name in bundle_generate::SHAPES {
+        let ends_well = |pages: &usize| {
+            std::process::Command::new(&program)
+                .args(["stack", name, &pages.to_string()])
+                .stderr(std::process::Stdio::null())
+                .status()
+                .expect("this program runs")
+                .success()
+        };
+        // 16 KB is the least that a thread has.
+        let pages = (4..4096).find(ends_well).expect("16 MB are enough");
+        println!("{name}: {} KB", 4 * pages);
+    }
+    0
+}

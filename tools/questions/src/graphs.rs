@@ -53,11 +53,13 @@ fn every_list(units: usize) -> Vec<Vec<usize>> {
     lists
 }
 
-/// All graphs of one to three units whose lists have an id once, in every order: 4,123.
-pub fn small() -> Vec<String> {
+/// All graphs of one to three units whose lists have an id once: in every order 4,123, in rising
+/// order alone 530.
+pub fn small(rising: bool) -> Vec<String> {
     let mut lines = Vec::new();
     for units in 1..=3 {
-        let lists = every_list(units);
+        let mut lists = every_list(units);
+        lists.retain(|list| !rising || list.is_sorted());
         for number in 0..lists.len().pow(units as u32) {
             let mut left = number;
             let graph: Vec<Vec<usize>> = (0..units)
@@ -248,4 +250,21 @@ pub fn drawn(rng: &mut Rng) -> String {
         _ => {}
     }
     graph.line()
+}
+
+/// As many lines as fit in so many bytes: a ring that does not start at the walk's first unit, the
+/// edges, the small graphs in rising order, drawn ones.
+pub fn sample(seed: u64, bytes: usize) -> Vec<String> {
+    let ring = Graph::of(&[vec![1], vec![2], vec![3], vec![2]]).line();
+    let mut lines = [vec![ring], edges(), small(true)].concat();
+    let mut length: usize = lines.iter().map(|line| line.len() + 1).sum();
+    for index in 0.. {
+        let line = drawn(&mut Rng::new(seed, index));
+        length += line.len() + 1;
+        if length > bytes {
+            break;
+        }
+        lines.push(line);
+    }
+    lines
 }

@@ -2,6 +2,7 @@
 //! names_vectors, the same each time for the same seed. After a fixed list at the edges of the forms
 //! come COUNT drawn ones. `questions graphs SEED COUNT`: graphs for `oracle --graph` and for the
 //! program graph_vectors, likewise; the fixed list has all graphs of one to three units.
+//! `questions graphs-sample SEED BYTES`: fewer of them, the stored ones of graph_vectors.
 
 mod graphs;
 
@@ -165,13 +166,13 @@ fn drawn(rng: &mut Rng) -> String {
 
 fn main() {
     let arguments: Vec<String> = std::env::args().skip(1).collect();
-    let (are_graphs, arguments) = match arguments.split_first() {
-        Some((word, rest)) if word == "graphs" => (true, rest),
-        _ => (false, &arguments[..]),
+    let (word, arguments) = match arguments.split_first() {
+        Some((word, rest)) if word.starts_with("graphs") => (word.as_str(), rest),
+        _ => ("names", &arguments[..]),
     };
     let numbers: Option<Vec<u64>> = arguments.iter().map(|word| word.parse().ok()).collect();
     let Some(&[seed, count]) = numbers.as_deref() else {
-        eprintln!("usage: questions [graphs] SEED COUNT");
+        eprintln!("usage: questions [graphs | graphs-sample] SEED COUNT");
         std::process::exit(2);
     };
     let mut out = std::io::BufWriter::new(std::io::stdout().lock());
@@ -180,17 +181,21 @@ fn main() {
             std::process::exit(1);
         }
     };
-    let fixed = match are_graphs {
-        true => [graphs::edges(), graphs::small()].concat(),
-        false => edges(),
+    let (fixed, draw): (Vec<String>, fn(&mut Rng) -> String) = match word {
+        "graphs" => (
+            [graphs::edges(), graphs::small(false)].concat(),
+            graphs::drawn,
+        ),
+        "graphs-sample" => {
+            let sample = graphs::sample(seed, count as usize);
+            sample.into_iter().for_each(write);
+            return;
+        }
+        _ => (edges(), drawn),
     };
     fixed.into_iter().for_each(&mut write);
     for index in 0..count {
-        let rng = &mut Rng::new(seed, index);
-        write(match are_graphs {
-            true => graphs::drawn(rng),
-            false => drawn(rng),
-        });
+        write(draw(&mut Rng::new(seed, index)));
     }
     if out.flush().is_err() {
         std::process::exit(1);

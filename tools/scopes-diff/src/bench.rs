@@ -387,7 +387,6 @@ fn deepest(copies: usize) -> Vec<Call> {
 fn stack_case(row: &str) -> Option<Vec<Call>> {
     let mut calls = deepest(60);
     let last = match row {
-        "nothing" => return Some(Vec::new()),
         "enter" => {
             calls.push(Call::Exit);
             enter("x")
@@ -415,16 +414,12 @@ pub fn stack(row: &str, who: &str, pages: usize) -> Option<()> {
     // All but the last call, which is made in the thread; the port makes the whole list there.
     let (list, mut numbers) = (bytes(&calls), vec![0; calls.len()]);
     let calls = prepared(&calls);
-    let (last, before) = match calls.split_last() {
-        Some((last, before)) => (Some(last), before),
-        None => (None, &[][..]),
-    };
+    let (last, before) = calls.split_last().expect("a call");
     let mut tree = Bare::default();
     make(&mut tree, before);
     std::thread::scope(|scope| {
         let thread = std::thread::Builder::new().stack_size(4096 * pages);
         let thread = thread.spawn_scoped(scope, || match who {
-            Who::Port | Who::Walk if list.is_empty() => {}
             Who::Port => {
                 port::replay(&list, &mut numbers);
             }
@@ -432,7 +427,7 @@ pub fn stack(row: &str, who: &str, pages: usize) -> Option<()> {
                 port::walk(&list, &mut numbers);
             }
             Who::Original => {
-                last.map(|last| tree.call(last));
+                tree.call(last);
             }
         });
         thread.expect("a thread").join().expect("no panic");
@@ -453,7 +448,8 @@ fn pages(row: &str, who: Who) -> usize {
             .expect("this program runs")
             .success()
     };
-    let (mut few, mut enough) = (0, 4096);
+    // 16 KB is the least that a thread has.
+    let (mut few, mut enough) = (3, 4096);
     assert!(ends_well(enough), "{row}");
     while few + 1 < enough {
         let middle = (few + enough) / 2;
@@ -465,20 +461,20 @@ fn pages(row: &str, who: Who) -> usize {
     enough
 }
 
-/// A table of the stack that a call needs over that of an empty thread.
+/// A table of the smallest stacks in which a call runs.
 pub fn stacks() {
     println!("| Call | By value, KB | Lent, KB | Original, KB |");
     println!("|---|---|---|---|");
     for row in ROWS {
-        let over = |who| 4 * (pages(row, who) - pages("nothing", who));
+        let least = |who| 4 * pages(row, who);
         let walk = match cfg!(walk) {
-            true => over(Who::Walk).to_string(),
+            true => least(Who::Walk).to_string(),
             false => String::new(),
         };
         println!(
             "| {row} | {} | {walk} | {} |",
-            over(Who::Port),
-            over(Who::Original)
+            least(Who::Port),
+            least(Who::Original)
         );
     }
 }
