@@ -8,7 +8,7 @@ use lib.Dec.{ltb}
 use lib.ListN.{length, set, take, drop, getD, drop-of-length-le}
 use native.Mathlib.Numerals.{add-one}
 use lib.Seq.{drop-cons}
-use borrow.Author.Tests.{lt-ltb, le-ltb}
+use borrow.Author.Tests.{ltb-true, ltb-false, lt-ltb, le-ltb}
 use Rattle.bundle.specs.Bundle.{Text}
 use Rattle.bundle.specs.Limits.{file-limit, folder-limit, use-limit}
 use Rattle.resolution.specs.Lists.{Lists}
@@ -18,6 +18,8 @@ use Rattle.resolution.specs.Call.{answer, position}
 use Rattle.resolution.specs.declared.Resolution.{Resolution}
 use Rattle.resolution.specs.declared.Resolution.the-variants.{File, Folder, Refused}
 use Rattle.discovery.specs.declared.Graph.{Graph}
+use Rattle.discovery.specs.declared.Reading.{Reading}
+use Rattle.discovery.specs.declared.Reading.the-variants.{Nothing, Listed, New, Told}
 use Rattle.discovery.specs.Discovery.{Use, holds, unreadable}
 use Rattle.discovery.specs.Search.{indexIn}
 use Rattle.discovery.specs.Facts.{cond-elim}
@@ -157,10 +159,9 @@ looked-imports (Folder i left) mark g = omega arith
 looked-imports (Refused n p) mark g = omega arith
 
 -- what the code pushes is what the definition has
-pub lookup-is : (b : Lists) (file : Text) (u : Use) (g : Graph) (segments : List Text) (y x : Resolution)
-    → segments ≡ u .segments → y ≡ answer b (resolvePathInternal b file segments) → y ≡ x → looked x (u .mark) g ≡ lookedUse b file u g
-lookup-is b file u g segments y x e f h =
-    ap (λ (r : Resolution). looked r (u .mark) g) (sym h ∙ (f ∙ ap (λ (l : List Text). answer b (resolvePathInternal b file l)) e))
+pub lookup-is : (b : Lists) (file : Text) (u : Use) (g g' : Graph) (y x : Resolution)
+    → y ≡ answer b (resolvePathInternal b file (u .segments)) → y ≡ x → g' ≡ looked x (u .mark) g → g' ≡ lookedUse b file u g
+lookup-is b file u g g' y x e h q = q ∙ ap (λ (r : Resolution). looked r (u .mark) g) (sym h ∙ e)
 
 position-small : (p : Text) (l : List Text) → position p l ≤ length l
 unfolding position
@@ -255,6 +256,108 @@ module _ (g : Graph) (first target mark : ℕ) where
     unfolding readTarget
     tell-unread k = rw (le-ltb target file-limit h, le-ltb (indexIn (target - file-limit) (take (g .unread) (g .folders))) (g .unread) k)
 
+-- what the reading comes to, from the arrays that it looks at
+unfoldable pub readingOf : List ℕ → ℕ → List ℕ → ℕ → ℕ → List ℕ → ℕ → ℕ → Reading
+readingOf files units ids first count folders unread target =
+    cond (ltb target file-limit)
+    (cond (ltb (indexIn target (take units files)) units)
+    (cond (holds (indexIn target (take units files)) (drop first (take count ids))) Nothing (Listed (indexIn target (take units files))))
+    (New (indexIn target (take units files))))
+    (cond (ltb (indexIn (target - file-limit) (take unread folders)) unread) Nothing (Told (target - file-limit)))
+
+-- within the arrays
+pub record LoadRoom (files units ids first count folders unread : ℕ) : Type 0 where
+  pub units-fit : units ≤ files
+  pub units-small : units ≤ 65535
+  pub list : first ≤ count
+  pub ids-fit : count ≤ ids
+  pub unread-fit : unread ≤ folders
+
+-- and what is then pushed
+abbrev pub applied : Reading → Graph → ℕ → ℕ → Graph
+applied Nothing g target mark = g
+applied (Listed id) g target mark = pushedId g id
+applied (New id) g target mark = pushedId (pushedUnit g target) id
+applied (Told folder) g target mark = pushedFault (pushedUnread g folder) unreadable mark
+
+module _ (files : List ℕ) (units : ℕ) (ids : List ℕ) (first count : ℕ) (folders : List ℕ) (unread target : ℕ) where
+  module _ (h : target < file-limit) where
+    pub load-again : indexIn target (take units files) < units → holds (indexIn target (take units files)) (drop first (take count ids)) ≡ true → Nothing ≡ readingOf files units ids first count folders unread target
+    unfolding readingOf
+    load-again k e = rw (lt-ltb target file-limit h, lt-ltb (indexIn target (take units files)) units k, e)
+
+    pub load-known : indexIn target (take units files) < units → holds (indexIn target (take units files)) (drop first (take count ids)) ≡ false → Listed (indexIn target (take units files)) ≡ readingOf files units ids first count folders unread target
+    unfolding readingOf
+    load-known k e = rw (lt-ltb target file-limit h, lt-ltb (indexIn target (take units files)) units k, e)
+
+    pub load-new : units ≤ indexIn target (take units files) → New (indexIn target (take units files)) ≡ readingOf files units ids first count folders unread target
+    unfolding readingOf
+    load-new k = rw (lt-ltb target file-limit h, le-ltb (indexIn target (take units files)) units k)
+
+  module _ (h : file-limit ≤ target) where
+    pub load-told : indexIn (target - file-limit) (take unread folders) < unread → Nothing ≡ readingOf files units ids first count folders unread target
+    unfolding readingOf
+    load-told k = rw (le-ltb target file-limit h, lt-ltb (indexIn (target - file-limit) (take unread folders)) unread k)
+
+    pub load-tells : unread ≤ indexIn (target - file-limit) (take unread folders) → Told (target - file-limit) ≡ readingOf files units ids first count folders unread target
+    unfolding readingOf
+    load-tells k = rw (le-ltb target file-limit h, le-ltb (indexIn (target - file-limit) (take unread folders)) unread k)
+
+-- the reading of a record
+abbrev pub readingIn : Graph → ℕ → ℕ → Reading
+readingIn g first target = readingOf (g .files) (g .units) (g .ids) first (g .count) (g .folders) (g .unread) target
+
+-- what is pushed is the reading on the record
+module _ (g : Graph) (first target mark : ℕ) where
+  pub read-is : applied (readingIn g first target) g target mark ≡ readTarget g first target mark
+  unfolding readingOf readTarget
+  read-is =
+      go (ltb target file-limit) (ltb (unitOf g target) (g .units)) (holds (unitOf g target) (drop first (take (g .count) (g .ids))))
+      (isUnread g (target - file-limit)) (unitOf g target) (target - file-limit)
+    where
+      go : (a b c d : Bool) (id folder : ℕ) → applied (cond a (cond b (cond c Nothing (Listed id)) (New id)) (cond d Nothing (Told folder))) g target mark
+          ≡ cond a (cond b (cond c g (pushedId g id)) (pushedId (pushedUnit g target) id)) (cond d g (pushedFault (pushedUnread g folder) unreadable mark))
+      go true true true d id folder = refl
+      go true true false d id folder = refl
+      go true false c d id folder = refl
+      go false b c true id folder = refl
+      go false b c false id folder = refl
+
+  -- and the room that it needs
+  module _ (r : ReadRoom g first target) where
+    pub new-room : (id : ℕ) → readingIn g first target ≡ New id → g .units < file-limit
+    unfolding readingOf
+    new-room id e =
+        go (ltb target file-limit) (ltb (unitOf g target) (g .units)) (holds (unitOf g target) (drop first (take (g .count) (g .ids)))) (isUnread g (target - file-limit)) refl refl e
+      where
+        go : (a b c d : Bool) → ltb target file-limit ≡ a → ltb (unitOf g target) (g .units) ≡ b
+            → cond a (cond b (cond c Nothing (Listed (unitOf g target))) (New (unitOf g target))) (cond d Nothing (Told (target - file-limit))) ≡ New id → g .units < file-limit
+        go true true true d x y q = let z : _≡_ {A = ℕ} 0 1 = cc in absurd (omega arith)
+        go true true false d x y q = let z : _≡_ {A = ℕ} 0 1 = cc in absurd (omega arith)
+        go true false c d x y q = r .new-unit (ltb-true target file-limit x) (ltb-false (unitOf g target) (g .units) y)
+        go false b c true x y q = let z : _≡_ {A = ℕ} 0 1 = cc in absurd (omega arith)
+        go false b c false x y q = let z : _≡_ {A = ℕ} 0 1 = cc in absurd (omega arith)
+
+    pub told-room : (j : ℕ) → readingIn g first target ≡ Told j → g .unread < folder-limit
+    unfolding readingOf
+    told-room j e =
+        go (ltb target file-limit) (ltb (unitOf g target) (g .units)) (holds (unitOf g target) (drop first (take (g .count) (g .ids)))) (isUnread g (target - file-limit)) refl refl e
+      where
+        go : (a b c d : Bool) → ltb target file-limit ≡ a → isUnread g (target - file-limit) ≡ d
+            → cond a (cond b (cond c Nothing (Listed (unitOf g target))) (New (unitOf g target))) (cond d Nothing (Told (target - file-limit))) ≡ Told j → g .unread < folder-limit
+        go true true true d x y q = let z : _≡_ {A = ℕ} 0 1 = cc in absurd (omega arith)
+        go true true false d x y q = let z : _≡_ {A = ℕ} 0 1 = cc in absurd (omega arith)
+        go true false c d x y q = let z : _≡_ {A = ℕ} 0 1 = cc in absurd (omega arith)
+        go false b c true x y q = let z : _≡_ {A = ℕ} 0 1 = cc in absurd (omega arith)
+        go false b c false x y q = r .new-unread (ltb-false target file-limit x) (ltb-false (indexIn (target - file-limit) (take (g .unread) (g .folders))) (g .unread) y)
+
+    pub load-room : (files ids folders : ℕ) → files ≡ file-limit → ids ≡ use-limit → folders ≡ folder-limit → LoadRoom files (g .units) ids first (g .count) folders (g .unread)
+    load-room files ids folders a b c =
+        let u = r .units in
+        let k = r .ids in
+        let v = r .unread in
+        record { units-fit = omega arith; units-small = omega arith; list = r .list; ids-fit = omega arith; unread-fit = omega arith }
+
 -- ALL READINGS OF A UNIT: i of them, where its list starts at first
 unfoldable pub readTo : Graph → ℕ → ℕ → Graph
 readTo g first zero = g
@@ -301,6 +404,14 @@ module _ (g : Graph) (first : ℕ) where
   pub read-more : (i : ℕ) (w r : Graph) → w ≡ readTo g first i → r ≡ readTarget w first (getD (g .targets) i 0) (getD (g .marks) i 0) → r ≡ readTo g first (i + 1)
   unfolding readTo
   read-more i w r e q = rw (add-one i) (q ∙ ap (λ (x : Graph). readTarget x first (getD (g .targets) i 0) (getD (g .marks) i 0)) e)
+
+-- one more reading, by what it comes to
+pub read-next : (g w : Graph) (first i : ℕ) (x : Reading) (mark : ℕ) → w ≡ readTo g first i → readingIn w first (getD (g .targets) i 0) ≡ x → mark ≡ getD (g .marks) i 0
+    → applied x w (getD (g .targets) i 0) mark ≡ readTo g first (i + 1)
+read-next g w first i x mark e q m =
+    read-more g first i w (applied x w (getD (g .targets) i 0) mark) e
+    (ap (λ (y : Reading). applied y w (getD (g .targets) i 0) mark) (sym q)
+    ∙ (ap (applied (readingIn w first (getD (g .targets) i 0)) w (getD (g .targets) i 0)) m ∙ read-is w first (getD (g .targets) i 0) (getD (g .marks) i 0)))
 
 pub read-out : (g w : Graph) (unit : ℕ) → w ≡ readOut g → withList w unit (g .count) (w .count - g .count) ≡ readAll g unit
 unfolding readAll

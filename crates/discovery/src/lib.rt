@@ -40,3 +40,11 @@ pub struct Graph {
     pub marks: [usize; IDS],
     pub imports: usize,
 }
+
+// What a reading comes to: nothing new, a known unit for the list, a new unit with its id, or a folder to be told.
+pub enum Reading {
+    Nothing,
+    Listed(u16),
+    New(u16),
+    Told(usize),
+}

@@ -4,55 +4,28 @@ ghost use Prim.Native.Nat.{_+_, _<_, _≤_};
 ghost use Rattle.bundle.specs.Limits.{use-limit};
 ghost use Rattle.resolution.specs.Layouts.{listsAt, Small, Importer};
 ghost use Rattle.discovery.specs.Walk.{useAt, UseMark, UseMarks, useList};
-ghost use Rattle.discovery.specs.Record.{pushedFault, pushedImport, lookedUse, lookedAll, noImports};
+ghost use Rattle.resolution.specs.Call.{answer};
+ghost use Rattle.resolution.specs.Resolution.{resolvePathInternal};
+ghost use Rattle.discovery.specs.Record.{lookedAll, noImports};
 use crate::Graph;
 use crate::UNITS;
 use crate::Uses;
 use resolution::Layout;
 use resolution::Resolution;
 
-pub fn push_fault(g: Graph, number: u8, place: usize) -> Graph
-    requires { ⌜ g .faults < use-limit ⌝ }
-    ensures { λ r. ⌜ r ≡ pushedFault g number place ⌝ }
-{
-    let mut w = g;
-    let n = w.faults;
-    w.numbers[n] = number;
-    w.places[n] = place;
-    w.faults = n + 1;
-    w
-}
-
-fn push_import(g: Graph, target: usize, mark: usize) -> Graph
-    requires { ⌜ g .imports < use-limit ⌝ }
-    ensures { λ r. ⌜ r ≡ pushedImport g target mark ⌝ }
-{
-    let mut w = g;
-    let n = w.imports;
-    w.targets[n] = target;
-    w.marks[n] = mark;
-    w.imports = n + 1;
-    w
-}
-
-// A lookup: the use at `mark` in the file of this index.
-fn resolve_single(s: &[u8], at: Layout, file: &[u8], index: usize, mark: usize, g: Graph) -> Graph
-    requires { ⌜ (Small at × Importer (listsAt (now s) at) (now file) index) × (UseMark (now s) mark × ((g .faults < use-limit) × (g .imports < use-limit))) ⌝ }
-    ensures { λ r. ⌜ r ≡ lookedUse (listsAt (now (s .entry)) at) (now (file .entry)) (useAt (now (s .entry)) mark) g ⌝ }
+// A lookup: what the use at `mark` in the file of this index resolves to.
+fn resolve_single(s: &[u8], at: Layout, file: &[u8], index: usize, mark: usize) -> Resolution
+    requires { ⌜ (Small at × Importer (listsAt (now s) at) (now file) index) × UseMark (now s) mark ⌝ }
+    ensures { λ r. ⌜ r ≡ answer (listsAt (now (s .entry)) at) (resolvePathInternal (listsAt (now (s .entry)) at) (now (file .entry)) (useAt (now (s .entry)) mark .segments)) ⌝ }
 {
     let segments = bundle::use_segments(s, mark);
     let first = segments.first;
     let n = segments.count;
-    let resolved = resolution::resolve_path_internal(s, at, file, index, s, first, n);
-    match resolved {
-        Resolution::Refused(number, _) => push_fault(g, number, mark),
-        Resolution::File(i, _) => push_import(g, i, mark),
-        Resolution::Folder(i, _) => push_import(g, UNITS + i, mark),
-    }
+    resolution::resolve_path_internal(s, at, file, index, s, first, n)
 }
 
-// All lookups of the file of this index, whose uses these are. Ruled out: a fault at the place of another use; a use that fails
-// gathered as an import.
+// All lookups of the file of this index, whose uses these are. What they push is stored here, so that no record is copied for a
+// use. Ruled out: a fault at the place of another use; a use that fails gathered as an import.
 pub fn resolve_imports(s: &[u8], at: Layout, file: &[u8], index: usize, u: Uses, g: Graph) -> Graph
     requires { ⌜ (Small at × Importer (listsAt (now s) at) (now file) index) × (UseMarks (now s) u × ((u .count ≤ use-limit) × (g .faults + u .count ≤ use-limit))) ⌝ }
     ensures { λ r. ⌜ r ≡ lookedAll (listsAt (now (s .entry)) at) (now (file .entry)) (useList (now (s .entry)) u) (noImports g) ⌝ }
@@ -62,7 +35,27 @@ pub fn resolve_imports(s: &[u8], at: Layout, file: &[u8], index: usize, u: Uses,
     w.imports = 0;
     let mut i = 0;
     while i < n {
-        w = resolve_single(s, at, file, index, u.marks[i], w);
+        let mark = u.marks[i];
+        let found = resolve_single(s, at, file, index, mark);
+        let faults = w.faults;
+        let imports = w.imports;
+        match found {
+            Resolution::Refused(number, _) => {
+                w.numbers[faults] = number;
+                w.places[faults] = mark;
+                w.faults = faults + 1;
+            }
+            Resolution::File(f, _) => {
+                w.targets[imports] = f;
+                w.marks[imports] = mark;
+                w.imports = imports + 1;
+            }
+            Resolution::Folder(f, _) => {
+                w.targets[imports] = UNITS + f;
+                w.marks[imports] = mark;
+                w.imports = imports + 1;
+            }
+        }
         i += 1;
     }
     w

@@ -2,13 +2,12 @@
 ghost use mathlib.Core.Path.{_≡_};
 ghost use Prim.Native.Nat.{_≤_, _<_};
 ghost use lib.ListN.{length, take, drop};
-ghost use Rattle.bundle.specs.Limits.{file-limit, folder-limit, use-limit};
 ghost use Rattle.discovery.specs.Discovery.{holds as Discovery·holds};
 ghost use Rattle.discovery.specs.Search.{indexIn};
-ghost use Rattle.discovery.specs.Record.{pushedUnit, pushedId, pushedUnread, readTarget, ReadRoom, readAll, ReadsRoom};
+ghost use Rattle.discovery.specs.Record.{readingOf, LoadRoom, readAll, ReadsRoom};
 use crate::Graph;
+use crate::Reading;
 use crate::UNITS;
-use crate::lookups::push_fault;
 
 // The number of a path that can't be read.
 const UNREADABLE: u8 = 23;
@@ -43,68 +42,41 @@ fn holds(l: &[u16], first: usize, end: usize, x: u16) -> bool
     false
 }
 
-fn push_unit(g: Graph, file: usize) -> Graph
-    requires { ⌜ g .units < file-limit ⌝ }
-    ensures { λ r. ⌜ r ≡ pushedUnit g file ⌝ }
+// What the reading of a target comes to, for a unit whose list starts at first: a folder is told once, a known file listed
+// once, a new one gets the next id.
+fn load<'a>(
+    files: &'a [usize],
+    units: usize,
+    ids: &'a [u16],
+    first: usize,
+    count: usize,
+    folders: &'a [usize],
+    unread: usize,
+    target: usize,
+) -> Reading
+    requires { ⌜ LoadRoom (length (now files)) units (length (now ids)) first count (length (now folders)) unread ⌝ }
+    ensures { λ r. ⌜ r ≡ readingOf (now (files .entry)) units (now (ids .entry)) first count (now (folders .entry)) unread target ⌝ }
 {
-    let mut w = g;
-    let n = w.units;
-    w.files[n] = file;
-    w.units = n + 1;
-    w
-}
-
-fn push_id(g: Graph, id: u16) -> Graph
-    requires { ⌜ g .count < use-limit ⌝ }
-    ensures { λ r. ⌜ r ≡ pushedId g id ⌝ }
-{
-    let mut w = g;
-    let n = w.count;
-    w.ids[n] = id;
-    w.count = n + 1;
-    w
-}
-
-fn push_unread(g: Graph, folder: usize) -> Graph
-    requires { ⌜ g .unread < folder-limit ⌝ }
-    ensures { λ r. ⌜ r ≡ pushedUnread g folder ⌝ }
-{
-    let mut w = g;
-    let n = w.unread;
-    w.folders[n] = folder;
-    w.unread = n + 1;
-    w
-}
-
-// A reading, of a unit whose list starts at first: a folder is told once, a known file listed once, a new one gets the next id.
-pub fn load(g: Graph, first: usize, target: usize, mark: usize) -> Graph
-    requires { ⌜ ReadRoom g first target ⌝ }
-    ensures { λ r. ⌜ r ≡ readTarget g first target mark ⌝ }
-{
-    let units = g.units;
-    let count = g.count;
-    let unread = g.unread;
     if target < UNITS {
-        let id = index_of(&g.files, units, target);
+        let id = index_of(files, units, target);
         if id < units {
-            if holds(&g.ids, first, count, id as u16) {
-                return g;
+            if holds(ids, first, count, id as u16) {
+                return Reading::Nothing;
             }
-            return push_id(g, id as u16);
+            return Reading::Listed(id as u16);
         }
-        let w = push_unit(g, target);
-        return push_id(w, id as u16);
+        return Reading::New(id as u16);
     }
     let folder = target - UNITS;
-    let place = index_of(&g.folders, unread, folder);
+    let place = index_of(folders, unread, folder);
     if place < unread {
-        return g;
+        return Reading::Nothing;
     }
-    let w = push_unread(g, folder);
-    push_fault(w, UNREADABLE, mark)
+    Reading::Told(folder)
 }
 
-// All readings of a unit, whose imports were gathered, and its list.
+// All readings of a unit, whose imports were gathered, and its list. What they push is stored here, so that no record is copied
+// for an import.
 pub fn load_and_parse_dependencies(g: Graph, unit: usize) -> Graph
     requires { ⌜ ReadsRoom g unit ⌝ }
     ensures { λ r. ⌜ r ≡ readAll g unit ⌝ }
@@ -114,7 +86,41 @@ pub fn load_and_parse_dependencies(g: Graph, unit: usize) -> Graph
     let mut w = g;
     let mut i = 0;
     while i < n {
-        w = load(w, first, g.targets[i], g.marks[i]);
+        let target = g.targets[i];
+        let units = w.units;
+        let count = w.count;
+        let unread = w.unread;
+        let faults = w.faults;
+        let read = load(
+            &w.files,
+            units,
+            &w.ids,
+            first,
+            count,
+            &w.folders,
+            unread,
+            target,
+        );
+        match read {
+            Reading::Nothing => {}
+            Reading::Listed(id) => {
+                w.ids[count] = id;
+                w.count = count + 1;
+            }
+            Reading::New(id) => {
+                w.files[units] = target;
+                w.units = units + 1;
+                w.ids[count] = id;
+                w.count = count + 1;
+            }
+            Reading::Told(folder) => {
+                w.folders[unread] = folder;
+                w.unread = unread + 1;
+                w.numbers[faults] = UNREADABLE;
+                w.places[faults] = g.marks[i];
+                w.faults = faults + 1;
+            }
+        }
         i += 1;
     }
     let end = w.count;
