@@ -248,8 +248,8 @@ fn largest() -> Vec<u8> {
     }
 }
 
-/// The same counts, with paths that begin alike for long, so that comparing them takes longest.
-fn alike() -> Vec<u8> {
+/// The same counts, with paths that are alike but for some bytes at their end or in their middle.
+fn alike(in_middle: bool) -> Vec<u8> {
     fn string(out: &mut Vec<u8>, text: &[u8]) {
         out.push(text.len() as u8);
         out.extend_from_slice(text);
@@ -261,7 +261,14 @@ fn alike() -> Vec<u8> {
     let mut fields = Vec::new();
     string(&mut fields, b"/");
     fields.push(64);
-    let folder = |i: usize| format!("/folder_with_a_long_name_{i:07}");
+    let folder = |i: usize| match in_middle {
+        true => format!("/folder_with_a_{i:07}_long_name"),
+        false => format!("/folder_with_a_long_name_{i:07}"),
+    };
+    let file = |i: usize| match in_middle {
+        true => format!("{}/m{:010}{i:05}{:010}.simf", folder(63), 0, 0),
+        false => format!("{}/m{i:025}.simf", folder(63)),
+    };
     for i in 0..64 {
         string(&mut fields, folder(i).as_bytes());
     }
@@ -274,10 +281,7 @@ fn alike() -> Vec<u8> {
     }
     fields.push(64);
     for i in 0..64 {
-        string(
-            &mut fields,
-            format!("{}/m{i:025}.simf", folder(63)).as_bytes(),
-        );
+        string(&mut fields, file(i).as_bytes());
         let mut items = Vec::new();
         for j in 0..4 {
             let mut body = vec![3, 0, 3];
@@ -310,7 +314,8 @@ fn alike() -> Vec<u8> {
 pub fn measure(which: &str, who: &str, times: u64) -> u64 {
     let bundle = match which {
         "largest" => largest(),
-        "alike" => alike(),
+        "alike" => alike(false),
+        "middle" => alike(true),
         _ => return 1,
     };
     assert_eq!(expected(&bundle).0, 0);

@@ -107,7 +107,7 @@ fn usage() -> std::process::ExitCode {
          \x20      differ order SEED COUNT      discovery and order of generated bundles\n\
          \x20      differ order-sample FORM LENGTH  stored bundles and answers; FORM is lists or order\n\
          \x20      differ names SEED COUNT      prefixes and keywords\n\
-         \x20      differ measure WHICH WHO TIMES   WHICH is largest or alike, WHO port or tools: checks\n\
+         \x20      differ measure WHICH WHO TIMES   WHICH is largest, alike or middle, WHO port or tools: checks\n\
          \x20      differ measure names WHO TIMES   WHO is port or original: prefixes and keywords\n\
          \x20      differ measure order SHAPE WHO TIMES   WHO is port, original or model, SHAPE as in `generate`\n\
          \x20      differ stacks                the stack of discovery and order"
