@@ -15,7 +15,6 @@ use Rattle.names.specs.Packed.{packed}
 use Rattle.names.specs.Identifier.{isIdentifier}
 use Rattle.scopes.specs.declared.Tree.{Tree}
 use Rattle.scopes.specs.declared.Answer.the-variants.{Refused}
-use Rattle.scopes.specs.declared.Added.{Added}
 use Rattle.scopes.specs.declared.Outcome.{Outcome}
 use Rattle.scopes.specs.declared.look.Spot.{Spot}
 use Rattle.scopes.specs.declared.look.Spot.the-variants.{At, Nothing}
@@ -26,7 +25,7 @@ use Rattle.scopes.specs.Rows.{length-tab, body-of, isOwn, spotted, find-
 use Rattle.scopes.specs.Nav.{stack-of, current-top, Doors}
 use Rattle.scopes.specs.Staging.{is-at}
 use Rattle.scopes.specs.Note.{accepted}
-use Rattle.scopes.specs.Trees.{bit-of, told, rows, entries-of, flat-of, Good, Sized, push-law, push-sized, refusing, accepting, here-of, current-spot, declared-in, no-entry, added-of, ended, opened-last, mark-at, got-of}
+use Rattle.scopes.specs.Trees.{Added, bit-of, told, rows, entries-of, flat-of, Good, Sized, push-law, push-sized, refusing, accepting, here-of, current-spot, declared-in, no-entry, added-of, ended, opened-last, mark-at, got-of}
 use Rattle.scopes.specs.Meets.{Meets, Answers}
 
 pub length-names : (l : List Entry) (ss : List ℕ) → length (stack-names l ss) ≡ length ss

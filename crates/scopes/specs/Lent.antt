@@ -7,11 +7,10 @@ use mathlib.Core.List.{List}
 use lib.Dec.{eqb}
 use borrow.Author.Tests.{eq-eqb, ne-eqb}
 use Rattle.scopes.specs.declared.Tree.{Tree}
-use Rattle.scopes.specs.declared.Added.{Added}
 use Rattle.scopes.specs.declared.Answer.{Answer as Told}
 use Rattle.scopes.specs.declared.stage.Staged.{Staged}
 use Rattle.scopes.specs.Form.{Request, enters, exits, inserts-alias, inserts-enum, inserts-function}
-use Rattle.scopes.specs.Trees.{Sized, refusing, accepting, no-entry, added-of, ended, ended-no, outcome-of, opened-last, got-of, committed}
+use Rattle.scopes.specs.Trees.{Added, Sized, refusing, accepting, no-entry, added-of, ended, ended-no, outcome-of, opened-last, got-of, committed}
 use Rattle.scopes.specs.Meets.{Meets}
 use Rattle.scopes.specs.Calls.{exit-root, exit-module, popped, added-sized, alias-meets, enum-meets, function-meets, enter-meets, via}
 
