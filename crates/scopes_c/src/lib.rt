@@ -177,6 +177,252 @@ pub extern "C" fn scopes_replay(s: &[u8], out: &mut [u32]) -> usize {
     r.count
 }
 
+// An answer as a number: code times 65,536 plus value.
+fn numbered(number: u8) -> u32 {
+    if number == 0 {
+        return 0;
+    }
+    packed(2, wider(number))
+}
+
+fn shown(a: Answer) -> u32 {
+    match a {
+        Answer::Done => 0,
+        Answer::Mark(m) => packed(1, m),
+        Answer::Refused(n) => packed(2, wider(n)),
+    }
+}
+
+// The place after the call at p.
+fn after(s: &[u8], p: usize) -> usize
+    requires { ⌜ p < 16777216 ⌝ }
+    ensures { λ r. ⌜ (p < r) × (r ≤ p + 65539) ⌝ }
+{
+    let op = byte(s, p);
+    if op == 6 {
+        return p + 4 + pair(s, p + 1);
+    }
+    if op == 7 {
+        return p + 2 + byte(s, p + 1);
+    }
+    if op == 8 {
+        return p + 2 + byte(s, p + 1);
+    }
+    if op == 1 {
+        return p + 5 + byte(s, p + 1);
+    }
+    if op == 3 {
+        return p + 5 + byte(s, p + 1);
+    }
+    if op == 4 {
+        return p + 5 + byte(s, p + 1);
+    }
+    if op == 5 {
+        return p + 5 + byte(s, p + 1);
+    }
+    p + 1
+}
+
+// The item kind of a declaring call, as in a bundle.
+fn item_of(op: usize) -> u8 {
+    if op == 5 {
+        return 2;
+    }
+    if op == 4 {
+        return 4;
+    }
+    1
+}
+
+fn declares(op: usize) -> bool {
+    if op < 3 {
+        return false;
+    }
+    op < 6
+}
+
+// The call at p on lent arrays: its answer as a number.
+fn call_in(
+    count: &mut usize,
+    kinds: &mut [u8; 1024],
+    visible: &mut [u8; 1024],
+    scopes: &mut [u16; 1024],
+    marks: &mut [u16; 1024],
+    n0: &mut [u64; 1024],
+    n1: &mut [u64; 1024],
+    n2: &mut [u64; 1024],
+    n3: &mut [u64; 1024],
+    origins: &mut [u16; 1024],
+    targets: &mut [u16; 1024],
+    times: &mut [u16; 1024],
+    depth: &mut usize,
+    stack: &mut [u16; 9],
+    s: &[u8],
+    p: usize,
+) -> u32
+    requires { ⌜ p < 16777216 ⌝ }
+{
+    let op = byte(s, p);
+    if op == 2 {
+        return numbered(scopes::lent::exit(&mut *depth));
+    }
+    if op == 6 {
+        let n = pair(s, p + 1);
+        let v = byte(s, p + 3 + n) == 1;
+        return numbered(scopes::lent::resolve_use(
+            &mut *count,
+            &mut *kinds,
+            &mut *visible,
+            &mut *scopes,
+            &mut *marks,
+            &mut *n0,
+            &mut *n1,
+            &mut *n2,
+            &mut *n3,
+            &mut *origins,
+            &mut *targets,
+            &mut *times,
+            *depth,
+            &*stack,
+            part(s, p + 3, n),
+            v,
+        ));
+    }
+    let n = byte(s, p + 1);
+    let e = p + 2 + n;
+    if op == 7 {
+        return shown(scopes::lent::get(
+            *count,
+            &*kinds,
+            &*scopes,
+            &*marks,
+            &*n0,
+            &*n1,
+            &*n2,
+            &*n3,
+            *depth,
+            &*stack,
+            part(s, p + 2, n),
+            1,
+        ));
+    }
+    if op == 8 {
+        return shown(scopes::lent::get(
+            *count,
+            &*kinds,
+            &*scopes,
+            &*marks,
+            &*n0,
+            &*n1,
+            &*n2,
+            &*n3,
+            *depth,
+            &*stack,
+            part(s, p + 2, n),
+            2,
+        ));
+    }
+    let v = byte(s, e) == 1;
+    let m = mark(s, e + 1);
+    if op == 1 {
+        return numbered(scopes::lent::enter(
+            &mut *count,
+            &mut *kinds,
+            &mut *visible,
+            &mut *scopes,
+            &mut *marks,
+            &mut *n0,
+            &mut *n1,
+            &mut *n2,
+            &mut *n3,
+            &mut *origins,
+            &mut *targets,
+            &mut *times,
+            &mut *depth,
+            &mut *stack,
+            part(s, p + 2, n),
+            v,
+            m,
+        ));
+    }
+    if declares(op) {
+        return numbered(scopes::lent::insert(
+            &mut *count,
+            &mut *kinds,
+            &mut *visible,
+            &mut *scopes,
+            &mut *marks,
+            &mut *n0,
+            &mut *n1,
+            &mut *n2,
+            &mut *n3,
+            &mut *origins,
+            &mut *targets,
+            &mut *times,
+            *depth,
+            &*stack,
+            item_of(op),
+            part(s, p + 2, n),
+            v,
+            m,
+        ));
+    }
+    *count = 0;
+    *depth = 0;
+    0
+}
+
+// As `scopes_replay`, over arrays that are lent from call to call: no record is copied.
+#[no_mangle]
+pub extern "C" fn scopes_walk(s: &[u8], out: &mut [u32]) -> usize {
+    let mut count: usize = 0;
+    let mut kinds = [0u8; 1024];
+    let mut visible = [0u8; 1024];
+    let mut scopes = [0u16; 1024];
+    let mut marks = [0u16; 1024];
+    let mut n0 = [0u64; 1024];
+    let mut n1 = [0u64; 1024];
+    let mut n2 = [0u64; 1024];
+    let mut n3 = [0u64; 1024];
+    let mut origins = [0u16; 1024];
+    let mut targets = [0u16; 1024];
+    let mut times = [0u16; 1024];
+    let mut depth: usize = 0;
+    let mut stack = [0u16; 9];
+    let mut p: usize = 0;
+    let mut i: usize = 0;
+    while i < 16000000 {
+        if s.len() <= p {
+            return i;
+        }
+        if 16777216 <= p {
+            return i;
+        }
+        let a = call_in(
+            &mut count,
+            &mut kinds,
+            &mut visible,
+            &mut scopes,
+            &mut marks,
+            &mut n0,
+            &mut n1,
+            &mut n2,
+            &mut n3,
+            &mut origins,
+            &mut targets,
+            &mut times,
+            &mut depth,
+            &mut stack,
+            s,
+            p,
+        );
+        put(out, i, a);
+        p = after(s, p);
+        i += 1;
+    }
+    i
+}
+
 fn put_wide(out: &mut [u64], at: usize, v: u64) {
     if at < out.len() {
         out[at] = v;
