@@ -1,4 +1,4 @@
--- A lookup by blocks: a block is passed over where none of its entries stands in the scope, or none has a word of the name. Assumes nothing.
+-- A lookup by blocks: a block is passed over where none of its entries has the kind, none stands in the scope, or none has a word of the name. Assumes nothing.
 use Prim.Native.Nat.{ℕ, zero, suc, _+_, _-_, _≤_, _<_}
 use native.Mathlib.Omega.{arith}
 use native.Mathlib.Decide.{decLt}
@@ -136,6 +136,13 @@ module _ (ss ks a b c d : List ℕ) (s k : ℕ) (n : Name) (i e : ℕ) (h : i < 
       first-none (looked ss ks a b c d s k n) (e - i) i (λ j l g.
       let g′ : j < e = omega arith in
       rw (ne-eqb (getD ss j 0) s (f z j l g′)))
+
+  pub no-kind : (r : Bool) → Sieve ks i e k r → r ≡ false → first-in (looked ss ks a b c d s k n) i e ≡ Nothing
+  unfolding isRow
+  no-kind r f z =
+      first-none (looked ss ks a b c d s k n) (e - i) i (λ j l g.
+      let g′ : j < e = omega arith in
+      rw (ne-eqb (getD ks j 0) k (f z j l g′)) (and-false (eqb (getD ss j 0) s) false refl))
 
   pub no-name : (r : Bool) → Named a b c d i e n r → r ≡ false → first-in (looked ss ks a b c d s k n) i e ≡ Nothing
   unfolding isRow

@@ -358,9 +358,7 @@ pub fn resolve_use<'a>(
     }
     let elements = form::byte_at(decl, way.next);
     let first = way.next + 1;
-    if form::any_main(decl, first, elements) {
-        return 46;
-    }
+    let main = form::any_main(decl, first, elements);
     let here = look::current(stack, depth);
     let staged = stage::stage(
         &*kinds,
@@ -382,6 +380,9 @@ pub fn resolve_use<'a>(
         first,
         elements,
     );
+    if main {
+        return 46;
+    }
     if staged.number != 0 {
         return staged.number;
     }

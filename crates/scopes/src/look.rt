@@ -62,6 +62,12 @@ fn find_between<'a>(
     Spot::Nothing
 }
 
+fn one8(b: bool) -> u8
+    ensures { λ r. ⌜ (r ≡ bit-of b) × (r ≤ 1) ⌝ }
+{
+    if b { 1 } else { 0 }
+}
+
 fn one16(b: bool) -> u16
     ensures { λ r. ⌜ (r ≡ bit-of b) × (r ≤ 1) ⌝ }
 {
@@ -74,7 +80,24 @@ fn one64(b: bool) -> u64
     if b { 1 } else { 0 }
 }
 
-// Whether some entry from `from` on and below `to` stands in the scope: all are counted, so that eight go at once.
+// Whether some entry from `from` on and below `to` has the kind: all are counted, so that many go at once.
+fn any_kind<'a>(kinds: &'a [u8; 1024], from: usize, to: usize, kind: u8) -> bool
+    requires { ⌜ (to ≤ from + 64) × (to ≤ 1024) ⌝ }
+    ensures { λ r. ⌜ Sieve (now (kinds .entry)) from to kind r ⌝ }
+{
+    let mut n: u8 = 0;
+    let mut i = from;
+    while i < to {
+        n = n + one8(kinds[i] == kind);
+        i += 1;
+    }
+    if n == 0 {
+        return false;
+    }
+    true
+}
+
+// Whether some entry there stands in the scope.
 fn any_in<'a>(scopes: &'a [u16; 1024], from: usize, to: usize, scope: u16) -> bool
     requires { ⌜ (to ≤ from + 64) × (to ≤ 1024) ⌝ }
     ensures { λ r. ⌜ Sieve (now (scopes .entry)) from to scope r ⌝ }
@@ -145,8 +168,8 @@ fn block_end(i: usize, time: usize) -> usize
     time
 }
 
-// The first entry of a kind and a name in a scope, among the first `time` entries: block by block, and row by row only where an entry
-// of the block stands in the scope and one may have the name.
+// The first entry of a kind and a name in a scope, among the first `time` entries: block by block, and row by row only where some entry
+// of the block has the kind, some stands in the scope and some may have the name.
 pub fn find_in<'a>(
     scopes: &'a [u16; 1024],
     kinds: &'a [u8; 1024],
@@ -167,23 +190,25 @@ pub fn find_in<'a>(
         let from = i;
         let to = block_end(from, time);
         i = to;
-        if any_in(scopes, from, to, scope) {
-            if any_named(n0, n1, n2, n3, from, to, name) {
-                let found = find_between(
-                    scopes,
-                    kinds,
-                    n0,
-                    n1,
-                    n2,
-                    n3,
-                    from,
-                    to,
-                    scope,
-                    kind,
-                    name,
-                );
-                if let Spot::At(j) = found {
-                    return Spot::At(j);
+        if any_kind(kinds, from, to, kind) {
+            if any_in(scopes, from, to, scope) {
+                if any_named(n0, n1, n2, n3, from, to, name) {
+                    let found = find_between(
+                        scopes,
+                        kinds,
+                        n0,
+                        n1,
+                        n2,
+                        n3,
+                        from,
+                        to,
+                        scope,
+                        kind,
+                        name,
+                    );
+                    if let Spot::At(j) = found {
+                        return Spot::At(j);
+                    }
                 }
             }
         }
