@@ -380,11 +380,12 @@ pub fn resolve_use<'a>(
         first,
         elements,
     );
+    let told = staged.number;
     if main {
         return 46;
     }
-    if staged.number != 0 {
-        return staged.number;
+    if told != 0 {
+        return told;
     }
     if 1024 < total + staged.count {
         return 51;
