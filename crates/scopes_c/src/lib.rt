@@ -3,20 +3,25 @@
 // a 2-byte mark; after 6 a 2-byte length, the use's bytes and its visibility. What is missing counts as 0.
 ghost use mathlib.Core.Path.{_≡_};
 ghost use Prim.Native.Nat.{_+_, _*_, _<_, _≤_};
-ghost use lib.ListN.{length};
+ghost use mathlib.Core.Bool.{cond};
+ghost use lib.Dec.{ltb};
+ghost use lib.ListN.{length, getD, set};
+ghost use Rattle.scopes.specs.Trees.{told};
+ghost use Rattle.scopes.specs.Lent.{lent};
+ghost use Rattle.scopes_c.specs.Lists.{pair-at, part-of, item-kind, is-declaring, order-at, after-order, shown, number-shown, Turns, Walked};
 use names::Name;
 use scopes::Answer;
 use scopes::Outcome;
 use scopes::Tree;
 
 fn wide(b: u8) -> usize
-    ensures { λ r. ⌜ r < 256 ⌝ }
+    ensures { λ r. ⌜ (r ≡ b) × (r < 256) ⌝ }
 {
     b as usize
 }
 
 fn byte(s: &[u8], at: usize) -> usize
-    ensures { λ r. ⌜ r < 256 ⌝ }
+    ensures { λ r. ⌜ (r ≡ getD (now (s .entry)) at 0) × (r < 256) ⌝ }
 {
     if at < s.len() {
         return wide(s[at]);
@@ -26,19 +31,22 @@ fn byte(s: &[u8], at: usize) -> usize
 
 fn pair(s: &[u8], at: usize) -> usize
     requires { ⌜ at < 33554432 ⌝ }
-    ensures { λ r. ⌜ r < 65536 ⌝ }
+    ensures { λ r. ⌜ (r ≡ pair-at (now (s .entry)) at) × (r < 65536) ⌝ }
 {
     byte(s, at) * 256 + byte(s, at + 1)
 }
 
 fn mark(s: &[u8], at: usize) -> u16
     requires { ⌜ at < 33554432 ⌝ }
+    ensures { λ r. ⌜ r ≡ pair-at (now (s .entry)) at ⌝ }
 {
     pair(s, at) as u16
 }
 
 // The n bytes from `at` on that are there.
-fn part<'a>(s: &'a [u8], at: usize, n: usize) -> &'a [u8] {
+fn part<'a>(s: &'a [u8], at: usize, n: usize) -> &'a [u8]
+    ensures { λ r. ⌜ now r ≡ part-of (now (s .entry)) at n ⌝ }
+{
     let len = s.len();
     if len <= at {
         return &s[..0];
@@ -58,7 +66,9 @@ pub struct Step {
     pub next: usize,
 }
 
-fn wider(n: u8) -> u16 {
+fn wider(n: u8) -> u16
+    ensures { λ r. ⌜ r ≡ n ⌝ }
+{
     n as u16
 }
 
@@ -134,13 +144,17 @@ pub fn call_at(t: Tree, s: &[u8], p: usize) -> Step
     asked(Answer::Done, scopes::empty(), p + 1)
 }
 
-fn put(out: &mut [u32], at: usize, v: u32) {
+fn put(out: &mut [u32], at: usize, v: u32)
+    ensures { λ _. ⌜ (now (out .exit) ≡ cond (ltb at (length (now (out .entry)))) (set (now (out .entry)) at v) (now (out .entry))) × (length (now (out .exit)) ≡ length (now (out .entry))) ⌝ }
+{
     if at < out.len() {
         out[at] = v;
     }
 }
 
-fn packed(code: u8, value: u16) -> u32 {
+fn packed(code: u8, value: u16) -> u32
+    ensures { λ r. ⌜ r ≡ code * 65536 + value ⌝ }
+{
     (code as u32) * 65536 + (value as u32)
 }
 
@@ -178,14 +192,18 @@ pub extern "C" fn scopes_replay(s: &[u8], out: &mut [u32]) -> usize {
 }
 
 // An answer as a number: code times 65,536 plus value.
-fn numbered(number: u8) -> u32 {
+fn numbered(number: u8) -> u32
+    ensures { λ r. ⌜ r ≡ number-shown number ⌝ }
+{
     if number == 0 {
         return 0;
     }
     packed(2, wider(number))
 }
 
-fn shown(a: Answer) -> u32 {
+fn shown(a: Answer) -> u32
+    ensures { λ r. ⌜ r ≡ shown (told a) ⌝ }
+{
     match a {
         Answer::Done => 0,
         Answer::Mark(m) => packed(1, m),
@@ -196,35 +214,32 @@ fn shown(a: Answer) -> u32 {
 // The place after the call at p.
 fn after(s: &[u8], p: usize) -> usize
     requires { ⌜ p < 16777216 ⌝ }
-    ensures { λ r. ⌜ (p < r) × (r ≤ p + 65539) ⌝ }
+    ensures { λ r. ⌜ (r ≡ after-order (now (s .entry)) p) × (r ≤ p + 65539) ⌝ }
 {
     let op = byte(s, p);
     if op == 6 {
         return p + 4 + pair(s, p + 1);
     }
+    let n = byte(s, p + 1);
     if op == 7 {
-        return p + 2 + byte(s, p + 1);
+        return p + 2 + n;
     }
     if op == 8 {
-        return p + 2 + byte(s, p + 1);
+        return p + 2 + n;
     }
     if op == 1 {
-        return p + 5 + byte(s, p + 1);
+        return p + 5 + n;
     }
-    if op == 3 {
-        return p + 5 + byte(s, p + 1);
-    }
-    if op == 4 {
-        return p + 5 + byte(s, p + 1);
-    }
-    if op == 5 {
-        return p + 5 + byte(s, p + 1);
+    if declares(op) {
+        return p + 5 + n;
     }
     p + 1
 }
 
 // The item kind of a declaring call, as in a bundle.
-fn item_of(op: usize) -> u8 {
+fn item_of(op: usize) -> u8
+    ensures { λ r. ⌜ r ≡ item-kind op ⌝ }
+{
     if op == 5 {
         return 2;
     }
@@ -234,7 +249,9 @@ fn item_of(op: usize) -> u8 {
     1
 }
 
-fn declares(op: usize) -> bool {
+fn declares(op: usize) -> bool
+    ensures { λ r. ⌜ r ≡ is-declaring op ⌝ }
+{
     if op < 3 {
         return false;
     }
@@ -261,6 +278,7 @@ fn call_in(
     p: usize,
 ) -> u32
     requires { ⌜ p < 16777216 ⌝ }
+    ensures { λ r. ⌜ Turns (lent (now (count .entry)) (now (kinds .entry)) (now (visible .entry)) (now (scopes .entry)) (now (marks .entry)) (now (n0 .entry)) (now (n1 .entry)) (now (n2 .entry)) (now (n3 .entry)) (now (origins .entry)) (now (targets .entry)) (now (times .entry)) (now (depth .entry)) (now (stack .entry))) (order-at (now (s .entry)) p) r (lent (now (count .exit)) (now (kinds .exit)) (now (visible .exit)) (now (scopes .exit)) (now (marks .exit)) (now (n0 .exit)) (now (n1 .exit)) (now (n2 .exit)) (now (n3 .exit)) (now (origins .exit)) (now (targets .exit)) (now (times .exit)) (now (depth .exit)) (now (stack .exit))) ⌝ }
 {
     let op = byte(s, p);
     if op == 2 {
@@ -372,9 +390,12 @@ fn call_in(
     0
 }
 
-// As `scopes_replay`, over arrays that are lent from call to call: no record is copied.
+// As `scopes_replay`, over arrays that are lent from call to call: no record is copied. Ruled out: an answer that a refused call's
+// leavings changed; a count that leaves the last call out.
 #[no_mangle]
-pub extern "C" fn scopes_walk(s: &[u8], out: &mut [u32]) -> usize {
+pub extern "C" fn scopes_walk(s: &[u8], out: &mut [u32]) -> usize
+    ensures { λ r. ⌜ Walked (now (s .entry)) (now (out .entry)) r (now (out .exit)) ⌝ }
+{
     let mut count: usize = 0;
     let mut kinds = [0u8; 1024];
     let mut visible = [0u8; 1024];
