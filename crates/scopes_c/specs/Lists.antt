@@ -1,19 +1,23 @@
 -- Lists of tree calls as bytes, and what the calls answer one after another. Assumes nothing.
 use Prim.Native.Nat.{ℕ, zero, suc, _+_, _*_, _-_, _≤_, _<_}
 use native.Mathlib.Omega.{arith}
+use native.Mathlib.Decide.{decLt}
 use mathlib.Core.Path.{_≡_, refl, ap, sym, subst, _∙_}
 use mathlib.Core.Bool.{Bool, true, false, cond}
 use mathlib.Core.List.{List, [], _∷_}
+use mathlib.Core.Logic.{_⊎_, inl, inr}
 use lib.Dec.{eqb, ltb, leb}
 use lib.ListN.{length, getD, set, take, drop, drop-of-length-le}
 use lib.Seq.{take-all}
 use borrow.Author.Tests.{eq-eqb, ne-eqb, lt-ltb, le-ltb}
 use Rattle.scopes.specs.declared.Tree.{Tree}
+use Rattle.scopes_c.specs.declared.Step.{Step}
 use Rattle.scopes.specs.declared.Answer.{Answer as Told}
-use Rattle.scopes.specs.declared.Answer.the-variants.{Mark, Refused}
+use Rattle.scopes.specs.declared.Outcome.{Outcome}
+use Rattle.scopes.specs.declared.Answer.the-variants.{Done, Mark, Refused}
 use Rattle.scopes.specs.Step.{Answer, ok, marked, refused, step}
 use Rattle.scopes.specs.Flat.{Flat, flat, first-flat}
-use Rattle.scopes.specs.Form.{Request, enters, exits, resolves-use, gets-alias, gets-function, call-of}
+use Rattle.scopes.specs.Form.{Request, enters, exits, inserts-alias, inserts-enum, inserts-function, resolves-use, gets-alias, gets-function, call-of}
 use Rattle.scopes.specs.Rows.{tab}
 use Rattle.scopes.specs.Nav.{stack-of}
 use Rattle.scopes.specs.Trees.{cleared, told, flat-of, Good, Sized, accepting, refusing, ended, got-of}
@@ -98,6 +102,40 @@ pub record Turns (t : Tree) (o : Order) (n : ℕ) (u : Tree) : Type 0 where
   pub tree : Sized t → Good t → flat-of u ≡ turn (flat-of t) o .0
   pub said : Sized t → Good t → n ≡ shown (turn (flat-of t) o .1)
 
+-- a call on a tree
+pub record Turned (t : Tree) (o : Order) (n : ℕ) (u : Tree) : Type 0 where
+  pub good : Good t → Good u
+  pub tree : Good t → flat-of u ≡ turn (flat-of t) o .0
+  pub said : Good t → n ≡ shown (turn (flat-of t) o .1)
+
+pub at-size : {t u : Tree} {o : Order} {n : ℕ} → Turns t o n u → Sized t → Turned t o n u
+at-size c z = record { good = c .good z; tree = c .tree z; said = c .said z }
+
+-- by value
+pub turned-meets : (t : Tree) (q : Request) (r : Outcome) → Meets t q r → (n : ℕ) → n ≡ shown (told (r .answer)) → (u : Tree) → u ≡ r .tree → Turned t (asks q) n u
+turned-meets t q r m n e u f =
+    record {
+      good = λ g. subst Good (sym f) (m .good g);
+      tree = λ g. ap flat-of f ∙ m .tree g;
+      said = λ g. e ∙ ap shown (m .answer g);
+    }
+
+pub turned-answers : (t : Tree) (q : Request) (a : Told) → Answers t q a → (n : ℕ) → n ≡ shown (told a) → (u : Tree) → u ≡ t → Turned t (asks q) n u
+turned-answers t q a m n e u f =
+    record {
+      good = λ g. subst Good (sym f) g;
+      tree = λ g. ap flat-of f ∙ m .tree g;
+      said = λ g. e ∙ ap shown (m .answer g);
+    }
+
+pub turned-clears : (t : Tree) (n : ℕ) → n ≡ shown (told Done) → (u x : Tree) → u ≡ x → x ≡ cleared → Turned t clears n u
+turned-clears t n e u x f h =
+    record {
+      good = λ g. subst Good (sym (f ∙ h)) first-good;
+      tree = λ g. ap flat-of (f ∙ h) ∙ first-is;
+      said = λ g. e;
+    }
+
 pub turns-keeps : (t : Tree) (q : Request) (n : ℕ) (u : Tree) → Keeps t q n u → (r : ℕ) → r ≡ number-shown n → Turns t (asks q) r u
 unfolding ended
 turns-keeps t q n u k r e =
@@ -150,6 +188,55 @@ turns-clears t =
       said = λ z g. refl;
     }
 
+-- what is told of a call by value
+pub record Tells (a : Told) (t : Tree) (e : ℕ) (r : Step) : Type 0 where
+  pub said : r .code * 65536 + r .value ≡ shown (told a)
+  pub tree : r .tree ≡ t
+  pub next : r .next ≡ e
+
+pub tells-done : (a : Told) (t : Tree) (e : ℕ) → a ≡ Done → Tells a t e (record { code = 0; value = 0; tree = t; next = e })
+tells-done a t e q = record { said = rw q; tree = refl; next = refl }
+
+pub tells-mark : (a : Told) (t : Tree) (e m : ℕ) → a ≡ Mark m → Tells a t e (record { code = 1; value = m; tree = t; next = e })
+tells-mark a t e m q = record { said = rw q (omega arith); tree = refl; next = refl }
+
+pub tells-refused : (a : Told) (t : Tree) (e n w : ℕ) → a ≡ Refused n → w ≡ n → Tells a t e (record { code = 2; value = w; tree = t; next = e })
+tells-refused a t e n w q x = record { said = rw q (omega arith); tree = refl; next = refl }
+
+pub said-as : {t u : Tree} {o : Order} {n m : ℕ} → m ≡ n → Turned t o n u → Turned t o m u
+said-as e c = record { good = c .good; tree = c .tree; said = λ g. e ∙ c .said g }
+
+-- the call at p by value
+pub record Called (t : Tree) (s : List ℕ) (p : ℕ) (r : Step) : Type 0 where
+  pub turned : Turned t (order-at s p) (r .code * 65536 + r .value) (r .tree)
+  pub next : r .next ≡ after-order s p
+  pub near : r .next ≤ p + 65539
+
+module _ (t : Tree) (s : List ℕ) (p : ℕ) (r : Step) (e : ℕ) (eq : e ≡ after-order s p) (el : e ≤ p + 65539) where
+  pub called-meets : (q : Request) → asks q ≡ order-at s p → (x : Outcome) → Meets t q x → Tells (x .answer) (x .tree) e r → Called t s p r
+  called-meets q oq x m c =
+      record {
+        turned = subst (λ (o : Order). Turned t o (r .code * 65536 + r .value) (r .tree)) oq (turned-meets t q x m (r .code * 65536 + r .value) (c .said) (r .tree) (c .tree));
+        next = c .next ∙ eq;
+        near = omega (arith, c .next);
+      }
+
+  pub called-answers : (q : Request) → asks q ≡ order-at s p → (a : Told) → Answers t q a → Tells a t e r → Called t s p r
+  called-answers q oq a m c =
+      record {
+        turned = subst (λ (o : Order). Turned t o (r .code * 65536 + r .value) (r .tree)) oq (turned-answers t q a m (r .code * 65536 + r .value) (c .said) (r .tree) (c .tree));
+        next = c .next ∙ eq;
+        near = omega (arith, c .next);
+      }
+
+  pub called-clears : clears ≡ order-at s p → (x : Tree) → x ≡ cleared → Tells Done x e r → Called t s p r
+  called-clears oq x h c =
+      record {
+        turned = subst (λ (o : Order). Turned t o (r .code * 65536 + r .value) (r .tree)) oq (turned-clears t (r .code * 65536 + r .value) (c .said) (r .tree) x (c .tree) h);
+        next = c .next ∙ eq;
+        near = omega (arith, c .next);
+      }
+
 -- AS THE CODE HAS IT: the call at p
 module _ (s : List ℕ) (p op : ℕ) (oq : op ≡ getD s p 0) where
   pub order-exit : op ≡ 2 → asks exits ≡ order-at s p
@@ -185,6 +272,18 @@ module _ (s : List ℕ) (p op : ℕ) (oq : op ≡ getD s p 0) where
             unfolding order-at
             order-clear z = rw (← oq, ne-eqb op 2 z2, ne-eqb op 6 z6, ne-eqb op 7 z7, ne-eqb op 8 z8, ne-eqb op 1 z1, ← cq, z)
 
+          pub order-type : op ≡ 3 → asks (inserts-alias d (eqb b 1) m) ≡ order-at s p
+          unfolding order-at
+          order-type z = rw (← oq, z, dq, bq, mq, nq)
+
+          pub order-enum : op ≡ 4 → asks (inserts-enum d (eqb b 1) m) ≡ order-at s p
+          unfolding order-at
+          order-enum z = rw (← oq, z, dq, bq, mq, nq)
+
+          pub order-fn : op ≡ 5 → asks (inserts-function d (eqb b 1) m) ≡ order-at s p
+          unfolding order-at
+          order-fn z = rw (← oq, z, dq, bq, mq, nq)
+
 -- a part of the bytes
 pub part-none : (s : List ℕ) (p n : ℕ) → length s ≤ p → [] ≡ part-of s p n
 unfolding part-of
@@ -205,6 +304,9 @@ part-some s p n e q = let x : e - p ≡ n = omega arith in rw x
 pub turned : {t u : Tree} {o o′ : Order} {r : ℕ} → o ≡ o′ → Turns t o r u → Turns t o′ r u
 turned {t} {u} {o} {o′} {r} e c = subst (λ (x : Order). Turns t x r u) e c
 
+pub turned-by : {t u : Tree} {o o′ : Order} {r : ℕ} → o ≡ o′ → Turned t o r u → Turned t o′ r u
+turned-by {t} {u} {o} {o′} {r} e c = subst (λ (x : Order). Turned t x r u) e c
+
 -- answers as numbers
 pub shown-no : (n : ℕ) → n ≡ 0 → 0 ≡ number-shown n
 shown-no n z = rw (eq-eqb n 0 z)
@@ -219,6 +321,14 @@ pub shown-refused : (a : Told) (n w r : ℕ) → a ≡ Refused n → w ≡ n →
 shown-refused a n w r q x e = rw q (omega arith)
 
 module _ (op : ℕ) where
+  pub no-declaring : (op ≡ 3 → ⊥) → (op ≡ 4 → ⊥) → (op ≡ 5 → ⊥) → is-declaring op ≡ false
+  no-declaring a b c = go (decLt op 3) (decLt op 6)
+    where
+      go : Dec (op < 3) → Dec (op < 6) → is-declaring op ≡ false
+      go (yes h) k = rw (lt-ltb op 3 h)
+      go (no h) (yes k) = absurd (omega arith)
+      go (no h) (no k) = rw (le-ltb op 3 (omega arith), le-ltb op 6 (omega arith))
+
   pub declares-low : op < 3 → false ≡ is-declaring op
   declares-low h = rw (lt-ltb op 3 h)
 
@@ -241,8 +351,21 @@ module _ (o : List ℕ) (i v : ℕ) where
   pub put-outside : length o ≤ i → (o ≡ cond (ltb i (length o)) (set o i v) o) × (length o ≡ length o)
   put-outside h = (rw (le-ltb i (length o) h), refl)
 
+pub after-mark : (p n x : ℕ) → p + 5 + n ≡ x → p + 2 + n + 3 ≡ x
+after-mark p n x h = omega (arith, h)
+
 -- the place after the call at p
 module _ (s : List ℕ) (p op : ℕ) (oq : op ≡ getD s p 0) where
+  pub after-exit : op ≡ 2 → p + 1 ≡ after-order s p
+  unfolding after-order
+  after-exit z = rw (← oq, z)
+
+  pub after-named : (n : ℕ) → n ≡ getD s (p + 1) 0 → (op ≡ 3) ⊎ ((op ≡ 4) ⊎ (op ≡ 5)) → p + 5 + n ≡ after-order s p
+  unfolding after-order
+  after-named n nq (inl z) = rw (← oq, z, nq)
+  after-named n nq (inr (inl z)) = rw (← oq, z, nq)
+  after-named n nq (inr (inr z)) = rw (← oq, z, nq)
+
   pub after-use : op ≡ 6 → (n : ℕ) → n ≡ pair-at s (p + 1) → p + 4 + n ≡ after-order s p
   unfolding after-order
   after-use z n nq = rw (← oq, z, nq)
@@ -279,7 +402,6 @@ module _ (s : List ℕ) (o₀ : List ℕ) where
     pub within : i ≤ 16000000
     pub below : p ≤ 16842755
     pub long : length o ≡ length o₀
-    pub sized : Sized t
     pub good : Good t
     pub count : length all-answers ≡ i + length (replay (16000000 - i) (flat-of t) s p)
     pub out : written o₀ 0 all-answers ≡ written o i (replay (16000000 - i) (flat-of t) s p)
@@ -295,11 +417,13 @@ module _ (s : List ℕ) (o₀ : List ℕ) where
         within = omega arith;
         below = omega arith;
         long = refl;
-        sized = cleared-sized;
         good = first-good;
         count = rw first-is (omega arith);
         out = rw first-is;
       }
+
+  pub walking-begin : (t : Tree) → t ≡ cleared → Walking o₀ t 0 0
+  walking-begin t q = subst (λ (x : Tree). Walking o₀ x 0 0) (sym q) walking-start
 
   module _ (o : List ℕ) (t : Tree) (p i : ℕ) (w : Walking o t p i) where
     ended-here : replay (16000000 - i) (flat-of t) s p ≡ [] → Walked i o
@@ -330,14 +454,14 @@ module _ (s : List ℕ) (o₀ : List ℕ) where
     unfolding replay
     walking-end h = let e : 16000000 - i ≡ 0 = omega (arith, w .within) in ended-here (rw e)
 
-    module _ (l : i < 16000000) (h : p < length s) (f : p < 16777216) (a : ℕ) (u : Tree) (c : Turns t (order-at s p) a u)
+    module _ (l : i < 16000000) (h : p < length s) (f : p < 16777216) (a : ℕ) (u : Tree) (c : Turned t (order-at s p) a u)
         (o′ : List ℕ) (oq : o′ ≡ cond (ltb i (length o)) (set o i a) o) (ol : length o′ ≡ length o) (q : ℕ) (qq : q ≡ after-order s p) (ql : q ≤ p + 65539) where
       stepped : replay (16000000 - i) (flat-of t) s p ≡ a ∷ replay (16000000 - (i + 1)) (flat-of u) s q
       unfolding replay
       stepped =
           let e : 16000000 - i ≡ suc (16000000 - (i + 1)) = omega arith in
           ap (λ (k : ℕ). replay k (flat-of t) s p) e
-          ∙ rw (lt-ltb p (length s) h, lt-ltb p 16777216 f, ← c .said (w .sized) (w .good), ← c .tree (w .sized) (w .good), ← qq)
+          ∙ rw (lt-ltb p (length s) h, lt-ltb p 16777216 f, ← c .said (w .good), ← c .tree (w .good), ← qq)
 
       pub walking-turn : Walking o′ u q (i + 1)
       unfolding written
@@ -346,8 +470,7 @@ module _ (s : List ℕ) (o₀ : List ℕ) where
             within = omega arith;
             below = omega (arith, w .below);
             long = ol ∙ w .long;
-            sized = c .sized (w .sized);
-            good = c .good (w .sized) (w .good);
+            good = c .good (w .good);
             count = w .count ∙ ap (λ (x : List ℕ). i + length x) stepped ∙ omega arith;
             out = w .out ∙ ap (written o i) stepped ∙ ap (λ (x : List ℕ). written x (i + 1) (replay (16000000 - (i + 1)) (flat-of u) s q)) (sym oq);
           }

@@ -8,7 +8,7 @@ ghost use lib.Dec.{ltb};
 ghost use lib.ListN.{length, getD, set};
 ghost use Rattle.scopes.specs.Trees.{told};
 ghost use Rattle.scopes.specs.Lent.{lent};
-ghost use Rattle.scopes_c.specs.Lists.{pair-at, part-of, item-kind, is-declaring, order-at, after-order, shown, number-shown, Turns, Walked};
+ghost use Rattle.scopes_c.specs.Lists.{pair-at, part-of, item-kind, is-declaring, order-at, after-order, shown, number-shown, Turns, Tells, Called, Walked};
 use names::Name;
 use scopes::Answer;
 use scopes::Outcome;
@@ -73,7 +73,7 @@ fn wider(n: u8) -> u16
 }
 
 fn asked(a: Answer, t: Tree, next: usize) -> Step
-    ensures { λ r. ⌜ r .next ≡ next ⌝ }
+    ensures { λ r. ⌜ Tells a t next r ⌝ }
 {
     match a {
         Answer::Done => Step {
@@ -98,7 +98,7 @@ fn asked(a: Answer, t: Tree, next: usize) -> Step
 }
 
 fn made(o: Outcome, next: usize) -> Step
-    ensures { λ r. ⌜ r .next ≡ next ⌝ }
+    ensures { λ r. ⌜ Tells (o .answer) (o .tree) next r ⌝ }
 {
     let a = o.answer;
     let t = o.tree;
@@ -108,7 +108,7 @@ fn made(o: Outcome, next: usize) -> Step
 // The call at p.
 pub fn call_at(t: Tree, s: &[u8], p: usize) -> Step
     requires { ⌜ p < 16777216 ⌝ }
-    ensures { λ r. ⌜ (p < r .next) × (r .next ≤ p + 65539) ⌝ }
+    ensures { λ r. ⌜ Called t (now (s .entry)) p r ⌝ }
 {
     let op = byte(s, p);
     if op == 2 {
@@ -164,7 +164,9 @@ struct Replay {
     tree: Tree,
 }
 
-fn replayed(s: &[u8], out: &mut [u32]) -> Replay {
+fn replayed(s: &[u8], out: &mut [u32]) -> Replay
+    ensures { λ r. ⌜ Walked (now (s .entry)) (now (out .entry)) (r .count) (now (out .exit)) ⌝ }
+{
     let mut t = scopes::empty();
     let mut p: usize = 0;
     let mut i: usize = 0;
@@ -184,9 +186,12 @@ fn replayed(s: &[u8], out: &mut [u32]) -> Replay {
     Replay { count: i, tree: t }
 }
 
-// Replays the calls: for each its answer, code times 65,536 plus value, in `out`. Gives how many there were.
+// Replays the calls by value: for each its answer, code times 65,536 plus value, in `out`, as far as there is place. Gives how many
+// there were. Ruled out: an answer of a tree that a refused call changed; a count that leaves the last call out.
 #[no_mangle]
-pub extern "C" fn scopes_replay(s: &[u8], out: &mut [u32]) -> usize {
+pub extern "C" fn scopes_replay(s: &[u8], out: &mut [u32]) -> usize
+    ensures { λ r. ⌜ Walked (now (s .entry)) (now (out .entry)) r (now (out .exit)) ⌝ }
+{
     let r = replayed(s, out);
     r.count
 }
