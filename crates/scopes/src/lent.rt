@@ -246,7 +246,7 @@ pub fn get<'a>(
     }
     let n = names::name_of(name);
     let here = look::current(stack, depth);
-    let found = look::find_in(scopes, kinds, n0, n1, n2, n3, here, count, kind, n);
+    let found = look::find_here(scopes, kinds, n0, n1, n2, n3, here, count, kind, n);
     let look::Spot::At(i) = found else {
         return Answer::Refused(43);
     };

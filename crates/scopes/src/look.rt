@@ -216,6 +216,37 @@ pub fn find_in<'a>(
     Spot::Nothing
 }
 
+// The same, where most entries from the scope's first on stand in it, as in the current module: the names alone tell blocks apart.
+pub fn find_here<'a>(
+    scopes: &'a [u16; 1024],
+    kinds: &'a [u8; 1024],
+    n0: &'a [u64; 1024],
+    n1: &'a [u64; 1024],
+    n2: &'a [u64; 1024],
+    n3: &'a [u64; 1024],
+    scope: u16,
+    time: usize,
+    kind: u8,
+    name: Name,
+) -> Spot
+    requires { ⌜ time ≤ 1024 ⌝ }
+    ensures { λ r. ⌜ r ≡ first-in (looked (now (scopes .entry)) (now (kinds .entry)) (now (n0 .entry)) (now (n1 .entry)) (now (n2 .entry)) (now (n3 .entry)) scope kind name) scope time ⌝ }
+{
+    let mut i = scope as usize;
+    while i < time {
+        let from = i;
+        let to = block_end(from, time);
+        i = to;
+        if any_named(n0, n1, n2, n3, from, to, name) {
+            let found = find_between(scopes, kinds, n0, n1, n2, n3, from, to, scope, kind, name);
+            if let Spot::At(j) = found {
+                return Spot::At(j);
+            }
+        }
+    }
+    Spot::Nothing
+}
+
 // Whether a scope holds a kind and a name, among the first `time` entries.
 pub fn is_held<'a>(
     scopes: &'a [u16; 1024],
@@ -232,7 +263,7 @@ pub fn is_held<'a>(
     requires { ⌜ time ≤ 1024 ⌝ }
     ensures { λ r. ⌜ r ≡ is-at (first-in (looked (now (scopes .entry)) (now (kinds .entry)) (now (n0 .entry)) (now (n1 .entry)) (now (n2 .entry)) (now (n3 .entry)) scope kind name) scope time) ⌝ }
 {
-    let found = find_in(scopes, kinds, n0, n1, n2, n3, scope, time, kind, name);
+    let found = find_here(scopes, kinds, n0, n1, n2, n3, scope, time, kind, name);
     if let Spot::At(_) = found {
         return true;
     }

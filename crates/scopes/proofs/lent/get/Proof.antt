@@ -24,8 +24,8 @@ name-of-requires c κs = search needs
 current-requires : tie.Need-current-requires
 current-requires c κs = search needs
 
-find-in-requires : tie.Need-find-in-requires
-find-in-requires c κs = search needs
+find-here-requires : tie.Need-find-here-requires
+find-here-requires c κs = search needs
 
 enum-known-found : tie.Need-enum-known-found
 enum-known-found c = search needs
@@ -34,16 +34,16 @@ enum-told : tie.Need-enum-told
 enum-told c = search needs
 
 returns-4 : tie.Need-returns-4
-returns-4 c = λ v o a u. ap (mark-at _) (sym ((c .enum-told) .given .1)) ∙ get-found _ _ _ ((c .before .before .before .before .before .before .before .before .is-identifier) .ensures) ((c .before .before .before .before .before .before .before .if1) .taken) ((c .before .before .before .before .before .before .if2) .left) ((c .before .before .before .before .before .if3) .left) _ ((c .before .before .before .before .name-of) .ensures) _ ((c .before .before .before .current) .ensures) _ ((c .before .before .find-in) .ensures)
+returns-4 c = λ v o a u. ap (mark-at _) (sym ((c .enum-told) .given .1)) ∙ get-found _ _ _ ((c .before .before .before .before .before .before .before .before .is-identifier) .ensures) ((c .before .before .before .before .before .before .before .if1) .taken) ((c .before .before .before .before .before .before .if2) .left) ((c .before .before .before .before .before .if3) .left) _ ((c .before .before .before .before .name-of) .ensures) _ ((c .before .before .before .current) .ensures) _ ((c .before .before .find-here) .ensures)
 
 mul-t19 : tie.Need-mul-t19
-mul-t19 c = let b = found-at _ _ _ _ (sym ((c .before .before .before .find-in) .ensures) ∙ (c .before .found) .given .1) in let e = (c .before .before .before .before .before .before .before .if2) .left in omega arith
+mul-t19 c = let b = found-at _ _ _ _ (sym ((c .before .before .before .find-here) .ensures) ∙ (c .before .found) .given .1) in let e = (c .before .before .before .before .before .before .before .if2) .left in omega arith
 
 element-copy-out-t22 : tie.Need-element-copy-out-t22
-element-copy-out-t22 c = let b = found-at _ _ _ _ (sym ((c .before .before .before .find-in) .ensures) ∙ (c .before .found) .given .1) in let e = (c .before .before .before .before .before .before .before .if2) .left in omega arith
+element-copy-out-t22 c = let b = found-at _ _ _ _ (sym ((c .before .before .before .find-here) .ensures) ∙ (c .before .found) .given .1) in let e = (c .before .before .before .before .before .before .before .if2) .left in omega arith
 
 returns-5 : tie.Need-returns-5
-returns-5 c = λ v o a u. ap (mark-at _) (sym ((c .before .before .found) .given .1)) ∙ get-found _ _ _ ((c .before .before .before .before .before .before .before .before .before .before .is-identifier) .ensures) ((c .before .before .before .before .before .before .before .before .before .if1) .taken) ((c .before .before .before .before .before .before .before .before .if2) .left) ((c .before .before .before .before .before .before .before .if3) .left) _ ((c .before .before .before .before .before .before .name-of) .ensures) _ ((c .before .before .before .before .before .current) .ensures) _ ((c .before .before .before .before .find-in) .ensures)
+returns-5 c = λ v o a u. ap (mark-at _) (sym ((c .before .before .found) .given .1)) ∙ get-found _ _ _ ((c .before .before .before .before .before .before .before .before .before .before .is-identifier) .ensures) ((c .before .before .before .before .before .before .before .before .before .if1) .taken) ((c .before .before .before .before .before .before .before .before .if2) .left) ((c .before .before .before .before .before .before .before .if3) .left) _ ((c .before .before .before .before .before .before .name-of) .ensures) _ ((c .before .before .before .before .before .current) .ensures) _ ((c .before .before .before .before .find-here) .ensures)
 
 pub get-spec : {M : Type 1} → statement M
 get-spec =
@@ -55,7 +55,7 @@ get-spec =
     returns-3
     name-of-requires
     current-requires
-    find-in-requires
+    find-here-requires
     enum-known-found
     enum-told
     returns-4
