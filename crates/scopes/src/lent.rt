@@ -19,7 +19,7 @@ fn bit(b: bool) -> u8
 }
 
 // A declaration: its name is free in its kind, and there is place. `deepest` bounds the open modules.
-pub fn declare(
+fn declare(
     count: &mut usize,
     kinds: &mut [u8; 1024],
     visible: &mut [u8; 1024],
@@ -218,7 +218,8 @@ pub fn exit(depth: &mut usize) -> u8
     0
 }
 
-// The mark of the entry of a kind and a name in the current module, or a number.
+// The mark of the entry of a kind and a name in the current module, or a number. Ruled out: the mark of an entry of an outer module;
+// 43 where a use imported it.
 pub fn get<'a>(
     count: usize,
     kinds: &'a [u8; 1024],
