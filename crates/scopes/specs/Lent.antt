@@ -1,5 +1,5 @@
 -- What a tree call over lent arrays promises. Assumes nothing.
-use Prim.Native.Nat.{ℕ, _<_, _≤_}
+use Prim.Native.Nat.{ℕ, _+_, _-_, _≤_}
 use native.Mathlib.Omega.{arith}
 use mathlib.Core.Path.{_≡_, refl, ap, sym, subst, _∙_}
 use mathlib.Core.Bool.{Bool, true, false, cond}
@@ -12,7 +12,7 @@ use Rattle.scopes.specs.declared.stage.Staged.{Staged}
 use Rattle.scopes.specs.Form.{Request, enters, exits, inserts-alias, inserts-enum, inserts-function}
 use Rattle.scopes.specs.Trees.{Added, Sized, refusing, accepting, no-entry, added-of, ended, ended-no, outcome-of, opened-last, got-of, committed}
 use Rattle.scopes.specs.Meets.{Meets}
-use Rattle.scopes.specs.Calls.{exit-root, exit-module, popped, added-sized, alias-meets, enum-meets, function-meets, enter-meets, via}
+use Rattle.scopes.specs.Calls.{exit-root, exit-module, added-sized, alias-meets, enum-meets, function-meets, enter-meets, via}
 
 -- the tree that the numbers and arrays are
 abbrev pub lent : ℕ → List ℕ → List ℕ → List ℕ → List ℕ → List ℕ → List ℕ → List ℕ → List ℕ → List ℕ → List ℕ → List ℕ → ℕ → List ℕ → Tree
@@ -105,15 +105,15 @@ depth-sized t d e z =
 pub keeps-root : (t : Tree) (d : ℕ) → d ≡ 0 → Keeps (at-depth t d) exits 50 (at-depth t d)
 keeps-root t d z = keeps-no (at-depth t d) exits 50 (λ q. omega arith) (exit-root (at-depth t d) z)
 
-pub keeps-left : (t : Tree) (d : ℕ) → (d ≡ 0 → ⊥) → Keeps (at-depth t d) exits 0 (at-depth t (Prim.Native.Nat._-_ d 1))
+pub keeps-left : (t : Tree) (d : ℕ) → (d ≡ 0 → ⊥) → Keeps (at-depth t d) exits 0 (at-depth t (d - 1))
 unfolding ended
 keeps-left t d z =
     record {
-      sized = depth-sized t d (Prim.Native.Nat._-_ d 1);
+      sized = depth-sized t d (d - 1);
       meets = λ s. exit-module (at-depth t d) z;
     }
 
 -- a use that was accepted: its entries are committed
-pub keeps-used : (t : Tree) (q : Request) (u : Tree) (s : Staged) (h v n : ℕ) → u ≡ committed t s h v n → Prim.Native.Nat._+_ (t .count) n ≤ 1024 → (Sized t → Meets t q (accepting u)) → Keeps t q 0 u
+pub keeps-used : (t : Tree) (q : Request) (u : Tree) (s : Staged) (h v n : ℕ) → u ≡ committed t s h v n → t .count + n ≤ 1024 → (Sized t → Meets t q (accepting u)) → Keeps t q 0 u
 unfolding ended
 keeps-used t q u s h v n e l m = record { sized = λ z. subst Sized (sym e) (Rattle.scopes.specs.Trees.commits t s h v n z l .sized); meets = m }

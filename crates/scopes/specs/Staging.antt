@@ -181,20 +181,6 @@ module _ (A : Arrays) (total here scope time k : ℕ) (n l : Name) where
       unfolding choice-of sought chosen occupied
       choice-made z g w = rw (← q, eq-eqb (getD (A .visible) e 0) 1 v, ← o, z, w)
 
-module _ (s : Staged) (here k : ℕ) (l : Name) (c : Choice) where
-  pub item-refused : (c .number ≡ 0 → ⊥) → numbered (c .number) s ≡ with-choice s here k l c
-  unfolding with-choice
-  item-refused z = rw (ne-eqb (c .number) 0 z)
-
-  module _ (z : c .number ≡ 0) (b : Bool) (q : b ≡ staged-held s here k l) where
-    pub item-held : b ≡ true → numbered 45 s ≡ with-choice s here k l c
-    unfolding with-choice
-    item-held t = rw (eq-eqb (c .number) 0 z, ← q, t)
-
-    pub item-made : b ≡ false → put s k (c .mark) l (c .origin) (c .target) (c .moment) ≡ with-choice s here k l c
-    unfolding with-choice
-    item-made t = rw (eq-eqb (c .number) 0 z, ← q, t)
-
 -- an item adds one at most
 pub item-count : (s : Staged) (here k : ℕ) (l : Name) (c : Choice) → with-choice s here k l c .count ≤ s .count + 1
 unfolding with-choice

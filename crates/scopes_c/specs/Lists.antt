@@ -6,7 +6,7 @@ use mathlib.Core.Path.{_≡_, refl, ap, sym, subst, _∙_}
 use mathlib.Core.Bool.{Bool, true, false, cond}
 use mathlib.Core.List.{List, [], _∷_}
 use mathlib.Core.Logic.{_⊎_, inl, inr}
-use lib.Dec.{eqb, ltb, leb}
+use lib.Dec.{eqb, ltb}
 use lib.ListN.{length, getD, set, take, drop, drop-of-length-le}
 use lib.Seq.{take-all}
 use borrow.Author.Tests.{eq-eqb, ne-eqb, lt-ltb, le-ltb}
@@ -25,7 +25,6 @@ use Rattle.scopes.specs.Meets.{Meets, Answers}
 use Rattle.scopes.specs.Calls.{got-alias, got-function}
 use Rattle.scopes.specs.Lent.{declares, Keeps}
 use Rattle.scopes.specs.Runs.{first-is, first-good}
-use Rattle.scopes.specs.LentRuns.{cleared-sized}
 
 -- THE BYTES
 
@@ -303,9 +302,6 @@ part-some s p n e q = let x : e - p ≡ n = omega arith in rw x
 
 pub turned : {t u : Tree} {o o′ : Order} {r : ℕ} → o ≡ o′ → Turns t o r u → Turns t o′ r u
 turned {t} {u} {o} {o′} {r} e c = subst (λ (x : Order). Turns t x r u) e c
-
-pub turned-by : {t u : Tree} {o o′ : Order} {r : ℕ} → o ≡ o′ → Turned t o r u → Turned t o′ r u
-turned-by {t} {u} {o} {o′} {r} e c = subst (λ (x : Order). Turned t x r u) e c
 
 -- answers as numbers
 pub shown-no : (n : ℕ) → n ≡ 0 → 0 ≡ number-shown n
