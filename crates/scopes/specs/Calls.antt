@@ -15,7 +15,6 @@ use Rattle.names.specs.Packed.{packed}
 use Rattle.names.specs.Identifier.{isIdentifier}
 use Rattle.scopes.specs.declared.Tree.{Tree}
 use Rattle.scopes.specs.declared.Answer.the-variants.{Refused}
-use Rattle.scopes.specs.declared.Added.{Added}
 use Rattle.scopes.specs.declared.Outcome.{Outcome}
 use Rattle.scopes.specs.declared.look.Spot.{Spot}
 use Rattle.scopes.specs.declared.look.Spot.the-variants.{At, Nothing}
@@ -26,7 +25,7 @@ use Rattle.scopes.specs.Rows.{length-tab, body-of, isOwn, spotted, find-
 use Rattle.scopes.specs.Nav.{stack-of, current-top, Doors}
 use Rattle.scopes.specs.Staging.{is-at}
 use Rattle.scopes.specs.Note.{accepted}
-use Rattle.scopes.specs.Trees.{bit-of, told, rows, entries-of, flat-of, Good, Sized, push-law, refusing, accepting, here-of, current-spot, declared-in, no-entry, added-of, ended, opened-last, mark-at, got-of}
+use Rattle.scopes.specs.Trees.{Added, bit-of, told, rows, entries-of, flat-of, Good, Sized, push-law, push-sized, refusing, accepting, here-of, current-spot, declared-in, no-entry, added-of, ended, opened-last, mark-at, got-of}
 use Rattle.scopes.specs.Meets.{Meets, Answers}
 
 pub length-names : (l : List Entry) (ss : List ℕ) → length (stack-names l ss) ≡ length ss
@@ -140,6 +139,14 @@ ends-kept : (f : Tree → Tree) {t x : Tree} {a : Added} → Ends t x a → acce
 unfolding ended
 ends-kept f (turned-down n z) e = rw (ne-eqb n 0 z)
 ends-kept f taken-up e = let y : _≡_ {A = ℕ} 0 1 = cc in absurd (omega arith)
+
+-- the arrays keep their lengths
+pub added-sized : (t : Tree) (s : List ℕ) (k twice : ℕ) (v : Bool) (m deepest : ℕ) → (twice ≡ 0 → ⊥) → Sized t → Sized (added-of t s k twice v m deepest .tree)
+added-sized t s k twice v m deepest nz z = go (ends t s k twice v m deepest nz)
+  where
+    go : {a : Added} → Ends t (declared-in t k v m (packed s)) a → Sized (a .tree)
+    go (turned-down n q) = z
+    go taken-up = push-sized t k (bit-of v) (here-of t) m (packed s) 0 0 0 z
 
 full-is : (c : ℕ) → ltb 1024 (c + 1) ≡ leb 1024 c
 full-is c = go (decLe 1024 c)

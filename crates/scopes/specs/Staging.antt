@@ -81,6 +81,35 @@ staged-held s here k n = any-to (staged-test (s .kinds) (s .n0) (s .n1) (s .n2) 
 unfoldable pub verdict-of : ℕ → ℕ → ℕ → ℕ
 verdict-of a b c = cond (eqb a 0) 0 (cond (eqb b 0) 0 (cond (eqb c 0) 0 (cond (eqb a 43) (cond (eqb b 43) c b) a)))
 
+-- the same, kind by kind
+unfoldable pub verdict-so-far : ℕ → ℕ → ℕ
+verdict-so-far v n = cond (eqb v 0) 0 (cond (eqb n 0) 0 (cond (eqb v 43) n v))
+
+pub verdict-fold : (a b c : ℕ) → verdict-of a b c ≡ verdict-so-far (verdict-so-far (verdict-so-far 43 a) b) c
+unfolding verdict-of verdict-so-far
+verdict-fold a b c = go (eqb a 0) refl
+  where
+    third : (e f g : Bool) → eqb a 0 ≡ false → eqb a 43 ≡ e → eqb b 0 ≡ false → eqb b 43 ≡ f → eqb c 0 ≡ g
+        → cond g 0 (cond e (cond f c b) a) ≡ cond (eqb (cond e b a) 0) 0 (cond g 0 (cond (eqb (cond e b a) 43) c (cond e b a)))
+    third true true g p q r s t = rw (r, s)
+    third true false g p q r s t = rw (r, s)
+    third false f g p q r s t = rw (p, q)
+
+    second : (e d : Bool) → eqb a 0 ≡ false → eqb a 43 ≡ e → eqb b 0 ≡ d
+        → cond d 0 (cond (eqb c 0) 0 (cond e (cond (eqb b 43) c b) a)) ≡ cond (eqb (cond d 0 (cond e b a)) 0) 0 (cond (eqb c 0) 0 (cond (eqb (cond d 0 (cond e b a)) 43) c (cond d 0 (cond e b a))))
+    second e true p q r = refl
+    second e false p q r = third e (eqb b 43) (eqb c 0) p q r refl refl
+
+    go : (d : Bool) → eqb a 0 ≡ d
+        → cond d 0 (cond (eqb b 0) 0 (cond (eqb c 0) 0 (cond (eqb a 43) (cond (eqb b 43) c b) a)))
+        ≡ cond (eqb (cond (eqb (cond d 0 a) 0) 0 (cond (eqb b 0) 0 (cond (eqb (cond d 0 a) 43) b (cond d 0 a)))) 0) 0 (cond (eqb c 0) 0 (cond (eqb (cond (eqb (cond d 0 a) 0) 0 (cond (eqb b 0) 0 (cond (eqb (cond d 0 a) 43) b (cond d 0 a)))) 43) c (cond (eqb (cond d 0 a) 0) 0 (cond (eqb b 0) 0 (cond (eqb (cond d 0 a) 43) b (cond d 0 a))))))
+    go true q = refl
+    go false q = rw q (second (eqb a 43) (eqb b 0) q refl refl)
+
+-- an item's number: 45 where its choice is good and an earlier element holds the local name
+unfoldable pub clash-of : ℕ → Bool → ℕ
+clash-of n b = cond (eqb n 0) (cond b 45 0) n
+
 abbrev pub no-choice : ℕ → Choice
 no-choice n = record { number = n; mark = 0; origin = 0; target = 0; moment = 0 }
 
@@ -152,20 +181,6 @@ module _ (A : Arrays) (total here scope time k : ℕ) (n l : Name) where
       unfolding choice-of sought chosen occupied
       choice-made z g w = rw (← q, eq-eqb (getD (A .visible) e 0) 1 v, ← o, z, w)
 
-module _ (s : Staged) (here k : ℕ) (l : Name) (c : Choice) where
-  pub item-refused : (c .number ≡ 0 → ⊥) → numbered (c .number) s ≡ with-choice s here k l c
-  unfolding with-choice
-  item-refused z = rw (ne-eqb (c .number) 0 z)
-
-  module _ (z : c .number ≡ 0) (b : Bool) (q : b ≡ staged-held s here k l) where
-    pub item-held : b ≡ true → numbered 45 s ≡ with-choice s here k l c
-    unfolding with-choice
-    item-held t = rw (eq-eqb (c .number) 0 z, ← q, t)
-
-    pub item-made : b ≡ false → put s k (c .mark) l (c .origin) (c .target) (c .moment) ≡ with-choice s here k l c
-    unfolding with-choice
-    item-made t = rw (eq-eqb (c .number) 0 z, ← q, t)
-
 -- an item adds one at most
 pub item-count : (s : Staged) (here k : ℕ) (l : Name) (c : Choice) → with-choice s here k l c .count ≤ s .count + 1
 unfolding with-choice
@@ -183,22 +198,120 @@ element-count A total here scope time s n l =
     let b = staged-item A total here scope time a 2 n l in
     omega (arith, item-count s here 1 l (choice-of A total here scope time 1 n l), item-count a here 2 l (choice-of A total here scope time 2 n l), item-count b here 3 l (choice-of A total here scope time 3 n l))
 
-pub element-made : (A : Arrays) (total here scope time : ℕ) (s : Staged) (n l : Name) (x y z : Choice) (a b c : Staged) (v : ℕ)
-    → x ≡ choice-of A total here scope time 1 n l → a ≡ with-choice s here 1 l x
-    → y ≡ choice-of A total here scope time 2 n l → b ≡ with-choice a here 2 l y
-    → z ≡ choice-of A total here scope time 3 n l → c ≡ with-choice b here 3 l z
-    → v ≡ verdict-of (a .number) (b .number) (c .number) → numbered v c ≡ staged-element A total here scope time s n l
-unfolding staged-element
-element-made A total here scope time s n l x y z a b c v p q r t u w e =
-    let f : (a′ b′ c′ : Staged) → Staged = λ a′ b′ c′. numbered (verdict-of (a′ .number) (b′ .number) (c′ .number)) c′ in
-    let a₁ : a ≡ staged-item A total here scope time s 1 n l = q ∙ ap (with-choice s here 1 l) p in
-    let b₁ : b ≡ staged-item A total here scope time a 2 n l = t ∙ ap (with-choice a here 2 l) r in
-    let c₁ : c ≡ staged-item A total here scope time b 3 n l = w ∙ ap (with-choice b here 3 l) u in
-    ap (λ (m : ℕ). numbered m c) e ∙ ap (f a b) c₁ ∙ ap (λ (m : Staged). f a m (staged-item A total here scope time m 3 n l)) b₁
-    ∙ ap (λ (m : Staged). f m (staged-item A total here scope time m 2 n l) (staged-item A total here scope time (staged-item A total here scope time m 2 n l) 3 n l)) a₁
+-- the loop over the kinds of an element: s₀ was staged before it, v is its number so far
+abbrev pub stored : Staged → ℕ → ℕ → Name → ℕ → ℕ → ℕ → Staged
+stored s k m n o t u = numbered (s .number) (put s k m n o t u)
 
-pub counted : (s r : Staged) (here k : ℕ) (l : Name) (c : Choice) → r ≡ with-choice s here k l c → r .count ≤ s .count + 1
-counted s r here k l c q = rw q (item-count s here k l c)
+pub clash-no : (n : ℕ) (b : Bool) → (n ≡ 0 → ⊥) → n ≡ clash-of n b
+unfolding clash-of
+clash-no n b z = rw (ne-eqb n 0 z)
+
+pub clash-held : (n : ℕ) (b : Bool) → n ≡ 0 → b ≡ true → 45 ≡ clash-of n b
+unfolding clash-of
+clash-held n b z q = rw (eq-eqb n 0 z, q)
+
+pub clash-free : (n : ℕ) (b : Bool) → n ≡ 0 → b ≡ false → 0 ≡ clash-of n b
+unfolding clash-of
+clash-free n b z q = rw (eq-eqb n 0 z, q)
+
+module _ (A : Arrays) (total here scope time : ℕ) (n l : Name) where
+  unfoldable pub kinds-from : ℕ → ℕ → ℕ → Staged → Staged
+  kinds-from zero k v s = numbered v s
+  kinds-from (suc m) k v s =
+      kinds-from m (k + 1) (verdict-so-far v (staged-item A total here scope time s k n l .number)) (numbered 0 (staged-item A total here scope time s k n l))
+
+  pub record Kinding (s₀ : Staged) (k v : ℕ) (s : Staged) : Type 0 where
+    pub from : 1 ≤ k
+    pub to : k ≤ 4
+    pub small : s .count + 1 ≤ s₀ .count + k
+    pub fine : s .number ≡ 0
+    pub same : staged-element A total here scope time s₀ n l ≡ kinds-from (4 - k) k v s
+
+  pub kinding-start : (s₀ : Staged) → s₀ .number ≡ 0 → Kinding s₀ 1 43 s₀
+  unfolding staged-element kinds-from with-choice
+  kinding-start s₀ z =
+      let a = staged-item A total here scope time s₀ 1 n l in
+      let b = staged-item A total here scope time a 2 n l in
+      let c = staged-item A total here scope time b 3 n l in
+      record { from = omega arith; to = omega arith; small = omega arith; fine = z; same = ap (λ (m : ℕ). numbered m c) (verdict-fold (a .number) (b .number) (c .number)) }
+
+  module _ (s₀ : Staged) (k v : ℕ) (s : Staged) (w : Kinding s₀ k v s) where
+    module _ (h : k < 4) (x : Choice) (xq : x ≡ choice-of A total here scope time k n l) (b : Bool) (bq : b ≡ staged-held s here k l) (q : ℕ) (qq : q ≡ clash-of (x .number) b) (v′ : ℕ) (vq : v′ ≡ verdict-so-far v q) where
+      item-number : staged-item A total here scope time s k n l .number ≡ q
+      unfolding with-choice clash-of
+      item-number = rw (← xq, ← bq, qq) (go (eqb (x .number) 0) b)
+        where
+          go : (a d : Bool) → cond {A = Staged} a (cond {A = Staged} d (numbered 45 s) (put s k (x .mark) l (x .origin) (x .target) (x .moment))) (numbered (x .number) s) .number ≡ cond a (cond d 45 0) (x .number)
+          go true true = refl
+          go true false = refl
+          go false d = refl
+
+      stepped : staged-element A total here scope time s₀ n l ≡ kinds-from (4 - (k + 1)) (k + 1) v′ (numbered 0 (staged-item A total here scope time s k n l))
+      unfolding kinds-from
+      stepped = let e : 4 - k ≡ suc (4 - (k + 1)) = omega arith in
+          w .same ∙ ap (λ (m : ℕ). kinds-from m k v s) e
+          ∙ ap (λ (m : ℕ). kinds-from (4 - (k + 1)) (k + 1) m (numbered 0 (staged-item A total here scope time s k n l))) (ap (verdict-so-far v) item-number ∙ sym vq)
+
+      pub kinding-put : q ≡ 0 → Kinding s₀ (k + 1) v′ (stored s k (x .mark) l (x .origin) (x .target) (x .moment))
+      unfolding with-choice clash-of
+      kinding-put z =
+          record {
+            from = omega arith;
+            to = omega arith;
+            small = omega (arith, w .small);
+            fine = w .fine;
+            same = stepped ∙ ap (kinds-from (4 - (k + 1)) (k + 1) v′) (made (eqb (x .number) 0) b refl refl (sym qq ∙ z));
+          }
+        where
+          made : (a d : Bool) → eqb (x .number) 0 ≡ a → b ≡ d → clash-of (x .number) b ≡ 0 → numbered 0 (staged-item A total here scope time s k n l) ≡ stored s k (x .mark) l (x .origin) (x .target) (x .moment)
+          made true true e f g = let y : _≡_ {A = ℕ} 45 0 = (rw (e, f) at g) in absurd (omega arith)
+          made true false e f g = rw (← xq, ← bq, e, f) (ap (λ (m : ℕ). numbered m (put s k (x .mark) l (x .origin) (x .target) (x .moment))) (sym (w .fine)))
+          made false d e f g = absurd (borrow.Author.Tests.eqb-false (x .number) 0 e (rw e at g))
+
+      pub kinding-skip : (q ≡ 0 → ⊥) → Kinding s₀ (k + 1) v′ s
+      unfolding with-choice clash-of
+      kinding-skip z =
+          record {
+            from = omega arith;
+            to = omega arith;
+            small = omega (arith, w .small);
+            fine = w .fine;
+            same = stepped ∙ ap (kinds-from (4 - (k + 1)) (k + 1) v′) (left (eqb (x .number) 0) b refl refl (λ e. z (qq ∙ e)));
+          }
+        where
+          whole : numbered 0 s ≡ s
+          whole = ap (λ (m : ℕ). numbered m s) (sym (w .fine))
+
+          left : (a d : Bool) → eqb (x .number) 0 ≡ a → b ≡ d → (clash-of (x .number) b ≡ 0 → ⊥) → numbered 0 (staged-item A total here scope time s k n l) ≡ s
+          left true true e f g = rw (← xq, ← bq, e, f) whole
+          left true false e f g = absurd (g (rw (e, f)))
+          left false d e f g = rw (← xq, ← bq, e) whole
+
+    pub kinding-end : 4 ≤ k → numbered v s ≡ staged-element A total here scope time s₀ n l
+    unfolding kinds-from
+    kinding-end h = let e : 4 - k ≡ 0 = omega arith in sym (w .same ∙ rw e)
+
+    -- an element that was staged
+    pub kinding-done : 4 ≤ k → v ≡ 0 → s ≡ staged-element A total here scope time s₀ n l
+    kinding-done h z = ap (λ (m : ℕ). numbered m s) (w .fine ∙ sym z) ∙ kinding-end h
+
+-- AS THE CODE HAS IT: a verdict
+pub verdict-done : (v n : ℕ) → v ≡ 0 → 0 ≡ verdict-so-far v n
+unfolding verdict-so-far
+verdict-done v n z = rw (eq-eqb v 0 z)
+
+module _ (v n : ℕ) (z : v ≡ 0 → ⊥) where
+  pub verdict-now : n ≡ 0 → 0 ≡ verdict-so-far v n
+  unfolding verdict-so-far
+  verdict-now y = rw (ne-eqb v 0 z, eq-eqb n 0 y)
+
+  pub verdict-first : (n ≡ 0 → ⊥) → (v ≡ 43 → ⊥) → v ≡ verdict-so-far v n
+  unfolding verdict-so-far
+  verdict-first y x = rw (ne-eqb v 0 z, ne-eqb n 0 y, ne-eqb v 43 x)
+
+  pub verdict-next : (n ≡ 0 → ⊥) → v ≡ 43 → n ≡ verdict-so-far v n
+  unfolding verdict-so-far
+  verdict-next y x = rw (ne-eqb v 0 z, ne-eqb n 0 y, eq-eqb v 43 x)
 
 -- the loop over the elements: at the turn i of n the element stands at p, and s is staged
 module _ (A : Arrays) (total here scope time : ℕ) (d : List ℕ) (at n : ℕ) where

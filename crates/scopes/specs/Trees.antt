@@ -14,7 +14,6 @@ use Rattle.names.specs.Identifier.{isIdentifier}
 use Rattle.scopes.specs.declared.Tree.{Tree}
 use Rattle.scopes.specs.declared.Answer.{Answer as Told}
 use Rattle.scopes.specs.declared.Answer.the-variants.{Done, Mark, Refused}
-use Rattle.scopes.specs.declared.Added.{Added}
 use Rattle.scopes.specs.declared.Outcome.{Outcome}
 use Rattle.scopes.specs.declared.look.Spot.{Spot}
 use Rattle.scopes.specs.declared.look.Spot.the-variants.{At, Nothing}
@@ -145,6 +144,11 @@ current-spot t k n = first-in (looked (t .scopes) (t .kinds) (t .n0) (t .n1) (t 
 
 abbrev pub declared-in : Tree → ℕ → Bool → ℕ → Name → Tree
 declared-in t k v m n = pushed t k (bit-of v) (here-of t) m n 0 0 0
+
+-- a call's number, or 0, and the tree that it left
+pub record Added : Type 0 where
+  pub number : ℕ
+  pub tree : Tree
 
 abbrev pub no-entry : ℕ → Tree → Added
 no-entry n t = record { number = n; tree = t }

@@ -3,6 +3,8 @@ ghost use mathlib.Core.Path.{_≡_};
 ghost use Prim.Native.Nat.{_+_, _*_, _<_, _≤_};
 ghost use lib.ListN.{getD};
 ghost use Rattle.scopes.specs.Rows.{isRow, isOwn, first-in, looked, site};
+ghost use Rattle.scopes.specs.Trees.{bit-of};
+ghost use Rattle.scopes.specs.Blocks.{Sieve, Named};
 ghost use Rattle.scopes.specs.Staging.{is-at};
 ghost use Rattle.scopes.specs.Nav.{barred, leads-on, wayed, current-of, Arrived};
 use crate::form::name_at;
@@ -27,7 +29,147 @@ pub fn is_row(scope0: u16, kind0: u8, name0: Name, scope: u16, kind: u8, name: N
     same_name(name0, name)
 }
 
-// The first entry of a kind and a name in a scope, among the first `time` entries.
+// The first entry of a kind and a name in a scope, of those from `from` on and below `to`.
+fn find_between<'a>(
+    scopes: &'a [u16; 1024],
+    kinds: &'a [u8; 1024],
+    n0: &'a [u64; 1024],
+    n1: &'a [u64; 1024],
+    n2: &'a [u64; 1024],
+    n3: &'a [u64; 1024],
+    from: usize,
+    to: usize,
+    scope: u16,
+    kind: u8,
+    name: Name,
+) -> Spot
+    requires { ⌜ to ≤ 1024 ⌝ }
+    ensures { λ r. ⌜ r ≡ first-in (looked (now (scopes .entry)) (now (kinds .entry)) (now (n0 .entry)) (now (n1 .entry)) (now (n2 .entry)) (now (n3 .entry)) scope kind name) from to ⌝ }
+{
+    let mut i = from;
+    while i < to {
+        let n = Name {
+            w0: n0[i],
+            w1: n1[i],
+            w2: n2[i],
+            w3: n3[i],
+        };
+        if is_row(scopes[i], kinds[i], n, scope, kind, name) {
+            return Spot::At(i);
+        }
+        i += 1;
+    }
+    Spot::Nothing
+}
+
+fn one8(b: bool) -> u8
+    ensures { λ r. ⌜ (r ≡ bit-of b) × (r ≤ 1) ⌝ }
+{
+    if b { 1 } else { 0 }
+}
+
+fn one16(b: bool) -> u16
+    ensures { λ r. ⌜ (r ≡ bit-of b) × (r ≤ 1) ⌝ }
+{
+    if b { 1 } else { 0 }
+}
+
+fn one64(b: bool) -> u64
+    ensures { λ r. ⌜ (r ≡ bit-of b) × (r ≤ 1) ⌝ }
+{
+    if b { 1 } else { 0 }
+}
+
+// Whether some entry from `from` on and below `to` has the kind: all are counted, so that many go at once.
+fn any_kind<'a>(kinds: &'a [u8; 1024], from: usize, to: usize, kind: u8) -> bool
+    requires { ⌜ (to ≤ from + 64) × (to ≤ 1024) ⌝ }
+    ensures { λ r. ⌜ Sieve (now (kinds .entry)) from to kind r ⌝ }
+{
+    let mut n: u8 = 0;
+    let mut i = from;
+    while i < to {
+        n = n + one8(kinds[i] == kind);
+        i += 1;
+    }
+    if n == 0 {
+        return false;
+    }
+    true
+}
+
+// Whether some entry there stands in the scope.
+fn any_in<'a>(scopes: &'a [u16; 1024], from: usize, to: usize, scope: u16) -> bool
+    requires { ⌜ (to ≤ from + 64) × (to ≤ 1024) ⌝ }
+    ensures { λ r. ⌜ Sieve (now (scopes .entry)) from to scope r ⌝ }
+{
+    let mut n: u16 = 0;
+    let mut i = from;
+    while i < to {
+        n = n + one16(scopes[i] == scope);
+        i += 1;
+    }
+    if n == 0 {
+        return false;
+    }
+    true
+}
+
+// The same of a word of the names.
+fn any_of<'a>(words: &'a [u64; 1024], from: usize, to: usize, word: u64) -> bool
+    requires { ⌜ (to ≤ from + 64) × (to ≤ 1024) ⌝ }
+    ensures { λ r. ⌜ Sieve (now (words .entry)) from to word r ⌝ }
+{
+    let mut n: u64 = 0;
+    let mut i = from;
+    while i < to {
+        n = n + one64(words[i] == word);
+        i += 1;
+    }
+    if n == 0 {
+        return false;
+    }
+    true
+}
+
+// Whether some entry there may have the name: its last word that isn't zero is looked for, where names differ most.
+fn any_named<'a>(
+    n0: &'a [u64; 1024],
+    n1: &'a [u64; 1024],
+    n2: &'a [u64; 1024],
+    n3: &'a [u64; 1024],
+    from: usize,
+    to: usize,
+    name: Name,
+) -> bool
+    requires { ⌜ (to ≤ from + 64) × (to ≤ 1024) ⌝ }
+    ensures { λ r. ⌜ Named (now (n0 .entry)) (now (n1 .entry)) (now (n2 .entry)) (now (n3 .entry)) from to name r ⌝ }
+{
+    if name.w3 != 0 {
+        return any_of(n3, from, to, name.w3);
+    }
+    if name.w2 != 0 {
+        return any_of(n2, from, to, name.w2);
+    }
+    if name.w1 != 0 {
+        return any_of(n1, from, to, name.w1);
+    }
+    any_of(n0, from, to, name.w0)
+}
+
+// The end of the block of at most 64 entries from i on.
+fn block_end(i: usize, time: usize) -> usize
+    requires { ⌜ (i < time) × (time ≤ 1024) ⌝ }
+    ensures { λ r. ⌜ (i < r) × ((r ≤ time) × (r ≤ i + 64)) ⌝ }
+{
+    let e = i + 64;
+    if e < time {
+        return e;
+    }
+    time
+}
+
+// The first entry of a kind and a name in a scope, among the first `time` entries: block by block, and row by row only where some entry
+// of the block has the kind, some stands in the scope and some may have the name.
 pub fn find_in<'a>(
     scopes: &'a [u16; 1024],
     kinds: &'a [u8; 1024],
@@ -45,16 +187,62 @@ pub fn find_in<'a>(
 {
     let mut i = scope as usize;
     while i < time {
-        let n = Name {
-            w0: n0[i],
-            w1: n1[i],
-            w2: n2[i],
-            w3: n3[i],
-        };
-        if is_row(scopes[i], kinds[i], n, scope, kind, name) {
-            return Spot::At(i);
+        let from = i;
+        let to = block_end(from, time);
+        i = to;
+        if any_kind(kinds, from, to, kind) {
+            if any_in(scopes, from, to, scope) {
+                if any_named(n0, n1, n2, n3, from, to, name) {
+                    let found = find_between(
+                        scopes,
+                        kinds,
+                        n0,
+                        n1,
+                        n2,
+                        n3,
+                        from,
+                        to,
+                        scope,
+                        kind,
+                        name,
+                    );
+                    if let Spot::At(j) = found {
+                        return Spot::At(j);
+                    }
+                }
+            }
         }
-        i += 1;
+    }
+    Spot::Nothing
+}
+
+// The same, where most entries from the scope's first on stand in it, as in the current module: the names alone tell blocks apart.
+pub fn find_here<'a>(
+    scopes: &'a [u16; 1024],
+    kinds: &'a [u8; 1024],
+    n0: &'a [u64; 1024],
+    n1: &'a [u64; 1024],
+    n2: &'a [u64; 1024],
+    n3: &'a [u64; 1024],
+    scope: u16,
+    time: usize,
+    kind: u8,
+    name: Name,
+) -> Spot
+    requires { ⌜ time ≤ 1024 ⌝ }
+    ensures { λ r. ⌜ r ≡ first-in (looked (now (scopes .entry)) (now (kinds .entry)) (now (n0 .entry)) (now (n1 .entry)) (now (n2 .entry)) (now (n3 .entry)) scope kind name) scope time ⌝ }
+{
+    let mut i = scope as usize;
+    while i < time {
+        let from = i;
+        let to = block_end(from, time);
+        i = to;
+        if any_named(n0, n1, n2, n3, from, to, name) {
+            let found = find_between(scopes, kinds, n0, n1, n2, n3, from, to, scope, kind, name);
+            if let Spot::At(j) = found {
+                return Spot::At(j);
+            }
+        }
     }
     Spot::Nothing
 }
@@ -75,7 +263,7 @@ pub fn is_held<'a>(
     requires { ⌜ time ≤ 1024 ⌝ }
     ensures { λ r. ⌜ r ≡ is-at (first-in (looked (now (scopes .entry)) (now (kinds .entry)) (now (n0 .entry)) (now (n1 .entry)) (now (n2 .entry)) (now (n3 .entry)) scope kind name) scope time) ⌝ }
 {
-    let found = find_in(scopes, kinds, n0, n1, n2, n3, scope, time, kind, name);
+    let found = find_here(scopes, kinds, n0, n1, n2, n3, scope, time, kind, name);
     if let Spot::At(_) = found {
         return true;
     }

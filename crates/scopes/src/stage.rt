@@ -2,7 +2,7 @@
 ghost use mathlib.Core.Path.{_≡_};
 ghost use Prim.Native.Nat.{_+_, _*_, _<_, _≤_};
 ghost use Rattle.scopes.specs.Rows.{arrays};
-ghost use Rattle.scopes.specs.Staging.{refusal, any-to, staged-test, no-choice, choice-of, with-choice, verdict-of, staged-element, staged-all};
+ghost use Rattle.scopes.specs.Staging.{refusal, any-to, staged-test, no-choice, choice-of, clash-of, verdict-so-far, staged-all};
 use crate::form::local_at;
 use crate::form::name_at;
 use crate::form::next;
@@ -142,147 +142,33 @@ fn choose<'a>(
     }
 }
 
-// The item staged, or a number with what was staged before.
-fn item(staged: Staged, here: u16, kind: u8, local: Name, choice: Choice) -> Staged
-    requires { ⌜ staged .count < 96 ⌝ }
-    ensures { λ r. ⌜ r ≡ with-choice staged here kind local choice ⌝ }
+// The number of an item: that of its choice, or 45 where an earlier element holds the local name.
+fn clash(number: u8, held: bool) -> u8
+    ensures { λ r. ⌜ r ≡ clash-of number held ⌝ }
 {
-    let mut s = staged;
-    if choice.number != 0 {
-        s.number = choice.number;
-        return s;
+    if number != 0 {
+        return number;
     }
-    let at = s.count;
-    if staged_has(&s.kinds, &s.n0, &s.n1, &s.n2, &s.n3, at, here, kind, local) {
-        s.number = 45;
-        return s;
+    if held {
+        return 45;
     }
-    s.number = 0;
-    s.kinds[at] = kind;
-    s.marks[at] = choice.mark;
-    s.n0[at] = local.w0;
-    s.n1[at] = local.w1;
-    s.n2[at] = local.w2;
-    s.n3[at] = local.w3;
-    s.origins[at] = choice.origin;
-    s.targets[at] = choice.target;
-    s.times[at] = choice.moment;
-    s.count = at + 1;
-    s
+    0
 }
 
-// The number of an element from those of its type, function and module: one success is enough, else the first that isn't 43.
-fn verdict(a: u8, b: u8, c: u8) -> u8
-    ensures { λ r. ⌜ r ≡ verdict-of a b c ⌝ }
+// The number of an element so far, `told`, with that of its next kind: one success is enough, else the first that isn't 43.
+fn verdict(told: u8, number: u8) -> u8
+    ensures { λ r. ⌜ r ≡ verdict-so-far told number ⌝ }
 {
-    if a == 0 {
+    if told == 0 {
         return 0;
     }
-    if b == 0 {
+    if number == 0 {
         return 0;
     }
-    if c == 0 {
-        return 0;
+    if told != 43 {
+        return told;
     }
-    if a != 43 {
-        return a;
-    }
-    if b != 43 {
-        return b;
-    }
-    c
-}
-
-// One element: type, then function, then module.
-fn element<'a>(
-    kinds: &'a [u8; 1024],
-    visible: &'a [u8; 1024],
-    scopes: &'a [u16; 1024],
-    marks: &'a [u16; 1024],
-    n0: &'a [u64; 1024],
-    n1: &'a [u64; 1024],
-    n2: &'a [u64; 1024],
-    n3: &'a [u64; 1024],
-    origins: &'a [u16; 1024],
-    targets: &'a [u16; 1024],
-    times: &'a [u16; 1024],
-    total: usize,
-    here: u16,
-    scope: u16,
-    time: usize,
-    staged: Staged,
-    name: Name,
-    local: Name,
-) -> Staged
-    requires { ⌜ (total ≤ 1024) × ((time ≤ 1024) × (staged .count + 3 ≤ 96)) ⌝ }
-    ensures { λ r. ⌜ r ≡ staged-element (arrays (now (kinds .entry)) (now (visible .entry)) (now (scopes .entry)) (now (marks .entry)) (now (n0 .entry)) (now (n1 .entry)) (now (n2 .entry)) (now (n3 .entry)) (now (origins .entry)) (now (targets .entry)) (now (times .entry))) total here scope time staged name local ⌝ }
-{
-    let x = choose(
-        kinds,
-        visible,
-        scopes,
-        marks,
-        n0,
-        n1,
-        n2,
-        n3,
-        origins,
-        targets,
-        times,
-        total,
-        here,
-        scope,
-        time,
-        1,
-        name,
-        local,
-    );
-    let a = item(staged, here, 1, local, x);
-    let y = choose(
-        kinds,
-        visible,
-        scopes,
-        marks,
-        n0,
-        n1,
-        n2,
-        n3,
-        origins,
-        targets,
-        times,
-        total,
-        here,
-        scope,
-        time,
-        2,
-        name,
-        local,
-    );
-    let b = item(a, here, 2, local, y);
-    let z = choose(
-        kinds,
-        visible,
-        scopes,
-        marks,
-        n0,
-        n1,
-        n2,
-        n3,
-        origins,
-        targets,
-        times,
-        total,
-        here,
-        scope,
-        time,
-        3,
-        name,
-        local,
-    );
-    let c = item(b, here, 3, local, z);
-    let mut r = c;
-    r.number = verdict(a.number, b.number, c.number);
-    r
+    number
 }
 
 // `count` elements that stand at `at`.
@@ -315,27 +201,50 @@ pub fn stage<'a>(
     while i < count {
         let name = name_at(decl, p);
         let local = local_at(decl, p);
-        s = element(
-            kinds,
-            visible,
-            scopes,
-            marks,
-            n0,
-            n1,
-            n2,
-            n3,
-            origins,
-            targets,
-            times,
-            total,
-            here,
-            scope,
-            time,
-            s,
-            name,
-            local,
-        );
-        if s.number != 0 {
+        let mut told: u8 = 43;
+        let mut kind: u8 = 1;
+        while kind < 4 {
+            let k = kind;
+            let x = choose(
+                kinds,
+                visible,
+                scopes,
+                marks,
+                n0,
+                n1,
+                n2,
+                n3,
+                origins,
+                targets,
+                times,
+                total,
+                here,
+                scope,
+                time,
+                k,
+                name,
+                local,
+            );
+            let end = s.count;
+            let held = staged_has(&s.kinds, &s.n0, &s.n1, &s.n2, &s.n3, end, here, k, local);
+            let number = clash(x.number, held);
+            told = verdict(told, number);
+            kind += 1;
+            if number == 0 {
+                s.kinds[end] = k;
+                s.marks[end] = x.mark;
+                s.n0[end] = local.w0;
+                s.n1[end] = local.w1;
+                s.n2[end] = local.w2;
+                s.n3[end] = local.w3;
+                s.origins[end] = x.origin;
+                s.targets[end] = x.target;
+                s.times[end] = x.moment;
+                s.count = end + 1;
+            }
+        }
+        if told != 0 {
+            s.number = told;
             return s;
         }
         p = next(decl, next(decl, p));

@@ -3,20 +3,25 @@
 // a 2-byte mark; after 6 a 2-byte length, the use's bytes and its visibility. What is missing counts as 0.
 ghost use mathlib.Core.Path.{_≡_};
 ghost use Prim.Native.Nat.{_+_, _*_, _<_, _≤_};
-ghost use lib.ListN.{length};
+ghost use mathlib.Core.Bool.{cond};
+ghost use lib.Dec.{ltb};
+ghost use lib.ListN.{length, getD, set};
+ghost use Rattle.scopes.specs.Trees.{told};
+ghost use Rattle.scopes.specs.Lent.{lent};
+ghost use Rattle.scopes_c.specs.Lists.{pair-at, part-of, item-kind, is-declaring, order-at, after-order, shown, number-shown, Turns, Tells, Called, Walked};
 use names::Name;
 use scopes::Answer;
 use scopes::Outcome;
 use scopes::Tree;
 
 fn wide(b: u8) -> usize
-    ensures { λ r. ⌜ r < 256 ⌝ }
+    ensures { λ r. ⌜ (r ≡ b) × (r < 256) ⌝ }
 {
     b as usize
 }
 
 fn byte(s: &[u8], at: usize) -> usize
-    ensures { λ r. ⌜ r < 256 ⌝ }
+    ensures { λ r. ⌜ (r ≡ getD (now (s .entry)) at 0) × (r < 256) ⌝ }
 {
     if at < s.len() {
         return wide(s[at]);
@@ -26,19 +31,22 @@ fn byte(s: &[u8], at: usize) -> usize
 
 fn pair(s: &[u8], at: usize) -> usize
     requires { ⌜ at < 33554432 ⌝ }
-    ensures { λ r. ⌜ r < 65536 ⌝ }
+    ensures { λ r. ⌜ (r ≡ pair-at (now (s .entry)) at) × (r < 65536) ⌝ }
 {
     byte(s, at) * 256 + byte(s, at + 1)
 }
 
 fn mark(s: &[u8], at: usize) -> u16
     requires { ⌜ at < 33554432 ⌝ }
+    ensures { λ r. ⌜ r ≡ pair-at (now (s .entry)) at ⌝ }
 {
     pair(s, at) as u16
 }
 
 // The n bytes from `at` on that are there.
-fn part<'a>(s: &'a [u8], at: usize, n: usize) -> &'a [u8] {
+fn part<'a>(s: &'a [u8], at: usize, n: usize) -> &'a [u8]
+    ensures { λ r. ⌜ now r ≡ part-of (now (s .entry)) at n ⌝ }
+{
     let len = s.len();
     if len <= at {
         return &s[..0];
@@ -58,12 +66,14 @@ pub struct Step {
     pub next: usize,
 }
 
-fn wider(n: u8) -> u16 {
+fn wider(n: u8) -> u16
+    ensures { λ r. ⌜ r ≡ n ⌝ }
+{
     n as u16
 }
 
 fn asked(a: Answer, t: Tree, next: usize) -> Step
-    ensures { λ r. ⌜ r .next ≡ next ⌝ }
+    ensures { λ r. ⌜ Tells a t next r ⌝ }
 {
     match a {
         Answer::Done => Step {
@@ -88,7 +98,7 @@ fn asked(a: Answer, t: Tree, next: usize) -> Step
 }
 
 fn made(o: Outcome, next: usize) -> Step
-    ensures { λ r. ⌜ r .next ≡ next ⌝ }
+    ensures { λ r. ⌜ Tells (o .answer) (o .tree) next r ⌝ }
 {
     let a = o.answer;
     let t = o.tree;
@@ -98,7 +108,7 @@ fn made(o: Outcome, next: usize) -> Step
 // The call at p.
 pub fn call_at(t: Tree, s: &[u8], p: usize) -> Step
     requires { ⌜ p < 16777216 ⌝ }
-    ensures { λ r. ⌜ (p < r .next) × (r .next ≤ p + 65539) ⌝ }
+    ensures { λ r. ⌜ Called t (now (s .entry)) p r ⌝ }
 {
     let op = byte(s, p);
     if op == 2 {
@@ -134,13 +144,17 @@ pub fn call_at(t: Tree, s: &[u8], p: usize) -> Step
     asked(Answer::Done, scopes::empty(), p + 1)
 }
 
-fn put(out: &mut [u32], at: usize, v: u32) {
+fn put(out: &mut [u32], at: usize, v: u32)
+    ensures { λ _. ⌜ (now (out .exit) ≡ cond (ltb at (length (now (out .entry)))) (set (now (out .entry)) at v) (now (out .entry))) × (length (now (out .exit)) ≡ length (now (out .entry))) ⌝ }
+{
     if at < out.len() {
         out[at] = v;
     }
 }
 
-fn packed(code: u8, value: u16) -> u32 {
+fn packed(code: u8, value: u16) -> u32
+    ensures { λ r. ⌜ r ≡ code * 65536 + value ⌝ }
+{
     (code as u32) * 65536 + (value as u32)
 }
 
@@ -150,7 +164,9 @@ struct Replay {
     tree: Tree,
 }
 
-fn replayed(s: &[u8], out: &mut [u32]) -> Replay {
+fn replayed(s: &[u8], out: &mut [u32]) -> Replay
+    ensures { λ r. ⌜ Walked (now (s .entry)) (now (out .entry)) (r .count) (now (out .exit)) ⌝ }
+{
     let mut t = scopes::empty();
     let mut p: usize = 0;
     let mut i: usize = 0;
@@ -170,11 +186,267 @@ fn replayed(s: &[u8], out: &mut [u32]) -> Replay {
     Replay { count: i, tree: t }
 }
 
-// Replays the calls: for each its answer, code times 65,536 plus value, in `out`. Gives how many there were.
+// Replays the calls by value: for each its answer, code times 65,536 plus value, in `out`, as far as there is place. Gives how many
+// there were. Ruled out: an answer of a tree that a refused call changed; a count that leaves the last call out.
 #[no_mangle]
-pub extern "C" fn scopes_replay(s: &[u8], out: &mut [u32]) -> usize {
+pub extern "C" fn scopes_replay(s: &[u8], out: &mut [u32]) -> usize
+    ensures { λ r. ⌜ Walked (now (s .entry)) (now (out .entry)) r (now (out .exit)) ⌝ }
+{
     let r = replayed(s, out);
     r.count
+}
+
+// An answer as a number: code times 65,536 plus value.
+fn numbered(number: u8) -> u32
+    ensures { λ r. ⌜ r ≡ number-shown number ⌝ }
+{
+    if number == 0 {
+        return 0;
+    }
+    packed(2, wider(number))
+}
+
+fn shown(a: Answer) -> u32
+    ensures { λ r. ⌜ r ≡ shown (told a) ⌝ }
+{
+    match a {
+        Answer::Done => 0,
+        Answer::Mark(m) => packed(1, m),
+        Answer::Refused(n) => packed(2, wider(n)),
+    }
+}
+
+// The place after the call at p.
+fn after(s: &[u8], p: usize) -> usize
+    requires { ⌜ p < 16777216 ⌝ }
+    ensures { λ r. ⌜ (r ≡ after-order (now (s .entry)) p) × (r ≤ p + 65539) ⌝ }
+{
+    let op = byte(s, p);
+    if op == 6 {
+        return p + 4 + pair(s, p + 1);
+    }
+    let n = byte(s, p + 1);
+    if op == 7 {
+        return p + 2 + n;
+    }
+    if op == 8 {
+        return p + 2 + n;
+    }
+    if op == 1 {
+        return p + 5 + n;
+    }
+    if declares(op) {
+        return p + 5 + n;
+    }
+    p + 1
+}
+
+// The item kind of a declaring call, as in a bundle.
+fn item_of(op: usize) -> u8
+    ensures { λ r. ⌜ r ≡ item-kind op ⌝ }
+{
+    if op == 5 {
+        return 2;
+    }
+    if op == 4 {
+        return 4;
+    }
+    1
+}
+
+fn declares(op: usize) -> bool
+    ensures { λ r. ⌜ r ≡ is-declaring op ⌝ }
+{
+    if op < 3 {
+        return false;
+    }
+    op < 6
+}
+
+// The call at p on lent arrays: its answer as a number.
+fn call_in(
+    count: &mut usize,
+    kinds: &mut [u8; 1024],
+    visible: &mut [u8; 1024],
+    scopes: &mut [u16; 1024],
+    marks: &mut [u16; 1024],
+    n0: &mut [u64; 1024],
+    n1: &mut [u64; 1024],
+    n2: &mut [u64; 1024],
+    n3: &mut [u64; 1024],
+    origins: &mut [u16; 1024],
+    targets: &mut [u16; 1024],
+    times: &mut [u16; 1024],
+    depth: &mut usize,
+    stack: &mut [u16; 9],
+    s: &[u8],
+    p: usize,
+) -> u32
+    requires { ⌜ p < 16777216 ⌝ }
+    ensures { λ r. ⌜ Turns (lent (now (count .entry)) (now (kinds .entry)) (now (visible .entry)) (now (scopes .entry)) (now (marks .entry)) (now (n0 .entry)) (now (n1 .entry)) (now (n2 .entry)) (now (n3 .entry)) (now (origins .entry)) (now (targets .entry)) (now (times .entry)) (now (depth .entry)) (now (stack .entry))) (order-at (now (s .entry)) p) r (lent (now (count .exit)) (now (kinds .exit)) (now (visible .exit)) (now (scopes .exit)) (now (marks .exit)) (now (n0 .exit)) (now (n1 .exit)) (now (n2 .exit)) (now (n3 .exit)) (now (origins .exit)) (now (targets .exit)) (now (times .exit)) (now (depth .exit)) (now (stack .exit))) ⌝ }
+{
+    let op = byte(s, p);
+    if op == 2 {
+        return numbered(scopes::lent::exit(&mut *depth));
+    }
+    if op == 6 {
+        let n = pair(s, p + 1);
+        let v = byte(s, p + 3 + n) == 1;
+        return numbered(scopes::lent::resolve_use(
+            &mut *count,
+            &mut *kinds,
+            &mut *visible,
+            &mut *scopes,
+            &mut *marks,
+            &mut *n0,
+            &mut *n1,
+            &mut *n2,
+            &mut *n3,
+            &mut *origins,
+            &mut *targets,
+            &mut *times,
+            *depth,
+            &*stack,
+            part(s, p + 3, n),
+            v,
+        ));
+    }
+    let n = byte(s, p + 1);
+    let e = p + 2 + n;
+    if op == 7 {
+        return shown(scopes::lent::get(
+            *count,
+            &*kinds,
+            &*scopes,
+            &*marks,
+            &*n0,
+            &*n1,
+            &*n2,
+            &*n3,
+            *depth,
+            &*stack,
+            part(s, p + 2, n),
+            1,
+        ));
+    }
+    if op == 8 {
+        return shown(scopes::lent::get(
+            *count,
+            &*kinds,
+            &*scopes,
+            &*marks,
+            &*n0,
+            &*n1,
+            &*n2,
+            &*n3,
+            *depth,
+            &*stack,
+            part(s, p + 2, n),
+            2,
+        ));
+    }
+    let v = byte(s, e) == 1;
+    let m = mark(s, e + 1);
+    if op == 1 {
+        return numbered(scopes::lent::enter(
+            &mut *count,
+            &mut *kinds,
+            &mut *visible,
+            &mut *scopes,
+            &mut *marks,
+            &mut *n0,
+            &mut *n1,
+            &mut *n2,
+            &mut *n3,
+            &mut *origins,
+            &mut *targets,
+            &mut *times,
+            &mut *depth,
+            &mut *stack,
+            part(s, p + 2, n),
+            v,
+            m,
+        ));
+    }
+    if declares(op) {
+        return numbered(scopes::lent::insert(
+            &mut *count,
+            &mut *kinds,
+            &mut *visible,
+            &mut *scopes,
+            &mut *marks,
+            &mut *n0,
+            &mut *n1,
+            &mut *n2,
+            &mut *n3,
+            &mut *origins,
+            &mut *targets,
+            &mut *times,
+            *depth,
+            &*stack,
+            item_of(op),
+            part(s, p + 2, n),
+            v,
+            m,
+        ));
+    }
+    *count = 0;
+    *depth = 0;
+    0
+}
+
+// As `scopes_replay`, over arrays that are lent from call to call: no record is copied. Ruled out: an answer that a refused call's
+// leavings changed; a count that leaves the last call out.
+#[no_mangle]
+pub extern "C" fn scopes_walk(s: &[u8], out: &mut [u32]) -> usize
+    ensures { λ r. ⌜ Walked (now (s .entry)) (now (out .entry)) r (now (out .exit)) ⌝ }
+{
+    let mut count: usize = 0;
+    let mut kinds = [0u8; 1024];
+    let mut visible = [0u8; 1024];
+    let mut scopes = [0u16; 1024];
+    let mut marks = [0u16; 1024];
+    let mut n0 = [0u64; 1024];
+    let mut n1 = [0u64; 1024];
+    let mut n2 = [0u64; 1024];
+    let mut n3 = [0u64; 1024];
+    let mut origins = [0u16; 1024];
+    let mut targets = [0u16; 1024];
+    let mut times = [0u16; 1024];
+    let mut depth: usize = 0;
+    let mut stack = [0u16; 9];
+    let mut p: usize = 0;
+    let mut i: usize = 0;
+    while i < 16000000 {
+        if s.len() <= p {
+            return i;
+        }
+        if 16777216 <= p {
+            return i;
+        }
+        let a = call_in(
+            &mut count,
+            &mut kinds,
+            &mut visible,
+            &mut scopes,
+            &mut marks,
+            &mut n0,
+            &mut n1,
+            &mut n2,
+            &mut n3,
+            &mut origins,
+            &mut targets,
+            &mut times,
+            &mut depth,
+            &mut stack,
+            s,
+            p,
+        );
+        put(out, i, a);
+        p = after(s, p);
+        i += 1;
+    }
+    i
 }
 
 fn put_wide(out: &mut [u64], at: usize, v: u64) {

@@ -1,149 +1,18 @@
-use native.Mathlib.Omega.{arith}
 use borrow.Author.Needs.{needs}
 use Rattle.scopes.proofs.resolve_use.Statement.{statement}
 use Rattle.scopes.proofs.resolve_use.Tie as tie
 use mathlib.Core.Path.{sym, subst}
 use Rattle.scopes.specs.Meets.{Meets}
-use Rattle.scopes.specs.Uses.{use-bad, use-many, use-deep, segment-bound, element-bound, use-empty, use-no-crate, use-lost, use-main, use-refused, use-full, use-done, few-staged}
 use Rattle.scopes.proofs.Sizes.{sized}
 
-use-form-requires : tie.Need-use-form-requires
-use-form-requires c κs = search needs
+resolve-use-requires : tie.Need-resolve-use-requires
+resolve-use-requires c κs = search needs
 
-refuse-requires : tie.Need-refuse-requires
-refuse-requires c κs = search needs
+answered-requires : tie.Need-answered-requires
+answered-requires c κs = search needs
 
 returns : tie.Need-returns
-returns c = subst (Meets _ _) (sym ((c .refuse) .ensures)) (use-bad _ _ _ _ ((c .before .before .use-form) .ensures) ((c .before .if1) .taken))
-
-refuse-requires-2 : tie.Need-refuse-requires-2
-refuse-requires-2 c κs = search needs
-
-returns-2 : tie.Need-returns-2
-returns-2 c = subst (Meets _ _) (sym ((c .refuse2) .ensures)) (use-many _ _ _ ((c .before .if2) .taken))
-
-refuse-requires-3 : tie.Need-refuse-requires-3
-refuse-requires-3 c κs = search needs
-
-returns-3 : tie.Need-returns-3
-returns-3 c = subst (Meets _ _) (sym ((c .refuse3) .ensures)) (use-deep _ _ _ ((c .before .if3) .taken))
-
-byte-at-requires : tie.Need-byte-at-requires
-byte-at-requires c κs = search needs
-
-refuse-requires-4 : tie.Need-refuse-requires-4
-refuse-requires-4 c κs = search needs
-
-returns-4 : tie.Need-returns-4
-returns-4 c = subst (Meets _ _) (sym ((c .refuse4) .ensures)) (use-empty _ _ _ _ ((c .before .before .before .before .before .before .use-form) .ensures) ((c .before .before .before .before .before .if1) .left) _ ((c .before .before .byte-at) .ensures) ((c .before .if4) .taken))
-
-string-at-requires : tie.Need-string-at-requires
-string-at-requires c κs = search needs
-
-is-crate-requires : tie.Need-is-crate-requires
-is-crate-requires c κs = search needs
-
-refuse-requires-5 : tie.Need-refuse-requires-5
-refuse-requires-5 c κs = search needs
-
-returns-5 : tie.Need-returns-5
-returns-5 c = subst (Meets _ _) (sym ((c .refuse5) .ensures)) (use-no-crate _ _ _ _ ((c .before .before .before .before .before .before .before .before .before .use-form) .ensures) ((c .before .before .before .before .before .before .before .before .if1) .left) _ ((c .before .before .before .before .before .byte-at) .ensures) ((c .before .before .before .before .if4) .left) _ ((c .before .before .before .string-at) .ensures) _ ((c .before .before .is-crate) .ensures) ((c .before .if5) .left))
-
-next-requires : tie.Need-next-requires
-next-requires c κs = search needs
-
-sub-navigate : tie.Need-sub-navigate
-sub-navigate c = search needs
-
-navigate-requires : tie.Need-navigate-requires
-navigate-requires c κs = let u = segment-bound _ _ ((c .before .before .before .before .before .before .before .before .before .before .before .before .before .before .before .before .before .before .before .before .before .use-form) .ensures) ((c .before .before .before .before .before .before .before .before .before .before .before .before .before .before .before .before .before .before .before .before .if1) .left) _ ((c .before .before .before .before .before .before .before .before .before .before .before .before .before .before .before .before .before .byte-at) .ensures) in let a = (c .before .before .before .before .before .before .before .before .before .before .before .before .next) .ensures .1 in let i = (c .before .before .before .before .before .before .before .before .before .before .before .before .before .before .before .before .before .before .before .if2) .left in let j = (c .before .before .before .before .before .before .before .before .before .before .before .before .before .before .before .before .before .before .if3) .left in let z = (c .before .before .before .before .before .before .before .before .before .before .before .before .before .before .before .before .if4) .left in (i, (j, omega arith))
-
-refuse-requires-6 : tie.Need-refuse-requires-6
-refuse-requires-6 c κs = search needs
-
-returns-6 : tie.Need-returns-6
-returns-6 c = subst (Meets _ _) (sym ((c .refuse6) .ensures)) (use-lost _ _ _ _ ((c .before .before .before .before .before .before .before .before .before .before .before .before .before .before .before .before .before .before .before .before .before .before .before .before .before .use-form) .ensures) ((c .before .before .before .before .before .before .before .before .before .before .before .before .before .before .before .before .before .before .before .before .before .before .before .before .if1) .left) _ ((c .before .before .before .before .before .before .before .before .before .before .before .before .before .before .before .before .before .before .before .before .before .byte-at) .ensures) ((c .before .before .before .before .before .before .before .before .before .before .before .before .before .before .before .before .before .before .before .before .if4) .left) _ ((c .before .before .before .before .before .before .before .before .before .before .before .before .before .before .before .before .before .before .before .string-at) .ensures) _ ((c .before .before .before .before .before .before .before .before .before .before .before .before .before .before .before .before .before .before .is-crate) .ensures) ((c .before .before .before .before .before .before .before .before .before .before .before .before .before .before .before .before .before .if5) .taken) _ ((c .before .before .before .before .before .before .before .before .before .before .before .before .before .before .before .before .next) .ensures) _ ((c .before .before .before .navigate) .ensures) ((c .before .if6) .taken))
-
-byte-at-requires-2 : tie.Need-byte-at-requires-2
-byte-at-requires-2 c κs = search needs
-
-add-first : tie.Need-add-first
-add-first c = let u = segment-bound _ _ ((c .before .before .before .before .before .before .before .before .before .before .before .before .before .before .before .before .before .before .before .before .before .before .before .before .before .before .use-form) .ensures) ((c .before .before .before .before .before .before .before .before .before .before .before .before .before .before .before .before .before .before .before .before .before .before .before .before .before .if1) .left) _ ((c .before .before .before .before .before .before .before .before .before .before .before .before .before .before .before .before .before .before .before .before .before .before .byte-at) .ensures) in let a = (c .before .before .before .before .before .before .before .before .before .before .before .before .before .before .before .before .before .next) .ensures .1 in let w = (c .before .before .before .before .navigate) .ensures .below in omega arith
-
-any-main-requires : tie.Need-any-main-requires
-any-main-requires c κs = let u = segment-bound _ _ ((c .before .before .before .before .before .before .before .before .before .before .before .before .before .before .before .before .before .before .before .before .before .before .before .before .before .before .use-form) .ensures) ((c .before .before .before .before .before .before .before .before .before .before .before .before .before .before .before .before .before .before .before .before .before .before .before .before .before .if1) .left) _ ((c .before .before .before .before .before .before .before .before .before .before .before .before .before .before .before .before .before .before .before .before .before .before .byte-at) .ensures) in let k = element-bound _ _ ((c .before .before .before .before .before .before .before .before .before .before .before .before .before .before .before .before .before .before .before .before .before .before .before .before .before .before .use-form) .ensures) ((c .before .before .before .before .before .before .before .before .before .before .before .before .before .before .before .before .before .before .before .before .before .before .before .before .before .if1) .left) _ ((c .before .before .before .before .before .before .before .before .before .before .before .before .before .before .before .before .before .before .before .before .before .before .byte-at) .ensures) ((c .before .before .before .before .before .before .before .before .before .before .before .before .before .before .before .before .before .before .before .before .before .if4) .left) _ ((c .before .before .before .before .before .before .before .before .before .before .before .before .before .before .before .before .before .next) .ensures) _ ((c .before .before .before .before .navigate) .ensures .next ((c .before .before .if6) .left)) _ ((c .before .byte-at2) .ensures) in let a = (c .before .before .before .before .before .before .before .before .before .before .before .before .before .before .before .before .before .next) .ensures .1 in let w = (c .before .before .before .before .navigate) .ensures .below in omega arith
-
-refuse-requires-7 : tie.Need-refuse-requires-7
-refuse-requires-7 c κs = search needs
-
-returns-7 : tie.Need-returns-7
-returns-7 c = subst (Meets _ _) (sym ((c .refuse7) .ensures)) (use-main _ _ _ _ ((c .before .before .before .before .before .before .before .before .before .before .before .before .before .before .before .before .before .before .before .before .before .before .before .before .before .before .before .before .before .use-form) .ensures) ((c .before .before .before .before .before .before .before .before .before .before .before .before .before .before .before .before .before .before .before .before .before .before .before .before .before .before .before .before .if1) .left) _ ((c .before .before .before .before .before .before .before .before .before .before .before .before .before .before .before .before .before .before .before .before .before .before .before .before .before .byte-at) .ensures) ((c .before .before .before .before .before .before .before .before .before .before .before .before .before .before .before .before .before .before .before .before .before .before .before .before .if4) .left) _ ((c .before .before .before .before .before .before .before .before .before .before .before .before .before .before .before .before .before .before .before .before .before .before .before .string-at) .ensures) _ ((c .before .before .before .before .before .before .before .before .before .before .before .before .before .before .before .before .before .before .before .before .before .before .is-crate) .ensures) ((c .before .before .before .before .before .before .before .before .before .before .before .before .before .before .before .before .before .before .before .before .before .if5) .taken) _ ((c .before .before .before .before .before .before .before .before .before .before .before .before .before .before .before .before .before .before .before .before .next) .ensures) _ ((c .before .before .before .before .before .before .before .navigate) .ensures) ((c .before .before .before .before .before .if6) .left) _ ((c .before .before .before .before .byte-at2) .ensures) _ ((c .before .before .any-main) .ensures) ((c .before .if7) .taken))
-
-current-requires : tie.Need-current-requires
-current-requires c κs = (c .before .before .before .before .before .before .before .before .before .before .before .before .before .before .before .before .before .before .before .before .before .before .before .before .before .before .before .if3) .left
-
-stage-requires : tie.Need-stage-requires
-stage-requires c κs = let u = segment-bound _ _ ((c .before .before .before .before .before .before .before .before .before .before .before .before .before .before .before .before .before .before .before .before .before .before .before .before .before .before .before .before .before .before .before .before .before .before .before .before .before .before .before .before .before .before .before .use-form) .ensures) ((c .before .before .before .before .before .before .before .before .before .before .before .before .before .before .before .before .before .before .before .before .before .before .before .before .before .before .before .before .before .before .before .before .before .before .before .before .before .before .before .before .before .before .if1) .left) _ ((c .before .before .before .before .before .before .before .before .before .before .before .before .before .before .before .before .before .before .before .before .before .before .before .before .before .before .before .before .before .before .before .before .before .before .before .before .before .before .before .byte-at) .ensures) in let k = element-bound _ _ ((c .before .before .before .before .before .before .before .before .before .before .before .before .before .before .before .before .before .before .before .before .before .before .before .before .before .before .before .before .before .before .before .before .before .before .before .before .before .before .before .before .before .before .before .use-form) .ensures) ((c .before .before .before .before .before .before .before .before .before .before .before .before .before .before .before .before .before .before .before .before .before .before .before .before .before .before .before .before .before .before .before .before .before .before .before .before .before .before .before .before .before .before .if1) .left) _ ((c .before .before .before .before .before .before .before .before .before .before .before .before .before .before .before .before .before .before .before .before .before .before .before .before .before .before .before .before .before .before .before .before .before .before .before .before .before .before .before .byte-at) .ensures) ((c .before .before .before .before .before .before .before .before .before .before .before .before .before .before .before .before .before .before .before .before .before .before .before .before .before .before .before .before .before .before .before .before .before .before .before .before .before .before .if4) .left) _ ((c .before .before .before .before .before .before .before .before .before .before .before .before .before .before .before .before .before .before .before .before .before .before .before .before .before .before .before .before .before .before .before .before .before .before .next) .ensures) _ ((c .before .before .before .before .before .before .before .before .before .before .before .before .before .before .before .before .before .before .before .before .before .navigate) .ensures .next ((c .before .before .before .before .before .before .before .before .before .before .before .before .before .before .before .before .before .before .before .if6) .left)) _ ((c .before .before .before .before .before .before .before .before .before .before .before .before .before .before .before .before .before .before .byte-at2) .ensures) in let a = (c .before .before .before .before .before .before .before .before .before .before .before .before .before .before .before .before .before .before .before .before .before .before .before .before .before .before .before .before .before .before .before .before .before .before .next) .ensures .1 in let w = (c .before .before .before .before .before .before .before .before .before .before .before .before .before .before .before .before .before .before .before .before .before .navigate) .ensures .below in let e = (c .before .before .before .before .before .before .before .before .before .before .before .before .before .before .before .before .before .before .before .before .before .navigate) .ensures .time in let i = (c .before .before .before .before .before .before .before .before .before .before .before .before .before .before .before .before .before .before .before .before .before .before .before .before .before .before .before .before .before .before .before .before .before .before .before .before .before .before .before .before .before .if2) .left in (i, (omega arith, (k, omega arith)))
-
-refuse-requires-8 : tie.Need-refuse-requires-8
-refuse-requires-8 c κs = search needs
-
-returns-8 : tie.Need-returns-8
-returns-8 c = subst (Meets _ _) (sym ((c .refuse8) .ensures)) (use-refused _ _ _ _ ((c .before .before .before .before .before .before .before .before .before .before .before .before .before .before .before .before .before .before .before .before .before .before .before .before .before .before .before .before .before .before .before .before .before .before .before .before .before .before .before .before .before .before .before .before .before .before .before .use-form) .ensures) ((c .before .before .before .before .before .before .before .before .before .before .before .before .before .before .before .before .before .before .before .before .before .before .before .before .before .before .before .before .before .before .before .before .before .before .before .before .before .before .before .before .before .before .before .before .before .before .if1) .left) _ ((c .before .before .before .before .before .before .before .before .before .before .before .before .before .before .before .before .before .before .before .before .before .before .before .before .before .before .before .before .before .before .before .before .before .before .before .before .before .before .before .before .before .before .before .byte-at) .ensures) ((c .before .before .before .before .before .before .before .before .before .before .before .before .before .before .before .before .before .before .before .before .before .before .before .before .before .before .before .before .before .before .before .before .before .before .before .before .before .before .before .before .before .before .if4) .left) _ ((c .before .before .before .before .before .before .before .before .before .before .before .before .before .before .before .before .before .before .before .before .before .before .before .before .before .before .before .before .before .before .before .before .before .before .before .before .before .before .before .before .before .string-at) .ensures) _ ((c .before .before .before .before .before .before .before .before .before .before .before .before .before .before .before .before .before .before .before .before .before .before .before .before .before .before .before .before .before .before .before .before .before .before .before .before .before .before .before .before .is-crate) .ensures) ((c .before .before .before .before .before .before .before .before .before .before .before .before .before .before .before .before .before .before .before .before .before .before .before .before .before .before .before .before .before .before .before .before .before .before .before .before .before .before .before .if5) .taken) _ ((c .before .before .before .before .before .before .before .before .before .before .before .before .before .before .before .before .before .before .before .before .before .before .before .before .before .before .before .before .before .before .before .before .before .before .before .before .before .before .next) .ensures) _ ((c .before .before .before .before .before .before .before .before .before .before .before .before .before .before .before .before .before .before .before .before .before .before .before .before .before .navigate) .ensures) ((c .before .before .before .before .before .before .before .before .before .before .before .before .before .before .before .before .before .before .before .before .before .before .before .if6) .left) _ ((c .before .before .before .before .before .before .before .before .before .before .before .before .before .before .before .before .before .before .before .before .before .before .byte-at2) .ensures) _ ((c .before .before .before .before .before .before .before .before .before .before .before .before .before .before .before .before .before .before .before .before .any-main) .ensures) ((c .before .before .before .before .before .before .before .before .before .before .before .before .before .before .before .before .before .before .before .if7) .left) _ ((c .before .before .before .before .before .before .before .before .before .before .before .before .before .before .before .before .current) .ensures) _ ((c .before .before .before .stage) .ensures) ((c .before .if8) .taken))
-
-add-if9 : tie.Need-add-if9
-add-if9 c = let k = element-bound _ _ ((c .before .before .before .before .before .before .before .before .before .before .before .before .before .before .before .before .before .before .before .before .before .before .before .before .before .before .before .before .before .before .before .before .before .before .before .before .before .before .before .before .before .before .before .before .before .before .before .use-form) .ensures) ((c .before .before .before .before .before .before .before .before .before .before .before .before .before .before .before .before .before .before .before .before .before .before .before .before .before .before .before .before .before .before .before .before .before .before .before .before .before .before .before .before .before .before .before .before .before .before .if1) .left) _ ((c .before .before .before .before .before .before .before .before .before .before .before .before .before .before .before .before .before .before .before .before .before .before .before .before .before .before .before .before .before .before .before .before .before .before .before .before .before .before .before .before .before .before .before .byte-at) .ensures) ((c .before .before .before .before .before .before .before .before .before .before .before .before .before .before .before .before .before .before .before .before .before .before .before .before .before .before .before .before .before .before .before .before .before .before .before .before .before .before .before .before .before .before .if4) .left) _ ((c .before .before .before .before .before .before .before .before .before .before .before .before .before .before .before .before .before .before .before .before .before .before .before .before .before .before .before .before .before .before .before .before .before .before .before .before .before .before .next) .ensures) _ ((c .before .before .before .before .before .before .before .before .before .before .before .before .before .before .before .before .before .before .before .before .before .before .before .before .before .navigate) .ensures .next ((c .before .before .before .before .before .before .before .before .before .before .before .before .before .before .before .before .before .before .before .before .before .before .before .if6) .left)) _ ((c .before .before .before .before .before .before .before .before .before .before .before .before .before .before .before .before .before .before .before .before .before .before .byte-at2) .ensures) in let r = few-staged _ _ _ _ _ _ _ _ _ ((c .before .before .before .stage) .ensures) k in let i = (c .before .before .before .before .before .before .before .before .before .before .before .before .before .before .before .before .before .before .before .before .before .before .before .before .before .before .before .before .before .before .before .before .before .before .before .before .before .before .before .before .before .before .before .before .before .if2) .left in omega arith
-
-refuse-requires-9 : tie.Need-refuse-requires-9
-refuse-requires-9 c κs = search needs
-
-returns-9 : tie.Need-returns-9
-returns-9 c = subst (Meets _ _) (sym ((c .refuse9) .ensures)) (use-full _ _ _ _ ((c .before .before .before .before .before .before .before .before .before .before .before .before .before .before .before .before .before .before .before .before .before .before .before .before .before .before .before .before .before .before .before .before .before .before .before .before .before .before .before .before .before .before .before .before .before .before .before .before .before .use-form) .ensures) ((c .before .before .before .before .before .before .before .before .before .before .before .before .before .before .before .before .before .before .before .before .before .before .before .before .before .before .before .before .before .before .before .before .before .before .before .before .before .before .before .before .before .before .before .before .before .before .before .before .if1) .left) _ ((c .before .before .before .before .before .before .before .before .before .before .before .before .before .before .before .before .before .before .before .before .before .before .before .before .before .before .before .before .before .before .before .before .before .before .before .before .before .before .before .before .before .before .before .before .before .byte-at) .ensures) ((c .before .before .before .before .before .before .before .before .before .before .before .before .before .before .before .before .before .before .before .before .before .before .before .before .before .before .before .before .before .before .before .before .before .before .before .before .before .before .before .before .before .before .before .before .if4) .left) _ ((c .before .before .before .before .before .before .before .before .before .before .before .before .before .before .before .before .before .before .before .before .before .before .before .before .before .before .before .before .before .before .before .before .before .before .before .before .before .before .before .before .before .before .before .string-at) .ensures) _ ((c .before .before .before .before .before .before .before .before .before .before .before .before .before .before .before .before .before .before .before .before .before .before .before .before .before .before .before .before .before .before .before .before .before .before .before .before .before .before .before .before .before .before .is-crate) .ensures) ((c .before .before .before .before .before .before .before .before .before .before .before .before .before .before .before .before .before .before .before .before .before .before .before .before .before .before .before .before .before .before .before .before .before .before .before .before .before .before .before .before .before .if5) .taken) _ ((c .before .before .before .before .before .before .before .before .before .before .before .before .before .before .before .before .before .before .before .before .before .before .before .before .before .before .before .before .before .before .before .before .before .before .before .before .before .before .before .before .next) .ensures) _ ((c .before .before .before .before .before .before .before .before .before .before .before .before .before .before .before .before .before .before .before .before .before .before .before .before .before .before .before .navigate) .ensures) ((c .before .before .before .before .before .before .before .before .before .before .before .before .before .before .before .before .before .before .before .before .before .before .before .before .before .if6) .left) _ ((c .before .before .before .before .before .before .before .before .before .before .before .before .before .before .before .before .before .before .before .before .before .before .before .before .byte-at2) .ensures) _ ((c .before .before .before .before .before .before .before .before .before .before .before .before .before .before .before .before .before .before .before .before .before .before .any-main) .ensures) ((c .before .before .before .before .before .before .before .before .before .before .before .before .before .before .before .before .before .before .before .before .before .if7) .left) _ ((c .before .before .before .before .before .before .before .before .before .before .before .before .before .before .before .before .before .before .current) .ensures) _ ((c .before .before .before .before .before .stage) .ensures) ((c .before .before .before .if8) .left) ((c .before .if9) .taken))
-
-bit-requires : tie.Need-bit-requires
-bit-requires c κs = search needs
-
-commit-requires : tie.Need-commit-requires
-commit-requires c κs = let k = element-bound _ _ ((c .before .before .before .before .before .before .before .before .before .before .before .before .before .before .before .before .before .before .before .before .before .before .before .before .before .before .before .before .before .before .before .before .before .before .before .before .before .before .before .before .before .before .before .before .before .before .before .before .before .use-form) .ensures) ((c .before .before .before .before .before .before .before .before .before .before .before .before .before .before .before .before .before .before .before .before .before .before .before .before .before .before .before .before .before .before .before .before .before .before .before .before .before .before .before .before .before .before .before .before .before .before .before .before .if1) .left) _ ((c .before .before .before .before .before .before .before .before .before .before .before .before .before .before .before .before .before .before .before .before .before .before .before .before .before .before .before .before .before .before .before .before .before .before .before .before .before .before .before .before .before .before .before .before .before .byte-at) .ensures) ((c .before .before .before .before .before .before .before .before .before .before .before .before .before .before .before .before .before .before .before .before .before .before .before .before .before .before .before .before .before .before .before .before .before .before .before .before .before .before .before .before .before .before .before .before .if4) .left) _ ((c .before .before .before .before .before .before .before .before .before .before .before .before .before .before .before .before .before .before .before .before .before .before .before .before .before .before .before .before .before .before .before .before .before .before .before .before .before .before .before .before .next) .ensures) _ ((c .before .before .before .before .before .before .before .before .before .before .before .before .before .before .before .before .before .before .before .before .before .before .before .before .before .before .before .navigate) .ensures .next ((c .before .before .before .before .before .before .before .before .before .before .before .before .before .before .before .before .before .before .before .before .before .before .before .before .before .if6) .left)) _ ((c .before .before .before .before .before .before .before .before .before .before .before .before .before .before .before .before .before .before .before .before .before .before .before .before .byte-at2) .ensures) in let r = few-staged _ _ _ _ _ _ _ _ _ ((c .before .before .before .before .before .stage) .ensures) k in ((c .before .if9) .left, r)
-
-returns-10 : tie.Need-returns-10
-returns-10 c = use-done _ _ ((c .before .before .before .before .before .before .before .before .before .before .before .before .before .before .before .before .before .before .before .before .before .before .before .before .before .before .before .before .before .before .before .before .before .before .before .before .before .before .before .before .before .before .before .before .before .before .before .before .before .before .before .before .args) .visible) _ ((c .before .before .before .before .before .before .before .before .before .before .before .before .before .before .before .before .before .before .before .before .before .before .before .before .before .before .before .before .before .before .before .before .before .before .before .before .before .before .before .before .before .before .before .before .before .before .before .before .before .before .use-form) .ensures) ((c .before .before .before .before .before .before .before .before .before .before .before .before .before .before .before .before .before .before .before .before .before .before .before .before .before .before .before .before .before .before .before .before .before .before .before .before .before .before .before .before .before .before .before .before .before .before .before .before .before .if1) .left) _ ((c .before .before .before .before .before .before .before .before .before .before .before .before .before .before .before .before .before .before .before .before .before .before .before .before .before .before .before .before .before .before .before .before .before .before .before .before .before .before .before .before .before .before .before .before .before .before .byte-at) .ensures) ((c .before .before .before .before .before .before .before .before .before .before .before .before .before .before .before .before .before .before .before .before .before .before .before .before .before .before .before .before .before .before .before .before .before .before .before .before .before .before .before .before .before .before .before .before .before .if4) .left) _ ((c .before .before .before .before .before .before .before .before .before .before .before .before .before .before .before .before .before .before .before .before .before .before .before .before .before .before .before .before .before .before .before .before .before .before .before .before .before .before .before .before .before .before .before .before .string-at) .ensures) _ ((c .before .before .before .before .before .before .before .before .before .before .before .before .before .before .before .before .before .before .before .before .before .before .before .before .before .before .before .before .before .before .before .before .before .before .before .before .before .before .before .before .before .before .before .is-crate) .ensures) ((c .before .before .before .before .before .before .before .before .before .before .before .before .before .before .before .before .before .before .before .before .before .before .before .before .before .before .before .before .before .before .before .before .before .before .before .before .before .before .before .before .before .before .if5) .taken) _ ((c .before .before .before .before .before .before .before .before .before .before .before .before .before .before .before .before .before .before .before .before .before .before .before .before .before .before .before .before .before .before .before .before .before .before .before .before .before .before .before .before .before .next) .ensures) _ ((c .before .before .before .before .before .before .before .before .before .before .before .before .before .before .before .before .before .before .before .before .before .before .before .before .before .before .before .before .navigate) .ensures) ((c .before .before .before .before .before .before .before .before .before .before .before .before .before .before .before .before .before .before .before .before .before .before .before .before .before .before .if6) .left) _ ((c .before .before .before .before .before .before .before .before .before .before .before .before .before .before .before .before .before .before .before .before .before .before .before .before .before .byte-at2) .ensures) _ ((c .before .before .before .before .before .before .before .before .before .before .before .before .before .before .before .before .before .before .before .before .before .before .before .any-main) .ensures) ((c .before .before .before .before .before .before .before .before .before .before .before .before .before .before .before .before .before .before .before .before .before .before .if7) .left) _ ((c .before .before .before .before .before .before .before .before .before .before .before .before .before .before .before .before .before .before .before .current) .ensures) _ ((c .before .before .before .before .before .before .stage) .ensures) ((c .before .before .before .before .if8) .left) ((c .before .before .if9) .left) (sized _ _ ((c .before .before .before .before .before .before .before .before .before .before .before .before .before .before .before .before .before .before .before .before .before .before .before .before .before .before .before .before .before .before .before .before .before .before .before .before .before .before .before .before .before .before .before .before .before .before .before .before .before .before .before .before .good) .0)) _ ((c .before .bit) .ensures) _ ((c .commit) .ensures)
+returns c = subst (Meets _ _) (sym ((c .answered) .ensures)) ((c .before .resolve-use) .ensures .meets (sized _ _ ((c .before .before .before .before .before .before .before .before .before .before .before .before .before .before .before .before .before .before .before .before .before .before .before .before .before .before .before .before .good) .0)))
 
 pub resolve-use-spec : {M : Type 1} → statement M
-resolve-use-spec =
-    tie.close
-    (tie.spec
-    use-form-requires
-    refuse-requires
-    returns
-    refuse-requires-2
-    returns-2
-    refuse-requires-3
-    returns-3
-    byte-at-requires
-    refuse-requires-4
-    returns-4
-    string-at-requires
-    is-crate-requires
-    refuse-requires-5
-    returns-5
-    next-requires
-    sub-navigate
-    navigate-requires
-    refuse-requires-6
-    returns-6
-    byte-at-requires-2
-    add-first
-    any-main-requires
-    refuse-requires-7
-    returns-7
-    current-requires
-    stage-requires
-    refuse-requires-8
-    returns-8
-    add-if9
-    refuse-requires-9
-    returns-9
-    bit-requires
-    commit-requires
-    returns-10)
+resolve-use-spec = tie.close (tie.spec resolve-use-requires answered-requires returns)

@@ -1,31 +1,18 @@
 use Rattle.scopes.proofs.stage.verdict.Statement.{statement}
 use Rattle.scopes.proofs.stage.verdict.Tie as tie
-use borrow.Author.Tests.{eq-eqb, ne-eqb}
-use Rattle.scopes.specs.Staging.{verdict-of}
+use Rattle.scopes.specs.Staging.{verdict-done, verdict-now, verdict-first, verdict-next}
 
 returns : tie.Need-returns
-unfolding verdict-of
-returns c = simp (eq-eqb _ _ ((c .if1) .taken))
+returns c = verdict-done _ _ ((c .if1) .taken)
 
 returns-2 : tie.Need-returns-2
-unfolding verdict-of
-returns-2 c = simp (ne-eqb _ _ ((c .before .if1) .left), eq-eqb _ _ ((c .if2) .taken))
+returns-2 c = verdict-now _ _ ((c .before .if1) .left) ((c .if2) .taken)
 
 returns-3 : tie.Need-returns-3
-unfolding verdict-of
-returns-3 c = simp (ne-eqb _ _ ((c .before .before .if1) .left), ne-eqb _ _ ((c .before .if2) .left), eq-eqb _ _ ((c .if3) .taken))
+returns-3 c = verdict-first _ _ ((c .before .before .if1) .left) ((c .before .if2) .left) ((c .if3) .taken)
 
 returns-4 : tie.Need-returns-4
-unfolding verdict-of
-returns-4 c = simp (ne-eqb _ _ ((c .before .before .before .if1) .left), ne-eqb _ _ ((c .before .before .if2) .left), ne-eqb _ _ ((c .before .if3) .left), ne-eqb _ _ ((c .if4) .taken))
-
-returns-5 : tie.Need-returns-5
-unfolding verdict-of
-returns-5 c = simp (ne-eqb _ _ ((c .before .before .before .before .if1) .left), ne-eqb _ _ ((c .before .before .before .if2) .left), ne-eqb _ _ ((c .before .before .if3) .left), eq-eqb _ _ ((c .before .if4) .left), ne-eqb _ _ ((c .if5) .taken))
-
-returns-6 : tie.Need-returns-6
-unfolding verdict-of
-returns-6 c = simp (ne-eqb _ _ ((c .before .before .before .before .if1) .left), ne-eqb _ _ ((c .before .before .before .if2) .left), ne-eqb _ _ ((c .before .before .if3) .left), eq-eqb _ _ ((c .before .if4) .left), eq-eqb _ _ ((c .if5) .left))
+returns-4 c = verdict-next _ _ ((c .before .before .if1) .left) ((c .before .if2) .left) ((c .if3) .left)
 
 pub verdict-spec : {M : Type 1} → statement M
-verdict-spec = tie.close (tie.spec returns returns-2 returns-3 returns-4 returns-5 returns-6)
+verdict-spec = tie.close (tie.spec returns returns-2 returns-3 returns-4)

@@ -1,0 +1,472 @@
+-- Lists of tree calls as bytes, and what the calls answer one after another. Assumes nothing.
+use Prim.Native.Nat.{ℕ, zero, suc, _+_, _*_, _-_, _≤_, _<_}
+use native.Mathlib.Omega.{arith}
+use native.Mathlib.Decide.{decLt}
+use mathlib.Core.Path.{_≡_, refl, ap, sym, subst, _∙_}
+use mathlib.Core.Bool.{Bool, true, false, cond}
+use mathlib.Core.List.{List, [], _∷_}
+use mathlib.Core.Logic.{_⊎_, inl, inr}
+use lib.Dec.{eqb, ltb}
+use lib.ListN.{length, getD, set, take, drop, drop-of-length-le}
+use lib.Seq.{take-all}
+use borrow.Author.Tests.{eq-eqb, ne-eqb, lt-ltb, le-ltb}
+use Rattle.scopes.specs.declared.Tree.{Tree}
+use Rattle.scopes_c.specs.declared.Step.{Step}
+use Rattle.scopes.specs.declared.Answer.{Answer as Told}
+use Rattle.scopes.specs.declared.Outcome.{Outcome}
+use Rattle.scopes.specs.declared.Answer.the-variants.{Done, Mark, Refused}
+use Rattle.scopes.specs.Step.{Answer, ok, marked, refused, step}
+use Rattle.scopes.specs.Flat.{Flat, flat, first-flat}
+use Rattle.scopes.specs.Form.{Request, enters, exits, inserts-alias, inserts-enum, inserts-function, resolves-use, gets-alias, gets-function, call-of}
+use Rattle.scopes.specs.Rows.{tab}
+use Rattle.scopes.specs.Nav.{stack-of}
+use Rattle.scopes.specs.Trees.{cleared, told, flat-of, Good, Sized, accepting, refusing, ended, got-of}
+use Rattle.scopes.specs.Meets.{Meets, Answers}
+use Rattle.scopes.specs.Calls.{got-alias, got-function}
+use Rattle.scopes.specs.Lent.{declares, Keeps}
+use Rattle.scopes.specs.Runs.{first-is, first-good}
+
+-- THE BYTES
+
+abbrev pub pair-at : List ℕ → ℕ → ℕ
+pair-at s p = getD s p 0 * 256 + getD s (p + 1) 0
+
+-- the n bytes from p on that are there
+unfoldable pub part-of : List ℕ → ℕ → ℕ → List ℕ
+part-of s p n = take n (drop p s)
+
+-- a call, or an empty tree
+pub data Order : Type 0 where
+  asks : Request → Order
+  clears : Order
+
+-- a declaring call's item kind, as in a bundle
+abbrev pub item-kind : ℕ → ℕ
+item-kind op = cond (eqb op 5) 2 (cond (eqb op 4) 4 1)
+
+abbrev pub is-declaring : ℕ → Bool
+is-declaring op = cond (ltb op 3) false (ltb op 6)
+
+-- the call at p
+unfoldable pub order-at : List ℕ → ℕ → Order
+order-at s p =
+    cond (eqb (getD s p 0) 2) (asks exits)
+    (cond (eqb (getD s p 0) 6) (asks (resolves-use (part-of s (p + 3) (pair-at s (p + 1))) (eqb (getD s (p + 3 + pair-at s (p + 1)) 0) 1)))
+    (cond (eqb (getD s p 0) 7) (asks (gets-alias (part-of s (p + 2) (getD s (p + 1) 0))))
+    (cond (eqb (getD s p 0) 8) (asks (gets-function (part-of s (p + 2) (getD s (p + 1) 0))))
+    (cond (eqb (getD s p 0) 1) (asks (enters (part-of s (p + 2) (getD s (p + 1) 0)) (eqb (getD s (p + 2 + getD s (p + 1) 0) 0) 1) (pair-at s (p + 2 + getD s (p + 1) 0 + 1))))
+    (cond (is-declaring (getD s p 0)) (asks (declares (item-kind (getD s p 0)) (part-of s (p + 2) (getD s (p + 1) 0)) (eqb (getD s (p + 2 + getD s (p + 1) 0) 0) 1) (pair-at s (p + 2 + getD s (p + 1) 0 + 1)))) clears)))))
+
+-- the place after the call at p
+unfoldable pub after-order : List ℕ → ℕ → ℕ
+after-order s p =
+    cond (eqb (getD s p 0) 6) (p + 4 + pair-at s (p + 1))
+    (cond (eqb (getD s p 0) 7) (p + 2 + getD s (p + 1) 0)
+    (cond (eqb (getD s p 0) 8) (p + 2 + getD s (p + 1) 0)
+    (cond (eqb (getD s p 0) 1) (p + 5 + getD s (p + 1) 0)
+    (cond (is-declaring (getD s p 0)) (p + 5 + getD s (p + 1) 0) (p + 1)))))
+
+-- THE ANSWERS
+
+-- code times 65,536 plus value: 0 done, 1 a mark, 2 a number
+abbrev pub shown : Answer → ℕ
+shown ok = 0
+shown (marked m) = 65536 + m
+shown (refused n) = 131072 + n
+
+abbrev pub number-shown : ℕ → ℕ
+number-shown n = cond (eqb n 0) 0 (131072 + n)
+
+abbrev pub turn : Flat → Order → Flat × Answer
+turn x (asks q) = step flat x (call-of q)
+turn x clears = (first-flat, ok)
+
+-- the answers of at most k calls from p on, below the bound
+unfoldable pub replay : ℕ → Flat → List ℕ → ℕ → List ℕ
+replay zero x s p = []
+replay (suc k) x s p =
+    cond (ltb p (length s))
+    (cond (ltb p 16777216) (shown (turn x (order-at s p) .1) ∷ replay k (turn x (order-at s p) .0) s (after-order s p)) [])
+    []
+
+-- numbers written one after another from i on, as far as there is place
+unfoldable pub written : List ℕ → ℕ → List ℕ → List ℕ
+written o i [] = o
+written o i (v ∷ vs) = written (cond (ltb i (length o)) (set o i v) o) (i + 1) vs
+
+-- a call on lent arrays
+pub record Turns (t : Tree) (o : Order) (n : ℕ) (u : Tree) : Type 0 where
+  pub sized : Sized t → Sized u
+  pub good : Sized t → Good t → Good u
+  pub tree : Sized t → Good t → flat-of u ≡ turn (flat-of t) o .0
+  pub said : Sized t → Good t → n ≡ shown (turn (flat-of t) o .1)
+
+-- a call on a tree
+pub record Turned (t : Tree) (o : Order) (n : ℕ) (u : Tree) : Type 0 where
+  pub good : Good t → Good u
+  pub tree : Good t → flat-of u ≡ turn (flat-of t) o .0
+  pub said : Good t → n ≡ shown (turn (flat-of t) o .1)
+
+pub at-size : {t u : Tree} {o : Order} {n : ℕ} → Turns t o n u → Sized t → Turned t o n u
+at-size c z = record { good = c .good z; tree = c .tree z; said = c .said z }
+
+-- by value
+pub turned-meets : (t : Tree) (q : Request) (r : Outcome) → Meets t q r → (n : ℕ) → n ≡ shown (told (r .answer)) → (u : Tree) → u ≡ r .tree → Turned t (asks q) n u
+turned-meets t q r m n e u f =
+    record {
+      good = λ g. subst Good (sym f) (m .good g);
+      tree = λ g. ap flat-of f ∙ m .tree g;
+      said = λ g. e ∙ ap shown (m .answer g);
+    }
+
+pub turned-answers : (t : Tree) (q : Request) (a : Told) → Answers t q a → (n : ℕ) → n ≡ shown (told a) → (u : Tree) → u ≡ t → Turned t (asks q) n u
+turned-answers t q a m n e u f =
+    record {
+      good = λ g. subst Good (sym f) g;
+      tree = λ g. ap flat-of f ∙ m .tree g;
+      said = λ g. e ∙ ap shown (m .answer g);
+    }
+
+pub turned-clears : (t : Tree) (n : ℕ) → n ≡ shown (told Done) → (u x : Tree) → u ≡ x → x ≡ cleared → Turned t clears n u
+turned-clears t n e u x f h =
+    record {
+      good = λ g. subst Good (sym (f ∙ h)) first-good;
+      tree = λ g. ap flat-of (f ∙ h) ∙ first-is;
+      said = λ g. e;
+    }
+
+pub turns-keeps : (t : Tree) (q : Request) (n : ℕ) (u : Tree) → Keeps t q n u → (r : ℕ) → r ≡ number-shown n → Turns t (asks q) r u
+unfolding ended
+turns-keeps t q n u k r e =
+    record {
+      sized = k .sized;
+      good = λ z g. good-of (eqb n 0) (k .meets z) g;
+      tree = λ z g. tree-of (eqb n 0) (k .meets z) g;
+      said = λ z g. e ∙ said-of (eqb n 0) (k .meets z) g;
+    }
+  where
+    good-of : (b : Bool) → Meets t q (cond b (accepting u) (refusing n u)) → Good t → Good u
+    good-of true m g = m .good g
+    good-of false m g = m .good g
+
+    tree-of : (b : Bool) → Meets t q (cond b (accepting u) (refusing n u)) → Good t → flat-of u ≡ step flat (flat-of t) (call-of q) .0
+    tree-of true m g = m .tree g
+    tree-of false m g = m .tree g
+
+    said-of : (b : Bool) → Meets t q (cond b (accepting u) (refusing n u)) → Good t → cond b 0 (131072 + n) ≡ shown (step flat (flat-of t) (call-of q) .1)
+    said-of true m g = ap shown (m .answer g)
+    said-of false m g = ap shown (m .answer g)
+
+pub turns-asks : (t : Tree) (q : Request) (a : Told) → Answers t q a → (r : ℕ) → r ≡ shown (told a) → Turns t (asks q) r t
+turns-asks t q a m r e =
+    record {
+      sized = λ z. z;
+      good = λ z g. g;
+      tree = λ z g. m .tree g;
+      said = λ z g. e ∙ ap shown (m .answer g);
+    }
+
+pub turns-alias : (t : Tree) (d : List ℕ) (a : Told) → a ≡ got-of t d 1 → (r : ℕ) → r ≡ shown (told a) → Turns t (asks (gets-alias d)) r t
+turns-alias t d a q r e = turns-asks t (gets-alias d) a (subst (Answers t (gets-alias d)) (sym q) (got-alias t d)) r e
+
+pub turns-function : (t : Tree) (d : List ℕ) (a : Told) → a ≡ got-of t d 2 → (r : ℕ) → r ≡ shown (told a) → Turns t (asks (gets-function d)) r t
+turns-function t d a q r e = turns-asks t (gets-function d) a (subst (Answers t (gets-function d)) (sym q) (got-function t d)) r e
+
+-- no entry, no open module
+abbrev pub emptied : Tree → Tree
+emptied t =
+    record { count = 0; kinds = t .kinds; visible = t .visible; scopes = t .scopes; marks = t .marks; n0 = t .n0; n1 = t .n1; n2 = t .n2; n3 = t .n3; origins = t .origins; targets = t .targets; times = t .times; depth = 0; stack = t .stack }
+
+pub turns-clears : (t : Tree) → Turns t clears 0 (emptied t)
+unfolding tab stack-of
+turns-clears t =
+    record {
+      sized = λ z. record { kinds = z .kinds; visible = z .visible; scopes = z .scopes; marks = z .marks; n0 = z .n0; n1 = z .n1; n2 = z .n2; n3 = z .n3; origins = z .origins; targets = z .targets; times = z .times; stack = z .stack };
+      good = λ z g. record { small = omega arith; shallow = omega arith; doors = λ j h. absurd (omega arith) };
+      tree = λ z g. refl;
+      said = λ z g. refl;
+    }
+
+-- what is told of a call by value
+pub record Tells (a : Told) (t : Tree) (e : ℕ) (r : Step) : Type 0 where
+  pub said : r .code * 65536 + r .value ≡ shown (told a)
+  pub tree : r .tree ≡ t
+  pub next : r .next ≡ e
+
+pub tells-done : (a : Told) (t : Tree) (e : ℕ) → a ≡ Done → Tells a t e (record { code = 0; value = 0; tree = t; next = e })
+tells-done a t e q = record { said = rw q; tree = refl; next = refl }
+
+pub tells-mark : (a : Told) (t : Tree) (e m : ℕ) → a ≡ Mark m → Tells a t e (record { code = 1; value = m; tree = t; next = e })
+tells-mark a t e m q = record { said = rw q (omega arith); tree = refl; next = refl }
+
+pub tells-refused : (a : Told) (t : Tree) (e n w : ℕ) → a ≡ Refused n → w ≡ n → Tells a t e (record { code = 2; value = w; tree = t; next = e })
+tells-refused a t e n w q x = record { said = rw q (omega arith); tree = refl; next = refl }
+
+pub said-as : {t u : Tree} {o : Order} {n m : ℕ} → m ≡ n → Turned t o n u → Turned t o m u
+said-as e c = record { good = c .good; tree = c .tree; said = λ g. e ∙ c .said g }
+
+-- the call at p by value
+pub record Called (t : Tree) (s : List ℕ) (p : ℕ) (r : Step) : Type 0 where
+  pub turned : Turned t (order-at s p) (r .code * 65536 + r .value) (r .tree)
+  pub next : r .next ≡ after-order s p
+  pub near : r .next ≤ p + 65539
+
+module _ (t : Tree) (s : List ℕ) (p : ℕ) (r : Step) (e : ℕ) (eq : e ≡ after-order s p) (el : e ≤ p + 65539) where
+  pub called-meets : (q : Request) → asks q ≡ order-at s p → (x : Outcome) → Meets t q x → Tells (x .answer) (x .tree) e r → Called t s p r
+  called-meets q oq x m c =
+      record {
+        turned = subst (λ (o : Order). Turned t o (r .code * 65536 + r .value) (r .tree)) oq (turned-meets t q x m (r .code * 65536 + r .value) (c .said) (r .tree) (c .tree));
+        next = c .next ∙ eq;
+        near = omega (arith, c .next);
+      }
+
+  pub called-answers : (q : Request) → asks q ≡ order-at s p → (a : Told) → Answers t q a → Tells a t e r → Called t s p r
+  called-answers q oq a m c =
+      record {
+        turned = subst (λ (o : Order). Turned t o (r .code * 65536 + r .value) (r .tree)) oq (turned-answers t q a m (r .code * 65536 + r .value) (c .said) (r .tree) (c .tree));
+        next = c .next ∙ eq;
+        near = omega (arith, c .next);
+      }
+
+  pub called-clears : clears ≡ order-at s p → (x : Tree) → x ≡ cleared → Tells Done x e r → Called t s p r
+  called-clears oq x h c =
+      record {
+        turned = subst (λ (o : Order). Turned t o (r .code * 65536 + r .value) (r .tree)) oq (turned-clears t (r .code * 65536 + r .value) (c .said) (r .tree) x (c .tree) h);
+        next = c .next ∙ eq;
+        near = omega (arith, c .next);
+      }
+
+-- AS THE CODE HAS IT: the call at p
+module _ (s : List ℕ) (p op : ℕ) (oq : op ≡ getD s p 0) where
+  pub order-exit : op ≡ 2 → asks exits ≡ order-at s p
+  unfolding order-at
+  order-exit z = rw (← oq, z)
+
+  module _ (z2 : op ≡ 2 → ⊥) where
+    pub order-use : op ≡ 6 → (n : ℕ) → n ≡ pair-at s (p + 1) → (d : List ℕ) → d ≡ part-of s (p + 3) n → (b : ℕ) → b ≡ getD s (p + 3 + n) 0 → asks (resolves-use d (eqb b 1)) ≡ order-at s p
+    unfolding order-at
+    order-use z n nq d dq b bq = rw (← oq, z, dq, bq, nq)
+
+    module _ (z6 : op ≡ 6 → ⊥) (n : ℕ) (nq : n ≡ getD s (p + 1) 0) (d : List ℕ) (dq : d ≡ part-of s (p + 2) n) where
+      pub order-alias : op ≡ 7 → asks (gets-alias d) ≡ order-at s p
+      unfolding order-at
+      order-alias z = rw (← oq, z, dq, nq)
+
+      module _ (z7 : op ≡ 7 → ⊥) where
+        pub order-function : op ≡ 8 → asks (gets-function d) ≡ order-at s p
+        unfolding order-at
+        order-function z = rw (← oq, z, dq, nq)
+
+        module _ (z8 : op ≡ 8 → ⊥) (b : ℕ) (bq : b ≡ getD s (p + 2 + n) 0) (m : ℕ) (mq : m ≡ pair-at s (p + 2 + n + 1)) where
+          pub order-enter : op ≡ 1 → asks (enters d (eqb b 1) m) ≡ order-at s p
+          unfolding order-at
+          order-enter z = rw (← oq, z, dq, bq, mq, nq)
+
+          module _ (z1 : op ≡ 1 → ⊥) (c : Bool) (cq : c ≡ is-declaring op) where
+            pub order-insert : c ≡ true → (i : ℕ) → i ≡ item-kind op → asks (declares i d (eqb b 1) m) ≡ order-at s p
+            unfolding order-at
+            order-insert z i iq = rw (← oq, ne-eqb op 2 z2, ne-eqb op 6 z6, ne-eqb op 7 z7, ne-eqb op 8 z8, ne-eqb op 1 z1, ← cq, z, dq, bq, mq, iq, nq)
+
+            pub order-clear : c ≡ false → clears ≡ order-at s p
+            unfolding order-at
+            order-clear z = rw (← oq, ne-eqb op 2 z2, ne-eqb op 6 z6, ne-eqb op 7 z7, ne-eqb op 8 z8, ne-eqb op 1 z1, ← cq, z)
+
+          pub order-type : op ≡ 3 → asks (inserts-alias d (eqb b 1) m) ≡ order-at s p
+          unfolding order-at
+          order-type z = rw (← oq, z, dq, bq, mq, nq)
+
+          pub order-enum : op ≡ 4 → asks (inserts-enum d (eqb b 1) m) ≡ order-at s p
+          unfolding order-at
+          order-enum z = rw (← oq, z, dq, bq, mq, nq)
+
+          pub order-fn : op ≡ 5 → asks (inserts-function d (eqb b 1) m) ≡ order-at s p
+          unfolding order-at
+          order-fn z = rw (← oq, z, dq, bq, mq, nq)
+
+-- a part of the bytes
+pub part-none : (s : List ℕ) (p n : ℕ) → length s ≤ p → [] ≡ part-of s p n
+unfolding part-of
+part-none s p n h = let e : drop p s ≡ [] = drop-of-length-le s h in rw e (go n)
+  where
+    go : (m : ℕ) → _≡_ {A = List ℕ} [] (take m [])
+    go zero = refl
+    go (suc m) = refl
+
+pub part-rest : (s : List ℕ) (p n : ℕ) → length s - p ≤ n → take (length s - p) (drop p s) ≡ part-of s p n
+unfolding part-of
+part-rest s p n h = take-all (length s - p) (drop p s) (simp lib.ListN.length-drop (omega arith)) ∙ sym (take-all n (drop p s) (simp lib.ListN.length-drop h))
+
+pub part-some : (s : List ℕ) (p n e : ℕ) → e ≡ p + n → take (e - p) (drop p s) ≡ part-of s p n
+unfolding part-of
+part-some s p n e q = let x : e - p ≡ n = omega arith in rw x
+
+pub turned : {t u : Tree} {o o′ : Order} {r : ℕ} → o ≡ o′ → Turns t o r u → Turns t o′ r u
+turned {t} {u} {o} {o′} {r} e c = subst (λ (x : Order). Turns t x r u) e c
+
+-- answers as numbers
+pub shown-no : (n : ℕ) → n ≡ 0 → 0 ≡ number-shown n
+shown-no n z = rw (eq-eqb n 0 z)
+
+pub shown-number : (n : ℕ) → (n ≡ 0 → ⊥) → (w r : ℕ) → w ≡ n → r ≡ 2 * 65536 + w → r ≡ number-shown n
+shown-number n z w r q e = rw (ne-eqb n 0 z) (omega arith)
+
+pub shown-mark : (a : Told) (m r : ℕ) → a ≡ Mark m → r ≡ 1 * 65536 + m → r ≡ shown (told a)
+shown-mark a m r q e = rw q (omega arith)
+
+pub shown-refused : (a : Told) (n w r : ℕ) → a ≡ Refused n → w ≡ n → r ≡ 2 * 65536 + w → r ≡ shown (told a)
+shown-refused a n w r q x e = rw q (omega arith)
+
+module _ (op : ℕ) where
+  pub no-declaring : (op ≡ 3 → ⊥) → (op ≡ 4 → ⊥) → (op ≡ 5 → ⊥) → is-declaring op ≡ false
+  no-declaring a b c = go (decLt op 3) (decLt op 6)
+    where
+      go : Dec (op < 3) → Dec (op < 6) → is-declaring op ≡ false
+      go (yes h) k = rw (lt-ltb op 3 h)
+      go (no h) (yes k) = absurd (omega arith)
+      go (no h) (no k) = rw (le-ltb op 3 (omega arith), le-ltb op 6 (omega arith))
+
+  pub declares-low : op < 3 → false ≡ is-declaring op
+  declares-low h = rw (lt-ltb op 3 h)
+
+  pub declares-rest : 3 ≤ op → ltb op 6 ≡ is-declaring op
+  declares-rest h = rw (le-ltb op 3 h)
+
+  pub item-function : op ≡ 5 → 2 ≡ item-kind op
+  item-function z = rw (eq-eqb op 5 z)
+
+  pub item-enum : (op ≡ 5 → ⊥) → op ≡ 4 → 4 ≡ item-kind op
+  item-enum y z = rw (ne-eqb op 5 y, eq-eqb op 4 z)
+
+  pub item-alias : (op ≡ 5 → ⊥) → (op ≡ 4 → ⊥) → 1 ≡ item-kind op
+  item-alias y z = rw (ne-eqb op 5 y, ne-eqb op 4 z)
+
+module _ (o : List ℕ) (i v : ℕ) where
+  pub put-inside : i < length o → (set o i v ≡ cond (ltb i (length o)) (set o i v) o) × (length (set o i v) ≡ length o)
+  put-inside h = (rw (lt-ltb i (length o) h), lib.ListN.length-set o i v)
+
+  pub put-outside : length o ≤ i → (o ≡ cond (ltb i (length o)) (set o i v) o) × (length o ≡ length o)
+  put-outside h = (rw (le-ltb i (length o) h), refl)
+
+pub after-mark : (p n x : ℕ) → p + 5 + n ≡ x → p + 2 + n + 3 ≡ x
+after-mark p n x h = omega (arith, h)
+
+-- the place after the call at p
+module _ (s : List ℕ) (p op : ℕ) (oq : op ≡ getD s p 0) where
+  pub after-exit : op ≡ 2 → p + 1 ≡ after-order s p
+  unfolding after-order
+  after-exit z = rw (← oq, z)
+
+  pub after-named : (n : ℕ) → n ≡ getD s (p + 1) 0 → (op ≡ 3) ⊎ ((op ≡ 4) ⊎ (op ≡ 5)) → p + 5 + n ≡ after-order s p
+  unfolding after-order
+  after-named n nq (inl z) = rw (← oq, z, nq)
+  after-named n nq (inr (inl z)) = rw (← oq, z, nq)
+  after-named n nq (inr (inr z)) = rw (← oq, z, nq)
+
+  pub after-use : op ≡ 6 → (n : ℕ) → n ≡ pair-at s (p + 1) → p + 4 + n ≡ after-order s p
+  unfolding after-order
+  after-use z n nq = rw (← oq, z, nq)
+
+  module _ (z6 : op ≡ 6 → ⊥) (n : ℕ) (nq : n ≡ getD s (p + 1) 0) where
+    pub after-alias : op ≡ 7 → p + 2 + n ≡ after-order s p
+    unfolding after-order
+    after-alias z = rw (← oq, z, nq)
+
+    pub after-function : op ≡ 8 → p + 2 + n ≡ after-order s p
+    unfolding after-order
+    after-function z = rw (← oq, z, nq)
+
+    module _ (z7 : op ≡ 7 → ⊥) (z8 : op ≡ 8 → ⊥) where
+      pub after-enter : op ≡ 1 → p + 5 + n ≡ after-order s p
+      unfolding after-order
+      after-enter z = rw (← oq, z, nq)
+
+      module _ (z1 : op ≡ 1 → ⊥) (c : Bool) (cq : c ≡ is-declaring op) where
+        pub after-insert : c ≡ true → p + 5 + n ≡ after-order s p
+        unfolding after-order
+        after-insert z = rw (← oq, ne-eqb op 6 z6, ne-eqb op 7 z7, ne-eqb op 8 z8, ne-eqb op 1 z1, ← cq, z, nq)
+
+        pub after-other : c ≡ false → p + 1 ≡ after-order s p
+        unfolding after-order
+        after-other z = rw (← oq, ne-eqb op 6 z6, ne-eqb op 7 z7, ne-eqb op 8 z8, ne-eqb op 1 z1, ← cq, z)
+
+-- THE LOOP: i answers are written, the arrays are those after i calls, and the next stands at p
+module _ (s : List ℕ) (o₀ : List ℕ) where
+  abbrev pub all-answers : List ℕ
+  all-answers = replay 16000000 first-flat s 0
+
+  pub record Walking (o : List ℕ) (t : Tree) (p i : ℕ) : Type 0 where
+    pub within : i ≤ 16000000
+    pub below : p ≤ 16842755
+    pub long : length o ≡ length o₀
+    pub good : Good t
+    pub count : length all-answers ≡ i + length (replay (16000000 - i) (flat-of t) s p)
+    pub out : written o₀ 0 all-answers ≡ written o i (replay (16000000 - i) (flat-of t) s p)
+
+  -- what the walk gives
+  pub record Walked (r : ℕ) (o : List ℕ) : Type 0 where
+    pub count : r ≡ length all-answers
+    pub out : o ≡ written o₀ 0 all-answers
+
+  pub walking-start : Walking o₀ cleared 0 0
+  walking-start =
+      record {
+        within = omega arith;
+        below = omega arith;
+        long = refl;
+        good = first-good;
+        count = rw first-is (omega arith);
+        out = rw first-is;
+      }
+
+  pub walking-begin : (t : Tree) → t ≡ cleared → Walking o₀ t 0 0
+  walking-begin t q = subst (λ (x : Tree). Walking o₀ x 0 0) (sym q) walking-start
+
+  module _ (o : List ℕ) (t : Tree) (p i : ℕ) (w : Walking o t p i) where
+    ended-here : replay (16000000 - i) (flat-of t) s p ≡ [] → Walked i o
+    unfolding written
+    ended-here e =
+        record {
+          count = sym (w .count ∙ ap (λ (x : List ℕ). i + length x) e ∙ native.Mathlib.Nat.add-zero i);
+          out = sym (w .out ∙ ap (written o i) e);
+        }
+
+    pub walking-past : length s ≤ p → Walked i o
+    unfolding replay
+    walking-past h = ended-here (go (16000000 - i))
+      where
+        go : (k : ℕ) → replay k (flat-of t) s p ≡ []
+        go zero = refl
+        go (suc k) = rw (le-ltb p (length s) h)
+
+    pub walking-far : p < length s → 16777216 ≤ p → Walked i o
+    unfolding replay
+    walking-far h f = ended-here (go (16000000 - i))
+      where
+        go : (k : ℕ) → replay k (flat-of t) s p ≡ []
+        go zero = refl
+        go (suc k) = rw (lt-ltb p (length s) h, le-ltb p 16777216 f)
+
+    pub walking-end : 16000000 ≤ i → Walked i o
+    unfolding replay
+    walking-end h = let e : 16000000 - i ≡ 0 = omega (arith, w .within) in ended-here (rw e)
+
+    module _ (l : i < 16000000) (h : p < length s) (f : p < 16777216) (a : ℕ) (u : Tree) (c : Turned t (order-at s p) a u)
+        (o′ : List ℕ) (oq : o′ ≡ cond (ltb i (length o)) (set o i a) o) (ol : length o′ ≡ length o) (q : ℕ) (qq : q ≡ after-order s p) (ql : q ≤ p + 65539) where
+      stepped : replay (16000000 - i) (flat-of t) s p ≡ a ∷ replay (16000000 - (i + 1)) (flat-of u) s q
+      unfolding replay
+      stepped =
+          let e : 16000000 - i ≡ suc (16000000 - (i + 1)) = omega arith in
+          ap (λ (k : ℕ). replay k (flat-of t) s p) e
+          ∙ rw (lt-ltb p (length s) h, lt-ltb p 16777216 f, ← c .said (w .good), ← c .tree (w .good), ← qq)
+
+      pub walking-turn : Walking o′ u q (i + 1)
+      unfolding written
+      walking-turn =
+          record {
+            within = omega arith;
+            below = omega (arith, w .below);
+            long = ol ∙ w .long;
+            good = c .good (w .good);
+            count = w .count ∙ ap (λ (x : List ℕ). i + length x) stepped ∙ omega arith;
+            out = w .out ∙ ap (written o i) stepped ∙ ap (λ (x : List ℕ). written x (i + 1) (replay (16000000 - (i + 1)) (flat-of u) s q)) (sym oq);
+          }
