@@ -13,16 +13,9 @@ fn main() {
     if std::env::var_os("DEP_SIMPLICITYHL_FOUND").is_some() {
         println!("cargo:rustc-cfg=original");
     }
-    println!("cargo:rustc-check-cfg=cfg(walk)");
-    let Ok(bytes) = std::fs::read(&archive) else {
-        return;
-    };
-    println!("cargo:rustc-cfg=host");
-    println!("cargo:rustc-link-search=native={}", folder.display());
-    println!("cargo:rustc-link-lib=static=scopes_c");
-    // An archive made before this function was there has no such name.
-    let name = b"scopes_walk";
-    if bytes.windows(name.len()).any(|bytes| bytes == name) {
-        println!("cargo:rustc-cfg=walk");
+    if archive.exists() {
+        println!("cargo:rustc-cfg=host");
+        println!("cargo:rustc-link-search=native={}", folder.display());
+        println!("cargo:rustc-link-lib=static=scopes_c");
     }
 }

@@ -32,7 +32,7 @@ struct Case {
 enum Who {
     /// By value, through the replay.
     Port,
-    /// Over lent arrays, where the archive has that walk.
+    /// Over lent arrays.
     Walk,
     Original,
 }
@@ -281,13 +281,10 @@ fn tell(row: &str, entries: usize, port: f64, walk: f64, original: f64) {
         "list" => "list of 1,000 calls | ".to_string(),
         row => format!("{row} | {entries}"),
     };
-    let (ratio, walk) = match cfg!(walk) {
-        true => (format!("{:.1}", walk / original), format!("{walk:.0}")),
-        false => Default::default(),
-    };
     println!(
-        "| {title} | {port:.0} | {walk} | {original:.0} | {:.0} | {ratio} |",
-        port / original
+        "| {title} | {port:.0} | {walk:.0} | {original:.0} | {:.0} | {:.1} |",
+        port / original,
+        walk / original
     );
 }
 
@@ -306,11 +303,8 @@ pub fn instructions() {
             row => case(row, entries).expect("a row").calls.len(),
         };
         let spent = |who| spent(row, who, entries) as f64 / times as f64;
-        let walk = match cfg!(walk) {
-            true => spent(Who::Walk),
-            false => 0.0,
-        };
-        tell(row, entries, spent(Who::Port), walk, spent(Who::Original));
+        let [port, walk, original] = Who::ALL.map(spent);
+        tell(row, entries, port, walk, original);
     }
 }
 
@@ -466,15 +460,7 @@ pub fn stacks() {
     println!("| Call | By value, KB | Lent, KB | Original, KB |");
     println!("|---|---|---|---|");
     for row in ROWS {
-        let least = |who| 4 * pages(row, who);
-        let walk = match cfg!(walk) {
-            true => least(Who::Walk).to_string(),
-            false => String::new(),
-        };
-        println!(
-            "| {row} | {} | {walk} | {} |",
-            least(Who::Port),
-            least(Who::Original)
-        );
+        let [port, walk, original] = Who::ALL.map(|who| 4 * pages(row, who));
+        println!("| {row} | {port} | {walk} | {original} |");
     }
 }

@@ -70,12 +70,10 @@ fn difference(list: &List, rows: &mut [Row]) -> Result<bool, String> {
             return Err(format!("call {at}: {line}: {ours}, the original {theirs}"));
         }
     }
-    if cfg!(walk) {
-        let mut walked = vec![0u32; list.calls.len()];
-        let count = port::walk(&bytes, &mut walked);
-        if count != list.calls.len() || walked != numbers {
-            return Err("the walk over lent arrays answers otherwise".to_string());
-        }
+    let mut walked = vec![0u32; list.calls.len()];
+    let count = port::walk(&bytes, &mut walked);
+    if count != list.calls.len() || walked != numbers {
+        return Err("the walk over lent arrays answers otherwise".to_string());
     }
     let count = port::rows(&bytes, rows);
     let mut ours = Vec::new();
@@ -109,14 +107,9 @@ pub fn run(seed: u64, count: u64) -> u64 {
         cover.add(&list.cover);
     }
     println!(
-        "{} lists, {} calls, {trees} trees compared, {differences} differences{}",
-        cover.lists,
-        cover.calls,
-        if cfg!(walk) {
-            "; calls by value and the walk over lent arrays"
-        } else {
-            ""
-        }
+        "{} lists, {} calls, {trees} trees compared, {differences} differences; by value and over \
+         lent arrays",
+        cover.lists, cover.calls
     );
     for (name, count) in lists::family_names().zip(families) {
         println!("  {name}: {count} lists");

@@ -2,7 +2,6 @@
 
 extern "C" {
     fn scopes_replay(s: *const u8, s_len: usize, out: *mut u32, out_len: usize) -> usize;
-    #[cfg(walk)]
     fn scopes_walk(s: *const u8, s_len: usize, out: *mut u32, out_len: usize) -> usize;
     fn scopes_rows(s: *const u8, s_len: usize, out: *mut u64, out_len: usize) -> usize;
 }
@@ -14,16 +13,9 @@ pub fn replay(list: &[u8], out: &mut [u32]) -> usize {
 }
 
 /// The same over arrays that are lent from call to call.
-#[cfg(walk)]
 pub fn walk(list: &[u8], out: &mut [u32]) -> usize {
     // SAFETY: as above.
     unsafe { scopes_walk(list.as_ptr(), list.len(), out.as_mut_ptr(), out.len()) }
-}
-
-/// Where the archive has no such function, there is nothing to compare.
-#[cfg(not(walk))]
-pub fn walk(list: &[u8], out: &mut [u32]) -> usize {
-    replay(list, out)
 }
 
 /// An entry: kind, visibility, scope, mark, origin, what a copy shows (a scope and a time), and
