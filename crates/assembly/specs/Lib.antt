@@ -1,1 +1,2 @@
 pub mod Assemble
+pub mod Image
