@@ -1,2 +1,3 @@
 pub mod Assemble
 pub mod Image
+pub mod Rewritten
