@@ -1,3 +1,4 @@
 pub mod Assemble
 pub mod Image
 pub mod Rewritten
+pub mod Cases
