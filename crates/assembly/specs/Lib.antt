@@ -1,4 +1,6 @@
 pub mod Assemble
 pub mod Image
 pub mod Rewritten
+pub mod Faults
+pub mod Paths
 pub mod Cases
