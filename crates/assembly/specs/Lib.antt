@@ -3,4 +3,5 @@ pub mod Image
 pub mod Rewritten
 pub mod Faults
 pub mod Paths
+pub mod Theorems
 pub mod Cases
