@@ -13,13 +13,16 @@ use Rattle.names.specs.Bytes.{ascii, same, same-refl, different}
 use Rattle.names.specs.Decimal.{unitName, unit-names-differ}
 use Rattle.bundle.specs.Bundle.{Text, Items, none, named, use-of, module-of, ignored, File, Bundle}
 use Rattle.bundle.specs.Form.{WellFormed}
+use Rattle.bundle.specs.Read.{value, read}
+use Rattle.bundle.specs.Stand.{Bytes}
+use Rattle.bundle.specs.Theorems.{sound}
 use Rattle.resolution.specs.Lists.{listsOf}
 use Rattle.resolution.specs.Resolution.{to, resolvePathInternal}
 use Rattle.resolution.specs.Call.{position}
 use Rattle.discovery.specs.Discovery.{Use, uses, programOf, Fault, pathsOf, discoverDependencies}
 use Rattle.discovery.specs.Reached.{Imports, Reached, entry, imported, Once}
 use Rattle.discovery.specs.Reached as reached
-use Rattle.discovery.specs.Facts.{pigeons, once-place, id-found, pathsAt, paths-mem, mem-paths}
+use Rattle.discovery.specs.Facts.{mem-snoc, pigeons, once-place, id-found, pathsAt, paths-mem, mem-paths}
 use Rattle.discovery.specs.Right.{discovered}
 use Rattle.discovery.specs.Clean.{ToUnit, no-fault}
 use Rattle.graph.specs.Order as graph
@@ -176,3 +179,109 @@ module _ (b : Bundle) (w : WellFormed b) (o : List ℕ) (e : ordered b ≡ linke
           (uses-formed (itemsOf b u) _ (program-formed (b .files) (fileOf b u) (w .form .files)) x used) (let n = at-id .0 in omega (arith, few-units));
       earlier = stands-earlier;
     }
+
+-- THE THEOREM
+-- what is due of the program and the faults of a linked order
+pub record Assembled (b : Bundle) (o : List ℕ) : Type 0 where
+  -- each unit is a private module named `unit_` and its id, in linked order and once, and there is nothing else
+  pub modules : PrivateModules (assembled b o)
+  pub names : moduleNames (assembled b o) ≡ map unitName o
+  pub different : Once (map unitName o)
+  pub all-units : (u : ℕ) → u < length (unitsOf b) → List·Memᴰ u o
+  pub only-units : (u : ℕ) → List·Memᴰ u o → u < length (unitsOf b)
+  -- it holds the items of its file in their order, with their kinds, names, visibilities, elements and marks, at their depths;
+  -- only ignored ones are gone
+  pub holds : (u : ℕ) → List·Memᴰ u o → moduleItems (unitName u) (assembled b o) ≡ localItems b u
+  pub kept-items : (u d : ℕ) → heads d (localItems b u) ≡ kept (heads d (itemsOf b u))
+  -- its uses are those of its file, each with its path rewritten
+  pub kept-uses : (u : ℕ) → uses (localItems b u) ≡ map (rewritten (rewriteUse b (fileOf b u))) (uses (itemsOf b u))
+  pub uses-found : (u : ℕ) → List·Memᴰ u o → (x : Use) → List·Memᴰ x (uses (itemsOf b u)) → RewrittenUse b o u x
+  -- unit 0 is linked last, so 27 comes after all 28s, which are in linked order and item order
+  pub before : List ℕ
+  pub last : o ≡ before ++ (0 ∷ [])
+  pub others : List·Memᴰ 0 before → ⊥
+  pub faults : assemblyFaults b o ≡ map foreignEnum (enumsOf b before) ++ mainFault b
+  -- 27 exactly when unit 0 has no function `main` at its top
+  pub main-only : List·Memᴰ noMain (assemblyFaults b o) → hasMain (itemsOf b 0) ≡ false
+  pub main-always : hasMain (itemsOf b 0) ≡ false → List·Memᴰ noMain (assemblyFaults b o)
+  -- 28 with a mark exactly when another unit has an enum of that mark, at any depth
+  pub enum-only : (m : ℕ) → List·Memᴰ (foreignEnum m) (assemblyFaults b o) → EnumIn b before m
+  pub enum-always : (m u : ℕ) → List·Memᴰ u o → (u ≡ 0 → ⊥) → List·Memᴰ m (enumDeclarations (itemsOf b u)) → List·Memᴰ (foreignEnum m) (assemblyFaults b o)
+
+module _ (b : Bundle) (w : WellFormed b) (o : List ℕ) (e : ordered b ≡ linked o) where
+  pub assembly : Assembled b o
+  unfolding localItems
+  assembly =
+      let z = zero-last b o e in
+      let i = ids b w o e in
+      let n : List·Memᴰ 0 (z .before) → ⊥ = once-last (z .before) (subst graph.Once (z .is) (i .once)) in
+      let f : assemblyFaults b o ≡ map foreignEnum (enumsOf b (z .before)) ++ mainFault b = ap (assemblyFaults b) (z .is) ∙ faults-are b (z .before) n in
+      record {
+        modules = private-modules b o;
+        names = module-names b o;
+        different = names-once (i .once);
+        all-units = i .all;
+        only-units = i .below;
+        holds = module-items b o;
+        kept-items = λ u d. heads-kept (rewriteUse b (fileOf b u)) d (itemsOf b u);
+        kept-uses = λ u. uses-rewritten (rewriteUse b (fileOf b u)) (itemsOf b u);
+        uses-found = rewritten-use b w o e;
+        before = z .before;
+        last = z .is;
+        others = n;
+        faults = f;
+        main-only = λ m. no-main-only b (z .before) (subst (λ (l : List Fault). List·Memᴰ noMain l) f m);
+        main-always = λ h. subst (λ (l : List Fault). List·Memᴰ noMain l) (sym f) (no-main-always b (z .before) h);
+        enum-only = λ m h. enum-only b (z .before) m (subst (λ (l : List Fault). List·Memᴰ (foreignEnum m) l) f h);
+        enum-always = λ m u h k d.
+            subst (λ (l : List Fault). List·Memᴰ (foreignEnum m) l) (sym f)
+            (enum-always b (z .before) m u (⊎-elim (λ x. x) (λ q. absurd (k q)) (mem-snoc (z .before) (subst (λ (l : List ℕ). List·Memᴰ u l) (z .is) h))) d);
+      }
+
+-- of the value of every bundle that is not refused
+pub assembly-read : (s : List ℕ) → Bytes s → (b : Bundle) → read s ≡ value b → (o : List ℕ) → ordered b ≡ linked o → Assembled b o
+assembly-read s B b h o e = assembly b (sound s B b h .1) o e
+
+-- THE OUTCOME OF STEPS 3 TO 5
+no-program : {l : List Fault} {o : List ℕ} {p : Items} → faulty l ≡ program o p → ⊥
+no-program e = let z : _≡_ {A = ℕ} 0 1 = cc in omega arith
+
+-- a program is the assembled one of the linked order, and step 5 told nothing
+pub record Program (b : Bundle) (o : List ℕ) (p : Items) : Type 0 where
+  pub order : ordered b ≡ linked o
+  pub is : p ≡ assembled b o
+  pub faultless : assemblyFaults b o ≡ []
+
+pub program-only : (b : Bundle) (o : List ℕ) (p : Items) → linearizeAndAssemble b ≡ program o p → Program b o p
+unfolding linearizeAndAssemble
+program-only b o p e = go (ordered b) refl e
+  where
+    step : (k : List ℕ) → ordered b ≡ linked k → (fs : List Fault) → assemblyFaults b k ≡ fs → step5 fs k (assembled b k) ≡ program o p → Program b o p
+    step k h [] t q =
+        let r : k ≡ o = cc in
+        let s : assembled b k ≡ p = cc in
+        record {
+          order = h ∙ ap linked r;
+          is = sym s ∙ ap (assembled b) r;
+          faultless = ap (assemblyFaults b) (sym r) ∙ t;
+        }
+    step k h (f ∷ fs) t q = absurd (no-program q)
+
+    go : (x : order.Outcome) → ordered b ≡ x → assembleAfter b x ≡ program o p → Program b o p
+    go (order.faulty l) h q = absurd (no-program q)
+    go (order.closed r) h q = let z : _≡_ {A = ℕ} 0 1 = cc in absurd (omega arith)
+    go (order.linked k) h q = step k h (assemblyFaults b k) refl q
+
+-- and where step 5 tells nothing there is one
+pub program-always : (b : Bundle) (o : List ℕ) → ordered b ≡ linked o → assemblyFaults b o ≡ [] → linearizeAndAssemble b ≡ program o (assembled b o)
+unfolding linearizeAndAssemble
+program-always b o e f = rw (e, f)
+
+-- discovery's faults and a ring are told as they are, and nothing of step 5
+pub faults-first : (b : Bundle) (l : List Fault) → ordered b ≡ order.faulty l → linearizeAndAssemble b ≡ faulty l
+unfolding linearizeAndAssemble
+faults-first b l e = rw e
+
+pub ring-first : (b : Bundle) (r : List ℕ) → ordered b ≡ order.closed r → linearizeAndAssemble b ≡ closed r
+unfolding linearizeAndAssemble
+ring-first b r e = rw e
