@@ -159,3 +159,36 @@ module _ (p : Items) (out : List ℕ) where
       go true true h k = let z : _≡_ {A = ℕ} 0 1 = cc in absurd (omega arith)
       go true false h k = leb-false (imageLength p) (length out) h
       go false u h k = let z : _≡_ {A = ℕ} 14 15 = cc in absurd (omega arith)
+
+-- MARKS ARE NOT IN THE IMAGE
+unfoldable pub unmarked : Items → Items
+unmarked none = none
+unmarked (named k m v name rest) = named k 0 v name (unmarked rest)
+unmarked (use-of m v segments elements rest) = use-of 0 v segments elements (unmarked rest)
+unmarked (module-of m v name inner rest) = module-of 0 v name (unmarked inner) (unmarked rest)
+unmarked (ignored m v rest) = ignored 0 v (unmarked rest)
+
+items-unmarked : (p : Items) → items (unmarked p) ≡ items p
+unfolding items unmarked
+items-unmarked none = refl
+items-unmarked (named k m v name rest) = rw (items-unmarked rest)
+items-unmarked (use-of m v segments elements rest) = rw (items-unmarked rest)
+items-unmarked (module-of m v name inner rest) = rw (items-unmarked rest, items-unmarked inner)
+items-unmarked (ignored m v rest) = rw (items-unmarked rest)
+
+pub image-unmarked : (p q : Items) → unmarked p ≡ unmarked q → imageBytes p ≡ imageBytes q
+unfolding imageBytes
+image-unmarked p q e = rw (← items-unmarked p, ← items-unmarked q, e)
+
+-- the buffer keeps its length
+pub same-length : (p : Items) (out : List ℕ) → length (lentImage p out) ≡ length out
+unfolding lentImage
+same-length p out = go (leb (itemsLength p) image-limit) (leb (imageLength p) (length out)) refl
+  where
+    go : (t u : Bool) → leb (imageLength p) (length out) ≡ u
+        → length (cond t (cond u (imageBytes p ++ drop (imageLength p) out) out) out) ≡ length out
+    go true true h =
+        let l = leb-true (imageLength p) (length out) h in
+        omega (arith, length-append (imageBytes p) (drop (imageLength p) out), image-length p, length-drop (imageLength p) out)
+    go true false h = refl
+    go false u h = refl

@@ -33,7 +33,7 @@ use Rattle.order.specs.Units.{paths-append}
 use Rattle.order.specs.Theorems.{LinkedIds, FirstHalf, first-half}
 use Rattle.assembly.specs.Assemble.{rewriteUse, fileOf, itemsOf, localItems, assembled, enumDeclarations, foreignEnum, hasMain, noMain, assemblyFaults, Outcome, faulty, closed, program, step5, assembleAfter, linearizeAndAssemble}
 use Rattle.assembly.specs.Rewritten.{Head, opens, heads, kept, heads-kept, rewritten, uses-rewritten}
-use Rattle.assembly.specs.Faults.{ZeroLast, zero-last, once-last, enumsOf, mainFault, faults-are, EnumIn, no-main-only, no-main-always, enum-only, enum-always}
+use Rattle.assembly.specs.Faults.{ZeroLast, zero-last, once-last, enumsOf, mainFault, faults-are, EnumIn, enum-found, main-there, no-main-only, no-main-always, enum-only, enum-always}
 use Rattle.assembly.specs.Paths.{ImagePath, image-path, uses-formed, program-formed}
 
 -- A PROGRAM'S MODULES
@@ -285,3 +285,35 @@ faults-first b l e = rw e
 pub ring-first : (b : Bundle) (r : List ℕ) → ordered b ≡ order.closed r → linearizeAndAssemble b ≡ closed r
 unfolding linearizeAndAssemble
 ring-first b r e = rw e
+
+-- A LINKED BUNDLE HAS A PROGRAM exactly when unit 0 has a function `main` at its top and no other unit has an enum
+pub record Sound (b : Bundle) (o : List ℕ) : Type 0 where
+  pub main : hasMain (itemsOf b 0) ≡ true
+  pub no-enum : (u m : ℕ) → List·Memᴰ u o → (u ≡ 0 → ⊥) → List·Memᴰ m (enumDeclarations (itemsOf b u)) → ⊥
+
+nothing-in : {A : Type 0} (l : List A) → ((a : A) → List·Memᴰ a l → ⊥) → l ≡ []
+nothing-in [] f = refl
+nothing-in (a ∷ l) f = absurd (f a (List·Memᴰ·head refl))
+
+module _ (b : Bundle) (w : WellFormed b) (o : List ℕ) (e : ordered b ≡ linked o) where
+  pub sound-program : Sound b o → linearizeAndAssemble b ≡ program o (assembled b o)
+  sound-program s =
+      let a = assembly b w o e in
+      let none-of : enumsOf b (a .before) ≡ [] = nothing-in (enumsOf b (a .before)) (λ m h.
+      let t = enum-found b (a .before) m h in
+      s .no-enum (t .unit) m (subst (λ (l : List ℕ). List·Memᴰ (t .unit) l) (sym (a .last)) (Memᴰ·append-left _ (t .linked)))
+      (λ z. a .others (subst (λ (u : ℕ). List·Memᴰ u (a .before)) z (t .linked))) (t .declared)) in
+      program-always b o e (a .faults ∙ rw (none-of, main-there b (s .main)))
+
+  pub program-sound : (p : Items) → linearizeAndAssemble b ≡ program o p → Sound b o
+  program-sound p h =
+      let a = assembly b w o e in
+      let f = program-only b o p h .faultless in
+      record {
+        main = has (hasMain (itemsOf b 0)) refl (λ q. List·Memᴰ·not-nil (subst (λ (l : List Fault). List·Memᴰ noMain l) f (a .main-always q)));
+        no-enum = λ u m i k d. List·Memᴰ·not-nil (subst (λ (l : List Fault). List·Memᴰ (foreignEnum m) l) f (a .enum-always m u i k d));
+      }
+    where
+      has : (t : Bool) → hasMain (itemsOf b 0) ≡ t → (hasMain (itemsOf b 0) ≡ false → ⊥) → hasMain (itemsOf b 0) ≡ true
+      has true q n = q
+      has false q n = absurd (n q)
