@@ -5,4 +5,5 @@ pub mod Meaning
 pub mod Faults
 pub mod Paths
 pub mod Theorems
+pub mod ImageForm
 pub mod Cases

@@ -120,7 +120,7 @@ crate-name : isIdentifier (ascii "crate") ≡ true
 unfolding isIdentifier ascii all class letter digit
 crate-name = refl
 
-small-width : (n : ℕ) → n < 100 → width n ≤ 27
+pub small-width : (n : ℕ) → n < 100 → width n ≤ 27
 small-width n h = go (decLt n 10)
   where
     go : Dec (n < 10) → width n ≤ 27

@@ -120,7 +120,7 @@ module _ (b : Bundle) (w : WellFormed b) (o : List ℕ) (e : ordered b ≡ linke
   linked-files : LinkedFiles b (filesOf b o)
   linked-files = half .order o e
 
-  few-units : length (unitsOf b) ≤ 64
+  pub few-units : length (unitsOf b) ≤ 64
   few-units =
       let n = pigeons (discovered b .once) (pathsOf b) (λ p m. reached-listed b p (discovered b .sound p m)) in
       let k = w .form .file-count in
