@@ -4,6 +4,7 @@ use Prim.Native.Nat.{ℕ}
 use Prim.Native.String.{String}
 use mathlib.Core.Path.{_≡_, refl}
 use mathlib.Core.List.{List, [], _∷_, map}
+use lib.ListN.{length}
 use Rattle.names.specs.Bytes.{ascii, same, member, all}
 use Rattle.names.specs.Decimal.{digits, decimal, unitName}
 use Rattle.names.specs.Path.{isPath, isComponent, wellFormed, split, onto, components}
@@ -25,7 +26,8 @@ use Rattle.graph.specs.Linearize.{linearize, visit, memb, from}
 use Rattle.graph.specs.Linearize as graph
 use Rattle.order.specs.Run.{ordered}
 use Rattle.assembly.specs.Assemble.{rewriteUse, rewriteItems, localItems, assembled, enumDeclarations, forbidEnumDecInDeps, hasMain, mainFaults, assemblyFaults, Outcome, faulty, closed, program, linearizeAndAssemble}
-use Rattle.assembly.specs.Image.{imageBytes}
+use Rattle.assembly.specs.Image.{imageBytes, itemsLength, Imaged, imaging, lentImage}
+use Rattle.assembly.specs.Image as imaged
 
 -- what is told of bytes: the outcome, and the image of its program
 pub data Told : Type 0 where
@@ -145,3 +147,43 @@ rows =
 pub rows-hold : map (λ r. assembling (read (encode (r .bundle)))) rows ≡ map (λ r. r .expected) rows
 unfolding rows assembling telling ascii encode fields sized two string counted joined remapping file items element read verdict form lists files scanHeader scanString scanFormed scanCount scanList times scanField scanFiles scanFile scanLength siblings scanItemWith scanModule scanHead scanMark scanBody scanUse scanAlias scanEnd isPath isIdentifier class letter digit all same components split onto wellFormed isComponent conflicts listed located conflict.named remapped sameRemapping placedAt placedRemappingAt each far any member directlyIn startsWith begins child childFile stemOf isCrate isKeyword keywords decode fileAt itemsAt itemsBy itemAt elementAt remappingAt insert longestFirst firstOf getPackageRoot applies remappingFor buildAndVerifyPath resolveCratePath checkLocalFileImportedAsExternal resolvePathInternal uses programOf useCache lookupFaults validImports position holds addOnce load loadAll turn turns discoverDependencies ordered linearize visit graph.each memb from digits decimal unitName rewriteUse rewriteItems localItems assembled enumDeclarations forbidEnumDecInDeps hasMain mainFaults assemblyFaults linearizeAndAssemble imageBytes
 rows-hold = refl
+
+-- BUFFERS
+-- a program, a lent buffer, the answer, and what the buffer holds afterwards
+pub record Lent : Type 0 where
+  pub items : Items
+  pub buffer : List ℕ
+  pub answer : Imaged
+  pub after : List ℕ
+
+-- a unit with one item: 20 bytes, and the header
+abbrev small-program : Items
+small-program = unit "unit_0" (named 2 9 0 (ascii "main") none) none
+
+abbrev filled : List ℕ → List ℕ
+filled rest = 7 ∷ 7 ∷ 7 ∷ 7 ∷ 7 ∷ 7 ∷ 7 ∷ 7 ∷ 7 ∷ 7 ∷ 7 ∷ 7 ∷ 7 ∷ 7 ∷ 7 ∷ 7 ∷ 7 ∷ 7 ∷ 7 ∷ 7 ∷ 7 ∷ 7 ∷ rest
+
+unfoldable pub lents : List Lent
+lents =
+    -- one byte too few: 14 at place 0, and the buffer is as it was
+    record { items = small-program; buffer = filled []; answer = imaged.refused 14 0; after = filled [] }
+    -- just enough
+    ∷ record {
+      items = small-program;
+      buffer = filled (7 ∷ []);
+      answer = imaged.image 23;
+      after = 1 ∷ 0 ∷ 20 ∷ 0 ∷ 18 ∷ 5 ∷ 0 ∷ 6 ∷ 117 ∷ 110 ∷ 105 ∷ 116 ∷ 95 ∷ 48 ∷ 0 ∷ 7 ∷ 2 ∷ 0 ∷ 4 ∷ 109 ∷ 97 ∷ 105 ∷ 110 ∷ [];
+    }
+    -- the rest is as it was
+    ∷ record {
+      items = small-program;
+      buffer = filled (7 ∷ 8 ∷ 9 ∷ []);
+      answer = imaged.image 23;
+      after = 1 ∷ 0 ∷ 20 ∷ 0 ∷ 18 ∷ 5 ∷ 0 ∷ 6 ∷ 117 ∷ 110 ∷ 105 ∷ 116 ∷ 95 ∷ 48 ∷ 0 ∷ 7 ∷ 2 ∷ 0 ∷ 4 ∷ 109 ∷ 97 ∷ 105 ∷ 110 ∷ 8 ∷ 9 ∷ [];
+    }
+    ∷ []
+
+pub lents-hold : (map (λ r. imaging (r .items) (length (r .buffer))) lents ≡ map (λ r. r .answer) lents)
+    × (map (λ r. lentImage (r .items) (r .buffer)) lents ≡ map (λ r. r .after) lents)
+unfolding lents ascii imaging lentImage imageBytes itemsLength sized two string items
+lents-hold = (refl, refl)

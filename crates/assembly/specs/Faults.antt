@@ -11,7 +11,7 @@ use Rattle.graph.specs.Linearize.{Out, order, ring, andThen, each, visit, memb,
 use Rattle.graph.specs.Order as graph
 use Rattle.order.specs.Run.{listOf, walkOf, linked, outcome, ordered, unitsOf}
 use Rattle.assembly.specs.Assemble.{rewriteUse, fileOf, itemsOf, localItems, enumDeclarations, foreignEnum, forbidEnumDecInDeps, hasMain, noMain, mainFaults, assemblyFaults}
-use Rattle.assembly.specs.Rewritten.{enums-rewritten, main-rewritten}
+use Rattle.assembly.specs.Rewritten.{map-append, enums-rewritten, main-rewritten}
 
 -- UNIT 0 IS LINKED LAST
 order-of : (o : List ℕ) (fs : List Fault) (x : Out) → outcome fs x ≡ linked o → x ≡ order o
@@ -58,10 +58,6 @@ faults-append b (u ∷ l) k =
     rw (faults-append b l k)
     (sym (append-assoc (mainFaults u (localItems b u)) (forbidEnumDecInDeps u (localItems b u) ++ assemblyFaults b l) (assemblyFaults b k)
     ∙ ap (λ (t : List Fault). mainFaults u (localItems b u) ++ t) (append-assoc (forbidEnumDecInDeps u (localItems b u)) (assemblyFaults b l) (assemblyFaults b k))))
-
-map-append : {A B : Type 0} (f : A → B) (l k : List A) → map f (l ++ k) ≡ map f l ++ map f k
-map-append f [] k = refl
-map-append f (a ∷ l) k = rw (map-append f l k)
 
 -- units other than 0
 others : (b : Bundle) (l : List ℕ) → (List·Memᴰ 0 l → ⊥) → assemblyFaults b l ≡ map foreignEnum (enumsOf b l)

@@ -80,7 +80,7 @@ elements-length [] = refl
 elements-length (e ∷ l) =
     omega (arith, elements-length l, length-append (element e) (joined element l), length-append (string (e .name)) (string (e .alias)))
 
-sized-length : (s : List ℕ) → length (sized s) ≡ 2 + length s
+pub sized-length : (s : List ℕ) → length (sized s) ≡ 2 + length s
 unfolding sized two
 sized-length s = omega arith
 

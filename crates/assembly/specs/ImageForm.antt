@@ -19,7 +19,7 @@ use Rattle.bundle.specs.Limits.{version, use-kind, module-kind, ignored-kind, e
 use Rattle.discovery.specs.Discovery.{Use, uses}
 use Rattle.order.specs.Run.{linked, ordered, unitsOf}
 use Rattle.assembly.specs.Assemble.{rewriteUse, rewriteItems, fileOf, itemsOf, localItems, assembled}
-use Rattle.assembly.specs.Image.{imageBytes, itemsLength, items-length, image-limit}
+use Rattle.assembly.specs.Image.{imageBytes, itemsLength, sized-length, items-length, image-limit}
 use Rattle.assembly.specs.Paths.{ImagePath, small-width, program-formed}
 use Rattle.assembly.specs.Theorems.{RewrittenUse, Assembled, assembly, few-units}
 
@@ -109,10 +109,6 @@ sized-bytes : (s : List ℕ) → length s ≤ image-limit → Every Byte s → E
 unfolding sized two Every
 sized-bytes s h f = (omega arith, (omega arith, f))
 
-sized-long : (s : List ℕ) → length (sized s) ≡ 2 + length s
-unfolding sized two
-sized-long s = omega arith
-
 counted-bytes : {A : Type 0} (f : A → List ℕ) (l : List A) → length l < 256 → Every Byte (joined f l) → Every Byte (counted f l)
 unfolding counted Every
 counted-bytes f l h g = (h, g)
@@ -121,7 +117,7 @@ counted-bytes f l h g = (h, g)
 item-then : (s rest : List ℕ) → length (sized s ++ rest) ≤ image-limit → Every Byte s → (length rest ≤ image-limit → Every Byte rest) → Every Byte (sized s ++ rest)
 item-then s rest h f g =
     let n = length-append (sized s) rest in
-    let k = sized-long s in
+    let k = sized-length s in
     every-append (sized s) rest (sized-bytes s (omega arith) f) (g (omega arith))
 
 items-bytes : (x : Items) (d : ℕ) → ImageFormed x d → length (items x) ≤ image-limit → Every Byte (items x)
@@ -148,7 +144,7 @@ items-bytes (use-of m v segments elements rest) d f h =
 items-bytes (module-of m v name inner rest) d f h =
     let a = f .0 in
     let n = length-append (sized (module-kind ∷ v ∷ (string name ++ items inner))) (items rest) in
-    let k = sized-long (module-kind ∷ v ∷ (string name ++ items inner)) in
+    let k = sized-length (module-kind ∷ v ∷ (string name ++ items inner)) in
     let i = length-append (string name) (items inner) in
     let short : length (items inner) ≤ image-limit = omega arith in
     item-then (module-kind ∷ v ∷ (string name ++ items inner)) (items rest) h

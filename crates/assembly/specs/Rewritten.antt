@@ -41,6 +41,10 @@ kept-append (imports d m v elements ∷ l) k = rw (kept-append l k)
 kept-append (opens d m v name ∷ l) k = rw (kept-append l k)
 kept-append (skipped d m v ∷ l) k = kept-append l k
 
+pub map-append : {A B : Type 0} (f : A → B) (l k : List A) → map f (l ++ k) ≡ map f l ++ map f k
+map-append f [] k = refl
+map-append f (a ∷ l) k = rw (map-append f l k)
+
 module _ (path : List Text → List Text) where
   -- NO ITEM IS LOST OR INVENTED
   pub heads-kept : (d : ℕ) (x : Items) → heads d (rewriteItems path x) ≡ kept (heads d x)
@@ -60,11 +64,7 @@ module _ (path : List Text → List Text) where
   uses-rewritten none = refl
   uses-rewritten (named k m v name rest) = uses-rewritten rest
   uses-rewritten (use-of m v segments elements rest) = rw (uses-rewritten rest)
-  uses-rewritten (module-of m v name inner rest) = rw (uses-rewritten rest, uses-rewritten inner) (sym (map-both (uses inner) (uses rest)))
-    where
-      map-both : (l k : List Use) → map rewritten (l ++ k) ≡ map rewritten l ++ map rewritten k
-      map-both [] k = refl
-      map-both (u ∷ l) k = rw (map-both l k)
+  uses-rewritten (module-of m v name inner rest) = rw (uses-rewritten rest, uses-rewritten inner) (sym (map-append rewritten (uses inner) (uses rest)))
   uses-rewritten (ignored m v rest) = uses-rewritten rest
 
   -- ENUMS AND MAIN are those of the file
