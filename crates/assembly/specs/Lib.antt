@@ -6,4 +6,5 @@ pub mod Faults
 pub mod Paths
 pub mod Theorems
 pub mod ImageForm
+pub mod Unique
 pub mod Cases
