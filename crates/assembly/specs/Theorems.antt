@@ -180,6 +180,13 @@ module _ (b : Bundle) (w : WellFormed b) (o : List ℕ) (e : ordered b ≡ linke
       earlier = stands-earlier;
     }
 
+-- an enum, at any depth, of a linked unit other than 0
+pub record ForeignEnum (b : Bundle) (o : List ℕ) (mark : ℕ) : Type 0 where
+  pub unit : ℕ
+  pub linked : List·Memᴰ unit o
+  pub other : unit ≡ 0 → ⊥
+  pub declared : List·Memᴰ mark (enumDeclarations (itemsOf b unit))
+
 -- THE THEOREM
 -- what is due of the program and the faults of a linked order
 pub record Assembled (b : Bundle) (o : List ℕ) : Type 0 where
@@ -205,10 +212,19 @@ pub record Assembled (b : Bundle) (o : List ℕ) : Type 0 where
   pub main-only : List·Memᴰ noMain (assemblyFaults b o) → hasMain (itemsOf b 0) ≡ false
   pub main-always : hasMain (itemsOf b 0) ≡ false → List·Memᴰ noMain (assemblyFaults b o)
   -- 28 with a mark exactly when another unit has an enum of that mark, at any depth
-  pub enum-only : (m : ℕ) → List·Memᴰ (foreignEnum m) (assemblyFaults b o) → EnumIn b before m
-  pub enum-always : (m u : ℕ) → List·Memᴰ u o → (u ≡ 0 → ⊥) → List·Memᴰ m (enumDeclarations (itemsOf b u)) → List·Memᴰ (foreignEnum m) (assemblyFaults b o)
+  pub enum-only : (m : ℕ) → List·Memᴰ (foreignEnum m) (assemblyFaults b o) → ForeignEnum b o m
+  pub enum-always : (m : ℕ) → ForeignEnum b o m → List·Memᴰ (foreignEnum m) (assemblyFaults b o)
 
 module _ (b : Bundle) (w : WellFormed b) (o : List ℕ) (e : ordered b ≡ linked o) where
+  -- a unit before 0 is linked and is another
+  foreign : (p : List ℕ) → o ≡ p ++ (0 ∷ []) → (List·Memᴰ 0 p → ⊥) → (m : ℕ) → EnumIn b p m → ForeignEnum b o m
+  foreign p q n m t = record {
+    unit = t .unit;
+    linked = subst (λ (l : List ℕ). List·Memᴰ (t .unit) l) (sym q) (Memᴰ·append-left _ (t .linked));
+    other = λ z. n (subst (λ (u : ℕ). List·Memᴰ u p) z (t .linked));
+    declared = t .declared;
+  }
+
   pub assembly : Assembled b o
   unfolding localItems
   assembly =
@@ -232,10 +248,11 @@ module _ (b : Bundle) (w : WellFormed b) (o : List ℕ) (e : ordered b ≡ linke
         faults = f;
         main-only = λ m. no-main-only b (z .before) (subst (λ (l : List Fault). List·Memᴰ noMain l) f m);
         main-always = λ h. subst (λ (l : List Fault). List·Memᴰ noMain l) (sym f) (no-main-always b (z .before) h);
-        enum-only = λ m h. enum-only b (z .before) m (subst (λ (l : List Fault). List·Memᴰ (foreignEnum m) l) f h);
-        enum-always = λ m u h k d.
+        enum-only = λ m h.
+            foreign (z .before) (z .is) n m (enum-only b (z .before) m (subst (λ (l : List Fault). List·Memᴰ (foreignEnum m) l) f h));
+        enum-always = λ m t.
             subst (λ (l : List Fault). List·Memᴰ (foreignEnum m) l) (sym f)
-            (enum-always b (z .before) m u (⊎-elim (λ x. x) (λ q. absurd (k q)) (mem-snoc (z .before) (subst (λ (l : List ℕ). List·Memᴰ u l) (z .is) h))) d);
+            (enum-always b (z .before) m (t .unit) (⊎-elim (λ x. x) (λ q. absurd (t .other q)) (mem-snoc (z .before) (subst (λ (l : List ℕ). List·Memᴰ (t .unit) l) (z .is) (t .linked)))) (t .declared));
       }
 
 -- of the value of every bundle that is not refused
@@ -289,7 +306,7 @@ ring-first b r e = rw e
 -- A LINKED BUNDLE HAS A PROGRAM exactly when unit 0 has a function `main` at its top and no other unit has an enum
 pub record Sound (b : Bundle) (o : List ℕ) : Type 0 where
   pub main : hasMain (itemsOf b 0) ≡ true
-  pub no-enum : (u m : ℕ) → List·Memᴰ u o → (u ≡ 0 → ⊥) → List·Memᴰ m (enumDeclarations (itemsOf b u)) → ⊥
+  pub no-enum : (m : ℕ) → ForeignEnum b o m → ⊥
 
 nothing-in : {A : Type 0} (l : List A) → ((a : A) → List·Memᴰ a l → ⊥) → l ≡ []
 nothing-in [] f = refl
@@ -300,9 +317,7 @@ module _ (b : Bundle) (w : WellFormed b) (o : List ℕ) (e : ordered b ≡ linke
   sound-program s =
       let a = assembly b w o e in
       let none-of : enumsOf b (a .before) ≡ [] = nothing-in (enumsOf b (a .before)) (λ m h.
-      let t = enum-found b (a .before) m h in
-      s .no-enum (t .unit) m (subst (λ (l : List ℕ). List·Memᴰ (t .unit) l) (sym (a .last)) (Memᴰ·append-left _ (t .linked)))
-      (λ z. a .others (subst (λ (u : ℕ). List·Memᴰ u (a .before)) z (t .linked))) (t .declared)) in
+      s .no-enum m (foreign b w o e (a .before) (a .last) (a .others) m (enum-found b (a .before) m h))) in
       program-always b o e (a .faults ∙ rw (none-of, main-there b (s .main)))
 
   pub program-sound : (p : Items) → linearizeAndAssemble b ≡ program o p → Sound b o
@@ -311,7 +326,7 @@ module _ (b : Bundle) (w : WellFormed b) (o : List ℕ) (e : ordered b ≡ linke
       let f = program-only b o p h .faultless in
       record {
         main = has (hasMain (itemsOf b 0)) refl (λ q. List·Memᴰ·not-nil (subst (λ (l : List Fault). List·Memᴰ noMain l) f (a .main-always q)));
-        no-enum = λ u m i k d. List·Memᴰ·not-nil (subst (λ (l : List Fault). List·Memᴰ (foreignEnum m) l) f (a .enum-always m u i k d));
+        no-enum = λ m t. List·Memᴰ·not-nil (subst (λ (l : List Fault). List·Memᴰ (foreignEnum m) l) f (a .enum-always m t));
       }
     where
       has : (t : Bool) → hasMain (itemsOf b 0) ≡ t → (hasMain (itemsOf b 0) ≡ false → ⊥) → hasMain (itemsOf b 0) ≡ true
