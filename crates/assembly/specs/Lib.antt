@@ -1,0 +1,10 @@
+pub mod Assemble
+pub mod Image
+pub mod Rewritten
+pub mod Meaning
+pub mod Faults
+pub mod Paths
+pub mod Theorems
+pub mod ImageForm
+pub mod Unique
+pub mod Cases
