@@ -21,7 +21,7 @@ use Rattle.bundle.specs.Read.{Reading, value, refused, form, lists, files, verd
 use Rattle.resolution.specs.Longest.{insert, longestFirst, firstOf}
 use Rattle.resolution.specs.Resolution.{getPackageRoot, applies, remappingFor, buildAndVerifyPath, resolveCratePath, checkLocalFileImportedAsExternal, resolvePathInternal}
 use Rattle.resolution.specs.Call.{position}
-use Rattle.discovery.specs.Discovery.{Fault, uses, programOf, useCache, lookupFaults, validImports, holds, addOnce, load, loadAll, turn, turns, discoverDependencies}
+use Rattle.discovery.specs.Discovery.{uses, programOf, useCache, lookupFaults, validImports, holds, addOnce, load, loadAll, turn, turns, discoverDependencies}
 use Rattle.graph.specs.Linearize.{linearize, visit, memb, from}
 use Rattle.graph.specs.Linearize as graph
 use Rattle.order.specs.Run.{ordered}

@@ -5,11 +5,11 @@ use mathlib.Core.Bool.{Bool, true, false, cond}
 use mathlib.Core.Logic.{⊎-elim}
 use mathlib.Core.Path.{_≡_, refl, sym, ap, subst, _∙_}
 use mathlib.Core.List.{List, [], _∷_, _++_, map, append-assoc, append-nil, List·Memᴰ, List·Memᴰ·head, List·Memᴰ·tail, List·Memᴰ·not-nil, List·Memᴰ·cases-cons, List·Memᴰ·append-cases, Memᴰ·append-left, Memᴰ·append-right, Memᴰ·map, Memᴰ·of-map}
-use Rattle.bundle.specs.Bundle.{Text, Bundle}
+use Rattle.bundle.specs.Bundle.{Bundle}
 use Rattle.discovery.specs.Discovery.{Fault, discoverDependencies}
 use Rattle.graph.specs.Linearize.{Out, order, ring, andThen, each, visit, memb, linearize}
 use Rattle.graph.specs.Order as graph
-use Rattle.order.specs.Run.{listOf, walkOf, linked, outcome, ordered, unitsOf}
+use Rattle.order.specs.Run.{walkOf, linked, outcome, ordered}
 use Rattle.assembly.specs.Assemble.{rewriteUse, fileOf, itemsOf, localItems, enumDeclarations, foreignEnum, forbidEnumDecInDeps, hasMain, noMain, mainFaults, assemblyFaults}
 use Rattle.assembly.specs.Rewritten.{map-append, enums-rewritten, main-rewritten}
 

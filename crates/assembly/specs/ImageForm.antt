@@ -1,27 +1,25 @@
 -- The form of a program: names and paths are in form, there are no ignored items, and modules are at most 9 deep; so an image that
 -- is not too long is bytes. Assumes nothing.
-use Prim.Native.Nat.{ℕ, zero, suc, _+_, _-_, _/_, _%_, _≤_, _<_}
+use Prim.Native.Nat.{ℕ, suc, _+_, _-_, _≤_, _<_}
 use native.Mathlib.Omega.{arith}
 use mathlib.Core.Bool.{Bool, true, false, _||_}
-use mathlib.Core.Logic.{⊎-elim}
-use mathlib.Core.Path.{_≡_, refl, sym, ap, subst, _∙_}
-use mathlib.Core.List.{List, [], _∷_, _++_, List·Memᴰ, List·Memᴰ·head, List·Memᴰ·tail, List·Memᴰ·not-nil, List·Memᴰ·cases-cons, Memᴰ·append-left, Memᴰ·append-right}
+use mathlib.Core.Path.{_≡_, refl, sym, subst}
+use mathlib.Core.List.{List, [], _∷_, _++_, List·Memᴰ, List·Memᴰ·head, List·Memᴰ·tail, Memᴰ·append-left, Memᴰ·append-right}
 use lib.Dec.{eqb}
 use lib.ListN.{length, getD, length-append}
 use borrow.Author.Tests.{eqb-true}
-use Rattle.names.specs.Decimal.{unitName}
 use Rattle.names.specs.Identifier.{isIdentifier, identifier-short, identifier-bytes}
 use Rattle.names.specs.NameTheorems.{unit-identifier}
 use Rattle.bundle.specs.Bundle.{Text, Element, Items, none, named, use-of, module-of, ignored, Bundle}
 use Rattle.bundle.specs.Encode.{two, string, joined, counted, sized, element, items}
 use Rattle.bundle.specs.Form.{Every, IsName, IsAlias, FormedElement, NamedKind, Formed, WellFormed}
-use Rattle.bundle.specs.Limits.{version, use-kind, module-kind, ignored-kind, element-limit, depth-limit}
+use Rattle.bundle.specs.Limits.{use-kind, module-kind, element-limit, depth-limit}
 use Rattle.discovery.specs.Discovery.{Use, uses}
-use Rattle.order.specs.Run.{linked, ordered, unitsOf}
+use Rattle.order.specs.Run.{linked, ordered}
 use Rattle.assembly.specs.Assemble.{rewriteUse, rewriteItems, fileOf, itemsOf, localItems, assembled}
 use Rattle.assembly.specs.Image.{imageBytes, itemsLength, sized-length, items-length, image-limit}
 use Rattle.assembly.specs.Paths.{ImagePath, small-width, program-formed}
-use Rattle.assembly.specs.Theorems.{RewrittenUse, Assembled, assembly, few-units}
+use Rattle.assembly.specs.Theorems.{assembly, few-units}
 
 -- THE FORM
 -- items in form, with modules at most so deep

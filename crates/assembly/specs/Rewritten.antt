@@ -1,10 +1,7 @@
 -- What rewriting items does, for any way to rewrite paths: nothing is lost or invented but paths and ignored items. Assumes nothing.
-use Prim.Native.Nat.{ℕ, zero, suc}
-use mathlib.Core.Bool.{Bool, true, false, cond, _&&_, _||_}
-use mathlib.Core.Path.{_≡_, refl, sym, ap, _∙_}
+use Prim.Native.Nat.{ℕ, suc}
+use mathlib.Core.Path.{_≡_, refl, sym}
 use mathlib.Core.List.{List, [], _∷_, _++_, map}
-use lib.Dec.{eqb}
-use Rattle.names.specs.Bytes.{ascii, same}
 use Rattle.bundle.specs.Bundle.{Text, Element, Items, none, named, use-of, module-of, ignored}
 use Rattle.discovery.specs.Discovery.{Use, uses}
 use Rattle.assembly.specs.Assemble.{rewriteItems, enumDeclarations, hasMain}

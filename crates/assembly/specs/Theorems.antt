@@ -1,13 +1,13 @@
 -- STEP 5 IS RIGHT, of every bundle that is not refused and links: its units, their items, their uses, and when 27 and 28 are told.
 -- Assumes nothing.
-use Prim.Native.Nat.{ℕ, zero, suc, _+_, _<_, _≤_}
+use Prim.Native.Nat.{ℕ, _+_, _<_, _≤_}
 use native.Mathlib.Omega.{arith}
 use mathlib.Core.Bool.{Bool, true, false, cond}
 use mathlib.Core.Logic.{_⊎_, inl, inr, ⊎-elim}
 use mathlib.Core.Path.{_≡_, refl, sym, ap, subst, _∙_}
-use mathlib.Core.List.{List, [], _∷_, _++_, map, List·Memᴰ, List·Memᴰ·head, List·Memᴰ·tail, List·Memᴰ·not-nil, List·Memᴰ·cases-cons, Memᴰ·append-left, Memᴰ·append-right, Memᴰ·of-map}
+use mathlib.Core.List.{List, [], _∷_, _++_, map, List·Memᴰ, List·Memᴰ·head, List·Memᴰ·not-nil, List·Memᴰ·cases-cons, Memᴰ·append-left, Memᴰ·of-map}
 use lib.Dec.{eqb}
-use lib.ListN.{length, getD, length-map}
+use lib.ListN.{length, length-map}
 use borrow.Author.Tests.{eqb-true, eqb-false}
 use Rattle.names.specs.Bytes.{ascii, same, same-refl, different}
 use Rattle.names.specs.Decimal.{unitName, unit-names-differ}
@@ -19,11 +19,12 @@ use Rattle.bundle.specs.Theorems.{sound}
 use Rattle.resolution.specs.Lists.{listsOf}
 use Rattle.resolution.specs.Resolution.{to, resolvePathInternal}
 use Rattle.resolution.specs.Call.{position}
-use Rattle.discovery.specs.Discovery.{Use, uses, programOf, Fault, pathsOf, discoverDependencies}
-use Rattle.discovery.specs.Reached.{Imports, Reached, entry, imported, Once}
+use Rattle.discovery.specs.Discovery.{Use, uses, Fault, pathsOf}
+use Rattle.discovery.specs.Reached.{Imports, Reached, Once}
 use Rattle.discovery.specs.Reached as reached
 use Rattle.discovery.specs.Facts.{mem-snoc, pigeons, once-place, id-found, pathsAt, paths-mem, mem-paths}
 use Rattle.discovery.specs.Right.{discovered}
+use Rattle.discovery.specs.Weight.{reached-file}
 use Rattle.discovery.specs.Clean.{ToUnit, no-fault}
 use Rattle.graph.specs.Order as graph
 use Rattle.order.specs.Run.{linked, ordered, unitsOf, filesOf}
@@ -32,8 +33,8 @@ use Rattle.order.specs.Files.{LinkedFiles}
 use Rattle.order.specs.Units.{paths-append}
 use Rattle.order.specs.Theorems.{LinkedIds, FirstHalf, first-half}
 use Rattle.assembly.specs.Assemble.{rewriteUse, fileOf, itemsOf, localItems, assembled, enumDeclarations, foreignEnum, hasMain, noMain, assemblyFaults, Outcome, faulty, closed, program, step5, assembleAfter, linearizeAndAssemble}
-use Rattle.assembly.specs.Rewritten.{Head, opens, heads, kept, heads-kept, rewritten, uses-rewritten}
-use Rattle.assembly.specs.Faults.{ZeroLast, zero-last, once-last, enumsOf, mainFault, faults-are, EnumIn, enum-found, main-there, no-main-only, no-main-always, enum-only, enum-always}
+use Rattle.assembly.specs.Rewritten.{heads, kept, heads-kept, rewritten, uses-rewritten}
+use Rattle.assembly.specs.Faults.{zero-last, once-last, enumsOf, mainFault, faults-are, EnumIn, enum-found, main-there, no-main-only, no-main-always, enum-only, enum-always}
 use Rattle.assembly.specs.Paths.{ImagePath, image-path, uses-formed, program-formed}
 
 -- A PROGRAM'S MODULES
@@ -91,11 +92,6 @@ names-once graph.none = reached.none
 names-once (graph.more {u} {l} n h) =
     reached.more (λ m. let t = Memᴰ·of-map unitName l m in n (subst (λ (x : ℕ). List·Memᴰ x l) (sym (unit-names-differ u (t .0) (sym (t .2)))) (t .1))) (names-once h)
 
--- what is reached is listed
-reached-listed : (b : Bundle) (p : Text) → Reached b p → List·Memᴰ p (pathsOf b)
-reached-listed b p (entry e) = rw e (List·Memᴰ·head refl)
-reached-listed b p (imported r i) = i .readable
-
 -- A USE OF A LINKED UNIT
 -- x is a use of unit u's file, in a linked order o
 pub record RewrittenUse (b : Bundle) (o : List ℕ) (u : ℕ) (x : Use) : Type 0 where
@@ -122,7 +118,7 @@ module _ (b : Bundle) (w : WellFormed b) (o : List ℕ) (e : ordered b ≡ linke
 
   pub few-units : length (unitsOf b) ≤ 64
   few-units =
-      let n = pigeons (discovered b .once) (pathsOf b) (λ p m. reached-listed b p (discovered b .sound p m)) in
+      let n = pigeons (discovered b .once) (pathsOf b) (λ p m. reached-file b p (discovered b .sound p m)) in
       let k = w .form .file-count in
       omega (arith, length-map (b .files) (λ (f : File). f .path))
 
@@ -155,7 +151,7 @@ module _ (b : Bundle) (w : WellFormed b) (o : List ℕ) (e : ordered b ≡ linke
           rest = lands .rest;
           used = used;
           resolves = lands .resolves;
-          readable = reached-listed b (lands .target) (discovered b .sound (lands .target) (lands .unit));
+          readable = reached-file b (lands .target) (discovered b .sound (lands .target) (lands .unit));
         }
 
         go : (t : Bool) → eqb id u ≡ t → (id ≡ u) ⊎ List·Memᴰ id p

@@ -1,12 +1,12 @@
 -- An image loses nothing but marks: programs in form with one image are one program. Assumes nothing.
-use Prim.Native.Nat.{ℕ, zero, suc, _+_, _-_, _/_, _%_, _≤_, _<_}
+use Prim.Native.Nat.{ℕ, _+_, _-_, _/_, _%_}
 use native.Mathlib.Omega.{arith}
 use mathlib.Core.Path.{_≡_, refl, sym, ap, _∙_}
 use mathlib.Core.List.{List, [], _∷_, _++_, append-assoc}
 use lib.ListN.{length}
-use Rattle.bundle.specs.Bundle.{Text, Element, Items, none, named, use-of, module-of, ignored}
+use Rattle.bundle.specs.Bundle.{Text, Items, none, named, use-of, module-of, ignored}
 use Rattle.bundle.specs.Encode.{two, string, joined, counted, sized, element, items}
-use Rattle.bundle.specs.Limits.{version, use-kind, module-kind}
+use Rattle.bundle.specs.Limits.{use-kind, module-kind}
 use Rattle.assembly.specs.Image.{imageBytes, unmarked}
 use Rattle.assembly.specs.ImageForm.{ImageFormed}
 
