@@ -8,4 +8,4 @@ use Rattle.scopes.specs.Trees.{Sized}
 use Rattle.scopes.proofs.Tree as T
 
 pub sized : (t : Tree) (vs : List Val) → shadow (T.the-row .own t vs) → Sized t
-sized t vs g = search (needs, g .1)
+sized t vs g = search (needs, g .1, g .1 .1 .1 .1 .1 .1 .1 .1 .1 .1)

@@ -22,10 +22,11 @@ use Rattle.scopes.specs.Step.{declared, head, Call, enter, alias, enum, 
 use Rattle.scopes.specs.Flat.{Body, own, copy, Entry, Flat, flat, top, stack-names, pop, push}
 use Rattle.scopes.specs.Form.{Request, enters, exits, inserts-alias, inserts-enum, inserts-function, gets-alias, gets-function, named, call-of}
 use Rattle.scopes.specs.Rows.{length-tab, body-of, isOwn, spotted, find-spot}
+use Rattle.scopes.specs.Index.{spot-first}
 use Rattle.scopes.specs.Nav.{stack-of, current-top, Doors}
 use Rattle.scopes.specs.Staging.{is-at}
 use Rattle.scopes.specs.Note.{accepted}
-use Rattle.scopes.specs.Trees.{Added, bit-of, told, rows, entries-of, flat-of, Good, Sized, push-law, push-sized, refusing, accepting, here-of, current-spot, declared-in, no-entry, added-of, ended, opened-last, mark-at, got-of}
+use Rattle.scopes.specs.Trees.{Added, bit-of, told, rows, entries-of, flat-of, Good, Sized, push-law, push-sized, push-indexed, refusing, accepting, here-of, current-spot, declared-in, no-entry, added-of, ended, opened-last, mark-at, got-of}
 use Rattle.scopes.specs.Meets.{Meets, Answers}
 
 pub length-names : (l : List Entry) (ss : List ℕ) → length (stack-names l ss) ≡ length ss
@@ -39,16 +40,18 @@ length-stack a zero = refl
 length-stack a (suc d) = ap suc (length-stack a d)
 
 -- the current module
-pub found-here : (t : Tree) (k : ℕ) (n : Name) → flat .find (flat .here (flat-of t)) k n ≡ spotted (rows t) (t .count) (current-spot t k n)
+pub found-here : (t : Tree) → Good t → (k : ℕ) (n : Name) → flat .find (flat .here (flat-of t)) k n ≡ spotted (rows t) (t .count) (current-spot t k n)
 unfolding current-spot
-found-here t k n = rw (current-top (t .stack) (t .depth)) (find-spot (rows t) (t .count) (top (stack-of (t .stack) (t .depth))) k n)
+found-here t g k n =
+    rw (spot-first (g .indexed) (g .small) (here-of t) (t .count) k n (omega arith), current-top (t .stack) (t .depth))
+    (find-spot (rows t) (t .count) (top (stack-of (t .stack) (t .depth))) k n)
 
 spotted-got : (f : ℕ → Entry) (c : ℕ) (s : Spot) → is-got (spotted f c s) ≡ is-at s
 spotted-got f c Nothing = refl
 spotted-got f c (At i) = refl
 
-pub held-here : (t : Tree) (k : ℕ) (n : Name) → held flat (flat-of t) k n ≡ is-at (current-spot t k n)
-held-here t k n = ap is-got (found-here t k n) ∙ spotted-got (rows t) (t .count) (current-spot t k n)
+pub held-here : (t : Tree) → Good t → (k : ℕ) (n : Name) → held flat (flat-of t) k n ≡ is-at (current-spot t k n)
+held-here t g k n = ap is-got (found-here t g k n) ∙ spotted-got (rows t) (t .count) (current-spot t k n)
 
 told-spot : (t : Tree) (s : Spot) → told (mark-at t s) ≡ told-mark (spotted (rows t) (t .count) s)
 told-spot t Nothing = refl
@@ -65,7 +68,7 @@ got-step t s k g f h = go (isIdentifier s)
     go false = (refl, refl)
     go true =
         rw (h (packed s), le-ltb 1024 (t .count) (g .small), le-ltb 9 (t .depth) (g .shallow))
-        (refl, told-spot t (current-spot t k (packed s)) ∙ ap told-mark (sym (found-here t k (packed s))))
+        (refl, told-spot t (current-spot t k (packed s)) ∙ ap told-mark (sym (found-here t g k (packed s))))
 
 pub got-alias : (t : Tree) (s : List ℕ) → Answers t (gets-alias s) (got-of t s 1)
 unfolding call-of step
@@ -78,7 +81,7 @@ got-function t s = record { tree = λ g. got-step t s 2 g get-function (λ n. re
 -- EXIT
 abbrev pub popped : Tree → Tree
 popped t =
-    record { count = t .count; kinds = t .kinds; visible = t .visible; scopes = t .scopes; marks = t .marks; n0 = t .n0; n1 = t .n1; n2 = t .n2; n3 = t .n3; origins = t .origins; targets = t .targets; times = t .times; depth = t .depth - 1; stack = t .stack }
+    record { count = t .count; kinds = t .kinds; visible = t .visible; scopes = t .scopes; marks = t .marks; n0 = t .n0; n1 = t .n1; n2 = t .n2; n3 = t .n3; origins = t .origins; targets = t .targets; times = t .times; heads = t .heads; links = t .links; depth = t .depth - 1; stack = t .stack }
 
 exit-names : (l : List Entry) (ss : List ℕ) (x : Flat) → (length ss ≡ 0 → ⊥) → close flat x (stack-names l ss) ≡ (flat .closed x, ok)
 exit-names l ss x h = go (stack-names l ss) (length-names l ss)
@@ -101,7 +104,7 @@ pub exit-module : (t : Tree) → (t .depth ≡ 0 → ⊥) → Meets t exits (acc
 unfolding call-of step stack-of
 exit-module t z =
     record {
-      good = λ g. record { small = g .small; shallow = omega (arith, g .shallow); doors = λ j l. g .doors j (omega arith) };
+      good = λ g. record { small = g .small; shallow = omega (arith, g .shallow); doors = λ j l. g .doors j (omega arith); indexed = g .indexed };
       tree = λ g. sym (ap (λ (p : Flat × Answer). p .0) left ∙ pops (t .depth) z);
       answer = λ g. sym (ap (λ (p : Flat × Answer). p .1) left);
       kept = λ e. let y : _≡_ {A = ℕ} 0 1 = cc in absurd (omega arith);
@@ -188,7 +191,7 @@ module _ (t : Tree) (s : List ℕ) (k twice : ℕ) (v : Bool) (m deepest : ℕ) 
           × (told (ended fin (cond b (cond (ltb 1024 (t .count)) (no-entry 51 t) (cond (ltb 9 (t .depth)) (no-entry 51 t) (cond (is-at (current-spot t k (packed s))) (no-entry twice t) (cond (leb 1024 (t .count)) (no-entry 51 t) (cond (ltb deepest (t .depth)) (no-entry 51 t) (no-entry 0 (declared-in t k v m (packed s)))))))) (no-entry 5 t)) .answer) ≡ step flat (flat-of t) (cond b (call (packed s)) (bad 5)) .1)
       go false = (refl, refl)
       go true =
-          rw (le-ltb 1024 (t .count) (g .small), le-ltb 9 (t .depth) (g .shallow), steps (packed s), held-here t k (packed s))
+          rw (le-ltb 1024 (t .count) (g .small), le-ltb 9 (t .depth) (g .shallow), steps (packed s), held-here t g k (packed s))
           (held? (is-at (current-spot t k (packed s))))
 
   fine-result : Good t → Good (ended fin (added-of t s k twice v m deepest) .tree)
@@ -237,7 +240,7 @@ module _ (t : Tree) (s : List ℕ) (v : Bool) (m : ℕ) (z : Sized t) where
       (λ n. push-full t _)
       (λ n g. rw (length-names, length-stack))
       (λ n g l d. ap (λ (es : List Entry). record { entries = es; stack = stack-of (t .stack) (t .depth) }) (push-same t k v m n (copy 0 0) z l b))
-      (λ n g l d. record { small = omega arith; shallow = g .shallow; doors = push-doors t g })
+      (λ n g l d. record { small = omega arith; shallow = g .shallow; doors = push-doors t g; indexed = push-indexed t k (bit-of v) (here-of t) m n 0 0 0 z l (g .indexed) })
       q e
 
   pub alias-meets : Meets t (inserts-alias s v m) (ended (λ x. x) (added-of t s 1 48 v m 9))
@@ -278,6 +281,7 @@ module _ (t : Tree) (s : List ℕ) (v : Bool) (m : ℕ) (z : Sized t) where
         small = omega arith;
         shallow = omega arith;
         doors = λ j h. door j h (decLt j (t .depth));
+        indexed = push-indexed t 3 (bit-of v) (here-of t) m n 0 0 0 z l (g .indexed);
       }
     where
       door : (j : ℕ) → j < t .depth + 1 → Dec (j < t .depth) → (0 < getD (set (t .stack) (t .depth) (t .count + 1)) j 0) × (getD (set (t .stack) (t .depth) (t .count + 1)) j 0 ≤ t .count + 1)

@@ -15,14 +15,14 @@ use Rattle.scopes.specs.Meets.{Meets}
 use Rattle.scopes.specs.Calls.{exit-root, exit-module, added-sized, alias-meets, enum-meets, function-meets, enter-meets, via}
 
 -- the tree that the numbers and arrays are
-abbrev pub lent : ℕ → List ℕ → List ℕ → List ℕ → List ℕ → List ℕ → List ℕ → List ℕ → List ℕ → List ℕ → List ℕ → List ℕ → ℕ → List ℕ → Tree
-lent count kinds visible scopes marks n0 n1 n2 n3 origins targets times depth stack =
-    record { count = count; kinds = kinds; visible = visible; scopes = scopes; marks = marks; n0 = n0; n1 = n1; n2 = n2; n3 = n3; origins = origins; targets = targets; times = times; depth = depth; stack = stack }
+abbrev pub lent : ℕ → List ℕ → List ℕ → List ℕ → List ℕ → List ℕ → List ℕ → List ℕ → List ℕ → List ℕ → List ℕ → List ℕ → List ℕ → List ℕ → ℕ → List ℕ → Tree
+lent count kinds visible scopes marks n0 n1 n2 n3 origins targets times heads links depth stack =
+    record { count = count; kinds = kinds; visible = visible; scopes = scopes; marks = marks; n0 = n0; n1 = n1; n2 = n2; n3 = n3; origins = origins; targets = targets; times = times; heads = heads; links = links; depth = depth; stack = stack }
 
 -- a tree at another depth
 abbrev pub at-depth : Tree → ℕ → Tree
 at-depth t d =
-    record { count = t .count; kinds = t .kinds; visible = t .visible; scopes = t .scopes; marks = t .marks; n0 = t .n0; n1 = t .n1; n2 = t .n2; n3 = t .n3; origins = t .origins; targets = t .targets; times = t .times; depth = d; stack = t .stack }
+    record { count = t .count; kinds = t .kinds; visible = t .visible; scopes = t .scopes; marks = t .marks; n0 = t .n0; n1 = t .n1; n2 = t .n2; n3 = t .n3; origins = t .origins; targets = t .targets; times = t .times; heads = t .heads; links = t .links; depth = d; stack = t .stack }
 
 -- an item's declaration by its kind in a bundle: 2 a function, 4 an enum, else a type alias
 abbrev pub declares : ℕ → List ℕ → Bool → ℕ → Request
@@ -38,14 +38,14 @@ abbrev pub Leaves : ℕ → ℕ → ℕ → Type 0
 Leaves d n e = (t : Tree) → Keeps (at-depth t d) exits n (at-depth t e)
 
 -- a get, which reads only these arrays
-abbrev pub Gets : ℕ → List ℕ → List ℕ → List ℕ → List ℕ → List ℕ → List ℕ → List ℕ → ℕ → List ℕ → List ℕ → ℕ → Told → Type 0
-Gets count kinds scopes marks n0 n1 n2 n3 depth stack name kind r =
-    (visible origins targets times : List ℕ) → r ≡ got-of (lent count kinds visible scopes marks n0 n1 n2 n3 origins targets times depth stack) name kind
+abbrev pub Gets : ℕ → List ℕ → List ℕ → List ℕ → List ℕ → List ℕ → List ℕ → List ℕ → List ℕ → List ℕ → ℕ → List ℕ → List ℕ → ℕ → Told → Type 0
+Gets count kinds scopes marks n0 n1 n2 n3 heads links depth stack name kind r =
+    (visible origins targets times : List ℕ) → r ≡ got-of (lent count kinds visible scopes marks n0 n1 n2 n3 origins targets times heads links depth stack) name kind
 
 -- a tree with other open modules
 abbrev pub with-open : Tree → ℕ → List ℕ → Tree
 with-open t d k =
-    record { count = t .count; kinds = t .kinds; visible = t .visible; scopes = t .scopes; marks = t .marks; n0 = t .n0; n1 = t .n1; n2 = t .n2; n3 = t .n3; origins = t .origins; targets = t .targets; times = t .times; depth = d; stack = k }
+    record { count = t .count; kinds = t .kinds; visible = t .visible; scopes = t .scopes; marks = t .marks; n0 = t .n0; n1 = t .n1; n2 = t .n2; n3 = t .n3; origins = t .origins; targets = t .targets; times = t .times; heads = t .heads; links = t .links; depth = d; stack = k }
 
 -- a commit, whatever modules are open
 abbrev pub Commits : Tree → Tree → Staged → ℕ → ℕ → Type 0
@@ -96,11 +96,11 @@ module _ (t : Tree) (s : List ℕ) (v : Bool) (m : ℕ) where
       where
         opened-sized : (x : Tree) → Sized x → Sized (opened-last x)
         opened-sized x z =
-            record { kinds = z .kinds; visible = z .visible; scopes = z .scopes; marks = z .marks; n0 = z .n0; n1 = z .n1; n2 = z .n2; n3 = z .n3; origins = z .origins; targets = z .targets; times = z .times; stack = simp lib.ListN.length-set (z .stack) }
+            record { kinds = z .kinds; visible = z .visible; scopes = z .scopes; marks = z .marks; n0 = z .n0; n1 = z .n1; n2 = z .n2; n3 = z .n3; origins = z .origins; targets = z .targets; times = z .times; heads = z .heads; links = z .links; stack = simp lib.ListN.length-set (z .stack) }
 
 depth-sized : (t : Tree) (d e : ℕ) → Sized (at-depth t d) → Sized (at-depth t e)
 depth-sized t d e z =
-    record { kinds = z .kinds; visible = z .visible; scopes = z .scopes; marks = z .marks; n0 = z .n0; n1 = z .n1; n2 = z .n2; n3 = z .n3; origins = z .origins; targets = z .targets; times = z .times; stack = z .stack }
+    record { kinds = z .kinds; visible = z .visible; scopes = z .scopes; marks = z .marks; n0 = z .n0; n1 = z .n1; n2 = z .n2; n3 = z .n3; origins = z .origins; targets = z .targets; times = z .times; heads = z .heads; links = z .links; stack = z .stack }
 
 pub keeps-root : (t : Tree) (d : ℕ) → d ≡ 0 → Keeps (at-depth t d) exits 50 (at-depth t d)
 keeps-root t d z = keeps-no (at-depth t d) exits 50 (λ q. omega arith) (exit-root (at-depth t d) z)

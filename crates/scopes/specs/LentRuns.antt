@@ -38,7 +38,7 @@ lends-called (lends-asks a l) z = asks a (lends-called l z)
 pub cleared-sized : Sized cleared
 cleared-sized =
     let z : length (replicate 1024 zero) ≡ 1024 = length-replicate {A = ℕ} 1024 zero in
-    record { kinds = z; visible = z; scopes = z; marks = z; n0 = z; n1 = z; n2 = z; n3 = z; origins = z; targets = z; times = z; stack = length-replicate {A = ℕ} 9 zero }
+    record { kinds = z; visible = z; scopes = z; marks = z; n0 = z; n1 = z; n2 = z; n3 = z; origins = z; targets = z; times = z; heads = z; links = z; stack = length-replicate {A = ℕ} 9 zero }
 
 -- THE THEOREM, for every list of calls over cleared arrays
 pub lends-demanded : (qs : List Request) {u : Tree} {as′ : List Told} → Lends cleared qs u as′ → Demand (calls-of qs) (flat-of u) (all-told as′)

@@ -21,6 +21,7 @@ use Rattle.scopes.specs.Step.{Tried, done, fail, shared, pass, nav}
 use Rattle.scopes.specs.Flat.{Entry, none, Place, inside, flat, top, stack-names}
 use Rattle.scopes.specs.Form.{string, after-string, after-strings, names-from}
 use Rattle.scopes.specs.FormLaws.{strings-more, strings-none}
+use Rattle.scopes.specs.Index.{spot-in, Indexed, spot-first}
 use Rattle.scopes.specs.Rows.{tab, length-tab, getD-tab, Arrays, arrays, name-at, row-at, first-in, looked, spotted, find-spot, placed, site, inside-site, site-time}
 
 -- THE OPEN MODULES: oldest first in the array, innermost first in the list
@@ -190,13 +191,13 @@ unfoldable pub barred : ℕ → Bool → Bool
 barred v led = not (eqb v 1) && not led
 
 -- AS THE CODE HAS IT: the arrays but for the marks, which a walk does not read
-module _ (ks vs ss n0 n1 n2 n3 os ts us : List ℕ) (total : ℕ) (stack : List ℕ) (depth : ℕ) (s : List ℕ) (at n : ℕ) where
+module _ (ks vs ss n0 n1 n2 n3 os ts us hs ls : List ℕ) (total : ℕ) (stack : List ℕ) (depth : ℕ) (s : List ℕ) (at n : ℕ) where
   abbrev with-marks : List ℕ → Arrays
-  with-marks m = arrays ks vs ss m n0 n1 n2 n3 os ts us
+  with-marks m = arrays ks vs ss m n0 n1 n2 n3 os ts us hs ls
 
   -- where the path leads: the definition's place or number, whatever the marks
   pub record Arrived (r : Way) : Type 0 where
-    pub same : Doors stack depth total → (m : List ℕ) → way (row-at (with-marks m)) r ≡ walked (with-marks m) total stack depth s at n
+    pub same : total ≤ 1024 → Indexed hs ls ss ks n0 n1 n2 n3 total → Doors stack depth total → (m : List ℕ) → way (row-at (with-marks m)) r ≡ walked (with-marks m) total stack depth s at n
     pub time : r .time ≤ total
     pub next : r .number ≡ 0 → r .next ≡ after-strings s n at
     pub below : r .next ≤ at + 256 * n
@@ -206,7 +207,7 @@ module _ (ks vs ss n0 n1 n2 n3 os ts us : List ℕ) (total : ℕ) (stack : List 
     pub below : p ≤ at + 256 * i
     pub early : time ≤ total
     pub after : after-strings s n at ≡ after-strings s (n - i) p
-    pub same : Doors stack depth total → (m : List ℕ) → On-way (with-marks m) total stack depth s at n i p scope time led
+    pub same : total ≤ 1024 → Indexed hs ls ss ks n0 n1 n2 n3 total → Doors stack depth total → (m : List ℕ) → On-way (with-marks m) total stack depth s at n i p scope time led
 
   pub walking-start : Walking 0 at 0 total true
   walking-start =
@@ -216,31 +217,31 @@ module _ (ks vs ss n0 n1 n2 n3 os ts us : List ℕ) (total : ℕ) (stack : List 
         below = omega arith;
         early = omega arith;
         after = ap (λ (m : ℕ). after-strings s m at) e;
-        same = λ d m. way-start (with-marks m) total stack depth s at n;
+        same = λ c ix d m. way-start (with-marks m) total stack depth s at n;
       }
 
   module _ (i p scope time : ℕ) (led : Bool) (w : Walking i p scope time led) (h : i < n) (x : Name) (q : x ≡ packed (string s p)) where
     number-first : {k : ℕ} → 0 < k → {y : Type 0} → k ≡ 0 → y
     number-first l z = absurd (omega arith)
 
-    pub walking-missing : (r : Spot) → r ≡ first-in (looked ss ks n0 n1 n2 n3 scope 3 x) scope time → r ≡ Nothing → Arrived (wayed 41 0 0 0)
+    pub walking-missing : (r : Spot) → r ≡ spot-in hs ls ss ks n0 n1 n2 n3 scope time 3 x → r ≡ Nothing → Arrived (wayed 41 0 0 0)
     walking-missing r f z =
         record {
-          same = λ d m. no-module (with-marks m) total stack depth s at n (w .same d m) h r (rw (← q) f) z;
+          same = λ c ix d m. no-module (with-marks m) total stack depth s at n (w .same c ix d m) h r (f ∙ rw q (spot-first ix c scope time 3 (packed (string s p)) (w .early))) z;
           time = omega arith;
           next = λ k. number-first (omega arith) k;
           below = omega arith;
         }
 
-    module _ (e : ℕ) (f : At e ≡ first-in (looked ss ks n0 n1 n2 n3 scope 3 x) scope time) where
-      f' : At e ≡ first-in (looked ss ks n0 n1 n2 n3 scope 3 (packed (string s p))) scope time
-      f' = rw (← q) f
+    module _ (e : ℕ) (f : At e ≡ spot-in hs ls ss ks n0 n1 n2 n3 scope time 3 x) where
+      f' : total ≤ 1024 → Indexed hs ls ss ks n0 n1 n2 n3 total → At e ≡ first-in (looked ss ks n0 n1 n2 n3 scope 3 (packed (string s p))) scope time
+      f' c ix = f ∙ rw q (spot-first ix c scope time 3 (packed (string s p)) (w .early))
 
       pub walking-private : (b : Bool) → b ≡ barred (getD vs e 0) led → b ≡ true → Arrived (wayed 42 0 0 0)
       unfolding barred
       walking-private b u z =
           record {
-            same = λ d m. go (sym u ∙ z) d m;
+            same = λ c ix d m. go (sym u ∙ z) c ix d m;
             time = omega arith;
             next = λ k. number-first (omega arith) k;
             below = omega arith;
@@ -251,10 +252,10 @@ module _ (ks vs ss n0 n1 n2 n3 os ts us : List ℕ) (total : ℕ) (stack : List 
           both false true y = let o : _≡_ {A = ℕ} 0 1 = cc in absurd (omega arith)
           both false false y = (refl, refl)
 
-          go : not (eqb (getD vs e 0) 1) && not led ≡ true → Doors stack depth total → (m : List ℕ) → way (row-at (with-marks m)) (wayed 42 0 0 0) ≡ walked (with-marks m) total stack depth s at n
-          go y d m =
+          go : not (eqb (getD vs e 0) 1) && not led ≡ true → total ≤ 1024 → Indexed hs ls ss ks n0 n1 n2 n3 total → Doors stack depth total → (m : List ℕ) → way (row-at (with-marks m)) (wayed 42 0 0 0) ≡ walked (with-marks m) total stack depth s at n
+          go y t ix d m =
               let c = both (eqb (getD vs e 0) 1) led y in
-              private-module (with-marks m) total stack depth s at n (w .same d m) h e f' (borrow.Author.Tests.eqb-false (getD vs e 0) 1 (c .0)) (c .1)
+              private-module (with-marks m) total stack depth s at n (w .same t ix d m) h e (f' t ix) (borrow.Author.Tests.eqb-false (getD vs e 0) 1 (c .0)) (c .1)
 
       pub walking-turn : total ≤ 1024 → (b : Bool) → b ≡ barred (getD vs e 0) led → b ≡ false
           → (g : Rattle.scopes.specs.declared.look.Place.Place) → g ≡ site e (getD ks e 0) (getD os e 0) (getD ts e 0) (getD us e 0) time
@@ -268,7 +269,7 @@ module _ (ks vs ss n0 n1 n2 n3 os ts us : List ℕ) (total : ℕ) (stack : List 
             below = omega (arith, w .below, y .1);
             early = omega (arith, w .early, site-time e (getD ks e 0) (getD os e 0) (getD ts e 0) (getD us e 0) time);
             after = rw (y .0) (w .after ∙ strings-more s p i n h);
-            same = λ d m. rw (y .0) (way-turn (with-marks m) total stack depth s at n (w .same d m) h e f' d t (either (eqb (getD vs e 0) 1) led refl refl (sym u ∙ z)) on (rw (← q) l));
+            same = λ c ix d m. rw (y .0) (way-turn (with-marks m) total stack depth s at n (w .same c ix d m) h e (f' c ix) d t (either (eqb (getD vs e 0) 1) led refl refl (sym u ∙ z)) on (rw (← q) l));
           })
         where
           either : (c k : Bool) → eqb (getD vs e 0) 1 ≡ c → led ≡ k → not c && not k ≡ false → (getD vs e 0 ≡ 1) ⊎ (led ≡ true)
@@ -279,7 +280,7 @@ module _ (ks vs ss n0 n1 n2 n3 os ts us : List ℕ) (total : ℕ) (stack : List 
   pub walking-end : (i p scope time : ℕ) (led : Bool) → Walking i p scope time led → n ≤ i → Arrived (wayed 0 scope time p)
   walking-end i p scope time led w h =
       record {
-        same = λ d m. way-end (with-marks m) total stack depth s at n (w .same d m) h p;
+        same = λ c ix d m. way-end (with-marks m) total stack depth s at n (w .same c ix d m) h p;
         time = w .early;
         next = λ k. sym (w .after ∙ strings-none s p i n h);
         below = omega (arith, w .below, w .within);

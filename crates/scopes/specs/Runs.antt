@@ -2,6 +2,7 @@
 use native.Mathlib.Omega.{arith}
 use mathlib.Core.Path.{_≡_, refl, ap, sym, subst, _∙_}
 use mathlib.Core.List.{List, [], _∷_}
+use lib.ListN.{getD-replicate}
 use Rattle.scopes.specs.declared.Tree.{Tree}
 use Rattle.scopes.specs.declared.Answer.{Answer as Told}
 use Rattle.scopes.specs.declared.Outcome.{Outcome}
@@ -9,6 +10,7 @@ use Rattle.scopes.specs.Step.{Answer, step, run}
 use Rattle.scopes.specs.Flat.{Flat, flat, first-flat, flattened}
 use Rattle.scopes.specs.Form.{Request, call-of, calls-of}
 use Rattle.scopes.specs.Rows.{tab}
+use Rattle.scopes.specs.Index.{last-of}
 use Rattle.scopes.specs.Nav.{stack-of}
 use Rattle.scopes.specs.Trees.{cleared, told, Good, flat-of}
 use Rattle.scopes.specs.Meets.{Meets, Answers}
@@ -30,7 +32,14 @@ unfolding tab stack-of
 first-is = refl
 
 pub first-good : Good cleared
-first-good = record { small = omega arith; shallow = omega arith; doors = λ j h. absurd (omega arith) }
+unfolding last-of
+first-good =
+    record {
+      small = omega arith;
+      shallow = omega arith;
+      doors = λ j h. absurd (omega arith);
+      indexed = record { heads = λ b h. getD-replicate 1024 b 0 0 h; links = λ i h. absurd (omega arith) };
+    }
 
 -- and each call is a step, so calls are the definition's run
 pub record Ran (t : Tree) (qs : List Request) (u : Tree) (as′ : List Told) : Type 0 where

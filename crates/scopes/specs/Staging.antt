@@ -16,7 +16,8 @@ use Rattle.scopes.specs.declared.look.Place.{Place as Site}
 use Rattle.scopes.specs.declared.stage.Staged.{Staged}
 use Rattle.scopes.specs.declared.stage.Choice.{Choice}
 use Rattle.scopes.specs.Form.{string, local-name, after-element}
-use Rattle.scopes.specs.Rows.{Arrays, name-at, isRow, first-in, looked, site}
+use Rattle.scopes.specs.Rows.{Arrays, name-at, isRow, site}
+use Rattle.scopes.specs.Index.{look-up}
 
 abbrev pub is-at : Spot → Bool
 is-at Nothing = false
@@ -121,11 +122,11 @@ with-choice s here k l c =
 module _ (A : Arrays) (total here scope time : ℕ) where
   -- the entry of that name in the module of the path
   unfoldable pub sought : ℕ → Name → Spot
-  sought k n = first-in (looked (A .scopes) (A .kinds) (A .n0) (A .n1) (A .n2) (A .n3) scope k n) scope time
+  sought k n = look-up A scope time k n
 
   -- whether the current module holds the name
   unfoldable pub occupied : ℕ → Name → Bool
-  occupied k n = is-at (first-in (looked (A .scopes) (A .kinds) (A .n0) (A .n1) (A .n2) (A .n3) here k n) here total)
+  occupied k n = is-at (look-up A here total k n)
 
   abbrev pub inside-of : ℕ → Site
   inside-of e = site e (getD (A .kinds) e 0) (getD (A .origins) e 0) (getD (A .targets) e 0) (getD (A .times) e 0) time
@@ -162,16 +163,16 @@ module _ (A : Arrays) (total here scope time : ℕ) where
 
 -- AS THE CODE HAS IT
 module _ (A : Arrays) (total here scope time k : ℕ) (n l : Name) where
-  pub choice-missing : (r : Spot) → r ≡ first-in (looked (A .scopes) (A .kinds) (A .n0) (A .n1) (A .n2) (A .n3) scope k n) scope time → r ≡ Nothing → no-choice 43 ≡ choice-of A total here scope time k n l
+  pub choice-missing : (r : Spot) → r ≡ look-up A scope time k n → r ≡ Nothing → no-choice 43 ≡ choice-of A total here scope time k n l
   unfolding choice-of sought chosen
   choice-missing r q z = rw (← q, z)
 
-  module _ (e : ℕ) (q : At e ≡ first-in (looked (A .scopes) (A .kinds) (A .n0) (A .n1) (A .n2) (A .n3) scope k n) scope time) where
+  module _ (e : ℕ) (q : At e ≡ look-up A scope time k n) where
     pub choice-private : (getD (A .visible) e 0 ≡ 1 → ⊥) → no-choice 44 ≡ choice-of A total here scope time k n l
     unfolding choice-of sought chosen
     choice-private v = rw (← q, ne-eqb (getD (A .visible) e 0) 1 v)
 
-    module _ (v : getD (A .visible) e 0 ≡ 1) (b : Bool) (o : b ≡ is-at (first-in (looked (A .scopes) (A .kinds) (A .n0) (A .n1) (A .n2) (A .n3) here k l) here total)) where
+    module _ (v : getD (A .visible) e 0 ≡ 1) (b : Bool) (o : b ≡ is-at (look-up A here total k l)) where
       pub choice-occupied : b ≡ true → no-choice 45 ≡ choice-of A total here scope time k n l
       unfolding choice-of sought chosen occupied
       choice-occupied z = rw (← q, eq-eqb (getD (A .visible) e 0) 1 v, ← o, z)

@@ -20,14 +20,15 @@ use Rattle.scopes.specs.declared.look.Spot.the-variants.{At, Nothing}
 use Rattle.scopes.specs.declared.stage.Staged.{Staged}
 use Rattle.scopes.specs.Step.{Answer, ok, marked, refused}
 use Rattle.scopes.specs.Flat.{Entry, Flat}
-use Rattle.scopes.specs.Rows.{tab, tab-agree, Arrays, row, row-at, name-at, first-in, looked}
+use Rattle.scopes.specs.Rows.{tab, tab-agree, Arrays, row, row-at, name-at}
+use Rattle.scopes.specs.Index.{bucket, bucket-below, look-up, key-at, last-of, last-agree, IndexOf}
 use Rattle.scopes.specs.Nav.{stack-of, current-of, Doors}
 use Rattle.scopes.specs.Staging.{is-at}
 
 -- 1,024 cleared places, no module open
 abbrev pub cleared : Tree
 cleared =
-    record { count = 0; kinds = replicate 1024 0; visible = replicate 1024 0; scopes = replicate 1024 0; marks = replicate 1024 0; n0 = replicate 1024 0; n1 = replicate 1024 0; n2 = replicate 1024 0; n3 = replicate 1024 0; origins = replicate 1024 0; targets = replicate 1024 0; times = replicate 1024 0; depth = 0; stack = replicate 9 0 }
+    record { count = 0; kinds = replicate 1024 0; visible = replicate 1024 0; scopes = replicate 1024 0; marks = replicate 1024 0; n0 = replicate 1024 0; n1 = replicate 1024 0; n2 = replicate 1024 0; n3 = replicate 1024 0; origins = replicate 1024 0; targets = replicate 1024 0; times = replicate 1024 0; heads = replicate 1024 0; links = replicate 1024 0; depth = 0; stack = replicate 9 0 }
 
 abbrev pub bit-of : Bool → ℕ
 bit-of true = 1
@@ -42,7 +43,7 @@ told (Refused n) = refused n
 -- THE FLAT TREE OF A RECORD
 abbrev pub arrays-of : Tree → Arrays
 arrays-of t =
-    record { kinds = t .kinds; visible = t .visible; scopes = t .scopes; marks = t .marks; n0 = t .n0; n1 = t .n1; n2 = t .n2; n3 = t .n3; origins = t .origins; targets = t .targets; times = t .times }
+    record { kinds = t .kinds; visible = t .visible; scopes = t .scopes; marks = t .marks; n0 = t .n0; n1 = t .n1; n2 = t .n2; n3 = t .n3; origins = t .origins; targets = t .targets; times = t .times; heads = t .heads; links = t .links }
 
 abbrev pub rows : Tree → ℕ → Entry
 rows t = row-at (arrays-of t)
@@ -58,6 +59,7 @@ pub record Good (t : Tree) : Type 0 where
   pub small : t .count ≤ 1024
   pub shallow : t .depth ≤ 9
   pub doors : Doors (t .stack) (t .depth) (t .count)
+  pub indexed : IndexOf (arrays-of t) (t .count)
 
 -- the arrays have their lengths
 pub record Sized (t : Tree) : Type 0 where
@@ -72,11 +74,18 @@ pub record Sized (t : Tree) : Type 0 where
   pub origins : length (t .origins) ≡ 1024
   pub targets : length (t .targets) ≡ 1024
   pub times : length (t .times) ≡ 1024
+  pub heads : length (t .heads) ≡ 1024
+  pub links : length (t .links) ≡ 1024
   pub stack : length (t .stack) ≡ 9
 
+last-more : (key : ℕ → ℕ) (b n : ℕ) → last-of key b (suc n) ≡ cond (eqb (key n) b) (suc n) (last-of key b n)
+unfolding last-of
+last-more key b n = refl
+
 -- AN ENTRY MORE
-abbrev pub pushed : Tree → ℕ → ℕ → ℕ → ℕ → Name → ℕ → ℕ → ℕ → Tree
-pushed t k v s m n o a u =
+-- under the hash b
+abbrev pub pushed-under : ℕ → Tree → ℕ → ℕ → ℕ → ℕ → Name → ℕ → ℕ → ℕ → Tree
+pushed-under b t k v s m n o a u =
     record {
       count = t .count + 1;
       kinds = set (t .kinds) (t .count) k;
@@ -90,9 +99,15 @@ pushed t k v s m n o a u =
       origins = set (t .origins) (t .count) o;
       targets = set (t .targets) (t .count) a;
       times = set (t .times) (t .count) u;
+      heads = set (t .heads) b (t .count + 1);
+      links = set (t .links) (t .count) (getD (t .heads) b 0);
       depth = t .depth;
       stack = t .stack;
     }
+
+-- kind, visibility, scope, mark, name, origin, from scope, from time
+abbrev pub pushed : Tree → ℕ → ℕ → ℕ → ℕ → Name → ℕ → ℕ → ℕ → Tree
+pushed t k v s m n o a u = pushed-under (bucket s k n) t k v s m n o a u
 
 same-set : (xs : List ℕ) (i a : ℕ) → length xs ≡ 1024 → i < 1024 → getD (set xs i a) i 0 ≡ a
 same-set xs i a z l = getD-set-same xs i a 0 (rw z l)
@@ -125,8 +140,57 @@ module _ (t : Tree) (k v s m : ℕ) (n : Name) (o a u : ℕ) where
         origins = simp length-set (z .origins);
         targets = simp length-set (z .targets);
         times = simp length-set (z .times);
+        heads = simp length-set (z .heads);
+        links = simp length-set (z .links);
         stack = z .stack;
       }
+
+  -- the index holds the entry too
+  pub push-indexed : Sized t → t .count < 1024 → IndexOf (arrays-of t) (t .count) → IndexOf (arrays-of (pushed t k v s m n o a u)) (t .count + 1)
+  push-indexed z l w = record { heads = heads; links = links }
+    where
+      before : ℕ → ℕ
+      before = key-at (t .scopes) (t .kinds) (t .n0) (t .n1) (t .n2) (t .n3)
+
+      after : ℕ → ℕ
+      after i = let r = pushed t k v s m n o a u in key-at (r .scopes) (r .kinds) (r .n0) (r .n1) (r .n2) (r .n3) i
+
+      kept : (i : ℕ) → i < t .count → after i ≡ before i
+      kept i h =
+          let ne : i ≡ t .count → ⊥ = λ e. omega arith in
+          simp getD-set-other
+
+      last : after (t .count) ≡ bucket s k n
+      last =
+          simp (same-set (t .kinds) (t .count) k (z .kinds) l, same-set (t .scopes) (t .count) s (z .scopes) l, same-set (t .n0) (t .count) (n .w0) (z .n0) l, same-set (t .n1) (t .count) (n .w1) (z .n1) l, same-set (t .n2) (t .count) (n .w2) (z .n2) l, same-set (t .n3) (t .count) (n .w3) (z .n3) l)
+
+      agree : (b i : ℕ) → i ≤ t .count → last-of after b i ≡ last-of before b i
+      agree b i h = last-agree after before b i (λ j y. kept j (omega arith))
+
+      heads : (h : ℕ) → h < 1024 → getD (set (t .heads) (bucket s k n) (t .count + 1)) h 0 ≡ last-of after h (t .count + 1)
+      heads h y = rw (add-one, head-step) (go (eqb (bucket s k n) h) refl)
+        where
+          head-step : last-of after h (suc (t .count)) ≡ cond (eqb (after (t .count)) h) (suc (t .count)) (last-of after h (t .count))
+          head-step = last-more after h (t .count)
+
+          go : (u : Bool) → eqb (bucket s k n) h ≡ u → getD (set (t .heads) (bucket s k n) (suc (t .count))) h 0 ≡ cond (eqb (after (t .count)) h) (suc (t .count)) (last-of after h (t .count))
+          go true e =
+              let q = borrow.Author.Tests.eqb-true (bucket s k n) h e in
+              rw (last, e, ← q) (same-set (t .heads) (bucket s k n) (suc (t .count)) (z .heads) (bucket-below s k n))
+          go false e =
+              let ne : h ≡ bucket s k n → ⊥ = λ q. borrow.Author.Tests.eqb-false (bucket s k n) h e (sym q) in
+              rw (last, e) (getD-set-other (t .heads) (bucket s k n) h (suc (t .count)) 0 ne ∙ w .heads h y ∙ sym (agree h (t .count) (omega arith)))
+
+      links : (i : ℕ) → i < t .count + 1 → getD (set (t .links) (t .count) (getD (t .heads) (bucket s k n) 0)) i 0 ≡ last-of after (after i) i
+      links i y = go (native.Mathlib.Decide.decLt i (t .count))
+        where
+          go : Dec (i < t .count) → getD (set (t .links) (t .count) (getD (t .heads) (bucket s k n) 0)) i 0 ≡ last-of after (after i) i
+          go (yes b) =
+              let ne : i ≡ t .count → ⊥ = λ e. omega arith in
+              getD-set-other (t .links) (t .count) i (getD (t .heads) (bucket s k n) 0) 0 ne ∙ w .links i b ∙ ap (λ (h : ℕ). last-of before h i) (sym (kept i b)) ∙ sym (agree (after i) i (omega arith))
+          go (no b) =
+              let e : i ≡ t .count = omega arith in
+              rw (e, last) (same-set (t .links) (t .count) (getD (t .heads) (bucket s k n) 0) (z .links) l ∙ w .heads (bucket s k n) (bucket-below s k n) ∙ sym (agree (bucket s k n) (t .count) (omega arith)))
 
 -- DECLARATIONS
 abbrev pub refusing : ℕ → Tree → Outcome
@@ -140,7 +204,7 @@ here-of t = current-of (t .stack) (t .depth)
 
 -- the entry of a kind and a name in the current module
 unfoldable pub current-spot : Tree → ℕ → Name → Spot
-current-spot t k n = first-in (looked (t .scopes) (t .kinds) (t .n0) (t .n1) (t .n2) (t .n3) (here-of t) k n) (here-of t) (t .count)
+current-spot t k n = look-up (arrays-of t) (here-of t) (t .count) k n
 
 abbrev pub declared-in : Tree → ℕ → Bool → ℕ → Name → Tree
 declared-in t k v m n = pushed t k (bit-of v) (here-of t) m n 0 0 0
@@ -174,7 +238,7 @@ outcome-of = ended (λ t. t)
 -- the last entry opened
 abbrev pub opened-last : Tree → Tree
 opened-last t =
-    record { count = t .count; kinds = t .kinds; visible = t .visible; scopes = t .scopes; marks = t .marks; n0 = t .n0; n1 = t .n1; n2 = t .n2; n3 = t .n3; origins = t .origins; targets = t .targets; times = t .times; depth = t .depth + 1; stack = set (t .stack) (t .depth) (t .count) }
+    record { count = t .count; kinds = t .kinds; visible = t .visible; scopes = t .scopes; marks = t .marks; n0 = t .n0; n1 = t .n1; n2 = t .n2; n3 = t .n3; origins = t .origins; targets = t .targets; times = t .times; heads = t .heads; links = t .links; depth = t .depth + 1; stack = set (t .stack) (t .depth) (t .count) }
 
 abbrev pub mark-at : Tree → Spot → Told
 mark-at t Nothing = Refused 43
@@ -203,10 +267,11 @@ pub record Committed (t : Tree) (s : Staged) (h v n : ℕ) : Type 0 where
   pub stack : committed t s h v n .stack ≡ t .stack
   pub sized : Sized (committed t s h v n)
   pub entries : entries-of (committed t s h v n) ≡ entries-of t ++ tab (staged-row v h s) n
+  pub indexed : IndexOf (arrays-of t) (t .count) → IndexOf (arrays-of (committed t s h v n)) (committed t s h v n .count)
 
 pub commits : (t : Tree) (s : Staged) (h v n : ℕ) → Sized t → t .count + n ≤ 1024 → Committed t s h v n
 unfolding committed tab
-commits t s h v zero z l = record { count = sym (native.Mathlib.Nat.add-zero (t .count)); depth = refl; stack = refl; sized = z; entries = sym (append-nil (entries-of t)) }
+commits t s h v zero z l = record { count = sym (native.Mathlib.Nat.add-zero (t .count)); depth = refl; stack = refl; sized = z; entries = sym (append-nil (entries-of t)); indexed = λ w. w }
 commits t s h v (suc n) z l =
     let c = commits t s h v n z (omega arith) in
     let x = committed t s h v n in
@@ -217,6 +282,7 @@ commits t s h v (suc n) z l =
       stack = c .stack;
       sized = push-sized x (getD (s .kinds) n 0) v h (getD (s .marks) n 0) (name-at (s .n0) (s .n1) (s .n2) (s .n3) n) (getD (s .origins) n 0) (getD (s .targets) n 0) (getD (s .times) n 0) (c .sized);
       entries = p ∙ rw (c .entries, append-assoc);
+      indexed = λ w. push-indexed x (getD (s .kinds) n 0) v h (getD (s .marks) n 0) (name-at (s .n0) (s .n1) (s .n2) (s .n3) n) (getD (s .origins) n 0) (getD (s .targets) n 0) (getD (s .times) n 0) (c .sized) (omega (arith, c .count)) (c .indexed w);
     }
 
 -- AS THE CODE HAS IT
@@ -229,7 +295,7 @@ unfolding ended
 ended-yes f a z = rw (borrow.Author.Tests.eq-eqb (a .number) 0 z)
 
 abbrev spot-at : Tree → ℕ → ℕ → Name → Spot
-spot-at t h k n = first-in (looked (t .scopes) (t .kinds) (t .n0) (t .n1) (t .n2) (t .n3) h k n) h (t .count)
+spot-at t h k n = look-up (arrays-of t) h (t .count) k n
 
 module _ (t : Tree) (s : List ℕ) (k : ℕ) {b : Bool} (i : b ≡ isIdentifier s) where
   pub get-bad : b ≡ false → Refused 5 ≡ got-of t s k
@@ -283,8 +349,8 @@ module _ (t : Tree) (s : List ℕ) (k twice : ℕ) (v : Bool) (m deepest : ℕ) 
             pub add-open : deepest < t .depth → no-entry 51 t ≡ added-of t s k twice v m deepest
             add-open g = rw (z, borrow.Author.Tests.lt-leb 1024 (t .count) l, borrow.Author.Tests.lt-ltb deepest (t .depth) g) at rest
 
-            pub add-made : t .depth ≤ deepest → (x : ℕ) → x ≡ bit-of v → no-entry 0 (pushed t k x h m n 0 0 0) ≡ added-of t s k twice v m deepest
-            add-made g x f = rw f (rw (z, borrow.Author.Tests.lt-leb 1024 (t .count) l, borrow.Author.Tests.le-ltb deepest (t .depth) g) at rest)
+            pub add-made : t .depth ≤ deepest → (x : ℕ) → x ≡ bit-of v → (y : ℕ) → (y ≡ bucket h k n) × (y < 1024) → no-entry 0 (pushed-under y t k x h m n 0 0 0) ≡ added-of t s k twice v m deepest
+            add-made g x f y j = rw (f, j .0) (rw (z, borrow.Author.Tests.lt-leb 1024 (t .count) l, borrow.Author.Tests.le-ltb deepest (t .depth) g) at rest)
 
 -- the loop of a commit: t is the tree with the first i staged entries
 pub record Counting (t₀ : Tree) (s : Staged) (h v : ℕ) (t : Tree) (i : ℕ) : Type 0 where
@@ -298,16 +364,17 @@ module _ (t₀ : Tree) (s : Staged) (h v : ℕ) where
   counting-start = record { within = omega arith; count = omega arith; same = refl }
 
   module _ (t : Tree) (i : ℕ) (w : Counting t₀ s h v t i) where
-    pub counting-turn : i < s .count
-        → Counting t₀ s h v (pushed t (getD (s .kinds) i 0) v h (getD (s .marks) i 0) (name-at (s .n0) (s .n1) (s .n2) (s .n3) i) (getD (s .origins) i 0) (getD (s .targets) i 0) (getD (s .times) i 0)) (i + 1)
+    pub counting-turn : i < s .count → (b : ℕ) → (b ≡ bucket h (getD (s .kinds) i 0) (name-at (s .n0) (s .n1) (s .n2) (s .n3) i)) × (b < 1024)
+        → Counting t₀ s h v (pushed-under b t (getD (s .kinds) i 0) v h (getD (s .marks) i 0) (name-at (s .n0) (s .n1) (s .n2) (s .n3) i) (getD (s .origins) i 0) (getD (s .targets) i 0) (getD (s .times) i 0)) (i + 1)
     unfolding committed
-    counting-turn l =
-        record {
+    counting-turn l b e =
+        rw (e .0)
+        (record {
           within = omega arith;
           count = omega (arith, w .count);
           same = ap (λ (x : Tree). pushed x (getD (s .kinds) i 0) v h (getD (s .marks) i 0) (name-at (s .n0) (s .n1) (s .n2) (s .n3) i) (getD (s .origins) i 0) (getD (s .targets) i 0) (getD (s .times) i 0)) (w .same)
               ∙ ap (λ (n : ℕ). committed t₀ s h v n) (sym (add-one i));
-        }
+        })
 
     pub counting-end : s .count ≤ i → t ≡ committed t₀ s h v (s .count)
     counting-end l = let e : i ≡ s .count = omega (arith, w .within) in w .same ∙ ap (λ (n : ℕ). committed t₀ s h v n) e

@@ -19,7 +19,8 @@ use Rattle.scopes.specs.Step.{used, head, Elem, got, Tried, done, fail, 
 use Rattle.scopes.specs.Register.{is}
 use Rattle.scopes.specs.Flat.{copy, Entry, Flat, Place, inside, look, flat, top}
 use Rattle.scopes.specs.Form.{string, local-name, after-element, element-at, elements-from}
-use Rattle.scopes.specs.Rows.{tab, tab-agree, length-tab, Arrays, row, row-at, isOwn, isRow, hit, first-in, looked, spotted, find-spot, placed, inside-site, found-at}
+use Rattle.scopes.specs.Rows.{tab, tab-agree, length-tab, Arrays, row, row-at, isOwn, isRow, hit, first-in, looked, spotted, find-spot, placed, inside-site}
+use Rattle.scopes.specs.Index.{look-up, IndexOf, spot-found, spot-first}
 use Rattle.scopes.specs.Staging.{is-at, any-to, numbered, put, staged-test, staged-held, no-choice, with-choice, sought, occupied, inside-of, chosen, choice-of, staged-item, verdict-of, staged-element, staged-all, item-count, element-count}
 use Rattle.scopes.specs.Trees.{staged-row}
 
@@ -120,7 +121,7 @@ whole-sized A total here scope time s z n l =
     (item-sized _ here 2 l (choice-of A total here scope time 2 n l) (item-sized s here 1 l (choice-of A total here scope time 1 n l) z)))
 
 -- ITEMS, ELEMENTS, USES
-module _ (A : Arrays) (total here scope time : ℕ) (ss : List ℕ) (hh : top ss ≡ here) (le : here ≤ total) (v : ℕ) where
+module _ (A : Arrays) (total here scope time : ℕ) (ss : List ℕ) (hh : top ss ≡ here) (le : here ≤ total) (v : ℕ) (few : total ≤ 1024) (soon : time ≤ total) (ix : IndexOf A total) where
   -- the flat tree with what is staged
   abbrev pub state : Staged → Flat
   state s = record { entries = tab (row-at A) total ++ tab (staged-row v here s) (s .count); stack = ss }
@@ -139,8 +140,9 @@ module _ (A : Arrays) (total here scope time : ℕ) (ss : List ℕ) (hh : top ss
       let E = tab (row-at A) total in
       let P = tab (staged-row v here s) (s .count) in
       let b : here ≤ length E = rw length-tab le in
-      let x : any-hit here k l (drop here E) ≡ is-at (first-in (looked (A .scopes) (A .kinds) (A .n0) (A .n1) (A .n2) (A .n3) here k l) here total) =
-      sym (look-any E k l here here (drop here E)) ∙ ap is-got (find-spot (row-at A) total here k l) ∙ spotted-got (row-at A) total (first-in (looked (A .scopes) (A .kinds) (A .n0) (A .n1) (A .n2) (A .n3) here k l) here total) in
+      let x : any-hit here k l (drop here E) ≡ is-at (look-up A here total k l) =
+      sym (look-any E k l here here (drop here E)) ∙ ap is-got (find-spot (row-at A) total here k l) ∙ spotted-got (row-at A) total (first-in (looked (A .scopes) (A .kinds) (A .n0) (A .n1) (A .n2) (A .n3) here k l) here total)
+      ∙ ap is-at (sym (spot-first ix few here total k l (omega arith))) in
       rw hh
       (look-any (E ++ P) k l here here (drop here (E ++ P)) ∙ ap (any-hit here k l) (drop-append-le here E P b) ∙ any-append here k l (drop here E) P
       ∙ rw (x, any-tab here k l (staged-row v here s) (s .count)))
@@ -148,7 +150,7 @@ module _ (A : Arrays) (total here scope time : ℕ) (ss : List ℕ) (hh : top ss
   kind-of : (k : ℕ) (n : Name) (e : ℕ) → sought A total here scope time k n ≡ At e → getD (A .kinds) e 0 ≡ k
   unfolding sought isRow
   kind-of k n e q =
-      let f = found-at _ scope time e q in
+      let f = spot-found (A .heads) (A .links) (A .scopes) (A .kinds) (A .n0) (A .n1) (A .n2) (A .n3) scope time k n e q in
       eqb-true (getD (A .kinds) e 0) k (part (eqb (getD (A .scopes) e 0) scope) (eqb (getD (A .kinds) e 0) k) _ (f .holds))
     where
       part : (a b c : Bool) → a && (b && c) ≡ true → b ≡ true
@@ -209,7 +211,9 @@ module _ (A : Arrays) (total here scope time : ℕ) (ss : List ℕ) (hh : top ss
 
     pub item-same : (k : ℕ) (n l : Name) → import flat (eqb v 1) l (state s) (flat .find (placed (row-at A) scope time) k n) ≡ tried (staged-item A total here scope time s k n l)
     unfolding choice-of sought
-    item-same k n l = ap (import flat (eqb v 1) l (state s)) (find-spot (row-at A) time scope k n) ∙ item-found k n l (sought A total here scope time k n) refl
+    item-same k n l =
+        ap (import flat (eqb v 1) l (state s)) (find-spot (row-at A) time scope k n ∙ ap (spotted (row-at A) time) (sym (spot-first ix few scope time k n soon)))
+        ∙ item-found k n l (sought A total here scope time k n) refl
 
     -- what is staged after an item
     pub item-after : (k : ℕ) (n l : Name) → after (tried (staged-item A total here scope time s k n l)) (state s) ≡ state (staged-item A total here scope time s k n l)

@@ -130,11 +130,11 @@ module _ (t : Tree) (s : List ℕ) (v : Bool) where
       use-no-crate z = refused-meets t (resolves-use s v) 40 (λ g. stepped ∙ rw (led, z))
 
       module _ (bz : b ≡ true) (a : ℕ) (aq : (a ≡ after-string s 1) × (a ≤ 1 + 256)) (w : Way)
-          (wq : Arrived (t .kinds) (t .visible) (t .scopes) (t .n0) (t .n1) (t .n2) (t .n3) (t .origins) (t .targets) (t .times) (t .count) (t .stack) (t .depth) s a (n - 1) w) where
+          (wq : Arrived (t .kinds) (t .visible) (t .scopes) (t .n0) (t .n1) (t .n2) (t .n3) (t .origins) (t .targets) (t .times) (t .heads) (t .links) (t .count) (t .stack) (t .depth) s a (n - 1) w) where
         walk : Good t → nav flat (shared (flat .names (flat-of t)) path) 0 path (flat .root (flat-of t)) ≡ way (rows t) w
         walk g =
             let p : pred (getD s 0 0) ≡ n - 1 = omega (arith, nq .0) in
-            rw (p, ← aq .0) (sym (wq .same (g .doors) (t .marks)))
+            rw (p, ← aq .0) (sym (wq .same (g .small) (g .indexed) (g .doors) (t .marks)))
 
         tail : Good t → step flat (flat-of t) (call-of (resolves-use s v)) ≡ settle flat (flat-of t) (bind (way (rows t) w) (λ c. cond (any-main elems) (fail 46) (stage flat c v elems (flat-of t))))
         tail g = stepped ∙ rw (led, bz, walk g)
@@ -191,7 +191,7 @@ module _ (t : Tree) (s : List ℕ) (v : Bool) where
               unfolding tab
               staged-is g =
                   let e : _≡_ {A = Flat} (flat-of t) (record { entries = entries-of t ++ []; stack = stack-of (t .stack) (t .depth) }) = ap (λ (l : List Entry). record { entries = l; stack = stack-of (t .stack) (t .depth) }) (sym (append-nil (entries-of t))) in
-                  let z = stage-same (arrays-of t) (t .count) h (w .scope) (w .time) (stack-of (t .stack) (t .depth)) top-is (top-le g) (bit-of v) s m (w .next + 1) (refusal 0) nothing-sized (omega (arith, few)) refl in
+                  let z = stage-same (arrays-of t) (t .count) h (w .scope) (w .time) (stack-of (t .stack) (t .depth)) top-is (top-le g) (bit-of v) (g .small) (wq .time) (g .indexed) s m (w .next + 1) (refusal 0) nothing-sized (omega (arith, few)) refl in
                   ap (stage flat (placed (rows t) (w .scope) (w .time)) v (elements-from s m (w .next + 1))) e
                   ∙ (rw (bit-is, ← rq) at z)
 
@@ -219,6 +219,7 @@ module _ (t : Tree) (s : List ℕ) (v : Bool) where
                     (λ g. record {
                       small = omega (arith, c .count);
                       shallow = rw (c .depth) (g .shallow);
+                      indexed = c .indexed (g .indexed);
                       doors = λ j k. rw (c .stack) (g .doors j (rw (c .depth) at k) .0, omega (arith, c .count, g .doors j (rw (c .depth) at k) .1));
                     })
                     (λ g.

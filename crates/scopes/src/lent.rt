@@ -1,5 +1,5 @@
 // The tree calls over arrays that the caller lends: for a walk that keeps a tree in arrays of its own and copies no record. `count` and
-// the eleven arrays are the entries, `depth` and `stack` the open modules, as in a `Tree`; `lent` in a contract is the record of
+// the thirteen arrays are the entries, `depth` and `stack` the open modules, as in a `Tree`; `lent` in a contract is the record of
 // them. A call answers 0 or a number, and where it answers a number, all that was lent is as it was.
 ghost use mathlib.Core.Path.{_≡_};
 ghost use mathlib.Core.List.{[]};
@@ -32,6 +32,8 @@ fn declare(
     origins: &mut [u16; 1024],
     targets: &mut [u16; 1024],
     times: &mut [u16; 1024],
+    heads: &mut [u16; 1024],
+    links: &mut [u16; 1024],
     depth: usize,
     stack: &[u16; 9],
     name: &[u8],
@@ -41,7 +43,7 @@ fn declare(
     mark: u16,
     deepest: usize,
 ) -> u8
-    ensures { λ r. ⌜ no-entry r (lent (now (count .exit)) (now (kinds .exit)) (now (visible .exit)) (now (scopes .exit)) (now (marks .exit)) (now (n0 .exit)) (now (n1 .exit)) (now (n2 .exit)) (now (n3 .exit)) (now (origins .exit)) (now (targets .exit)) (now (times .exit)) depth (now (stack .entry))) ≡ added-of (lent (now (count .entry)) (now (kinds .entry)) (now (visible .entry)) (now (scopes .entry)) (now (marks .entry)) (now (n0 .entry)) (now (n1 .entry)) (now (n2 .entry)) (now (n3 .entry)) (now (origins .entry)) (now (targets .entry)) (now (times .entry)) depth (now (stack .entry))) (now (name .entry)) kind twice public mark deepest ⌝ }
+    ensures { λ r. ⌜ no-entry r (lent (now (count .exit)) (now (kinds .exit)) (now (visible .exit)) (now (scopes .exit)) (now (marks .exit)) (now (n0 .exit)) (now (n1 .exit)) (now (n2 .exit)) (now (n3 .exit)) (now (origins .exit)) (now (targets .exit)) (now (times .exit)) (now (heads .exit)) (now (links .exit)) depth (now (stack .entry))) ≡ added-of (lent (now (count .entry)) (now (kinds .entry)) (now (visible .entry)) (now (scopes .entry)) (now (marks .entry)) (now (n0 .entry)) (now (n1 .entry)) (now (n2 .entry)) (now (n3 .entry)) (now (origins .entry)) (now (targets .entry)) (now (times .entry)) (now (heads .entry)) (now (links .entry)) depth (now (stack .entry))) (now (name .entry)) kind twice public mark deepest ⌝ }
 {
     if names::is_identifier(name) {} else {
         return 5;
@@ -55,7 +57,20 @@ fn declare(
     }
     let n = names::name_of(name);
     let here = look::current(stack, depth);
-    if look::is_held(&*scopes, &*kinds, &*n0, &*n1, &*n2, &*n3, here, at, kind, n) {
+    if look::is_held(
+        &*heads,
+        &*links,
+        &*scopes,
+        &*kinds,
+        &*n0,
+        &*n1,
+        &*n2,
+        &*n3,
+        here,
+        at,
+        kind,
+        n,
+    ) {
         return twice;
     }
     if 1024 <= at {
@@ -76,6 +91,9 @@ fn declare(
     origins[at] = 0;
     targets[at] = 0;
     times[at] = 0;
+    let b = look::bucket(here, kind, n);
+    links[at] = heads[b];
+    heads[b] = (at + 1) as u16;
     *count = at + 1;
     0
 }
@@ -95,6 +113,8 @@ pub fn insert(
     origins: &mut [u16; 1024],
     targets: &mut [u16; 1024],
     times: &mut [u16; 1024],
+    heads: &mut [u16; 1024],
+    links: &mut [u16; 1024],
     depth: usize,
     stack: &[u16; 9],
     item: u8,
@@ -102,7 +122,7 @@ pub fn insert(
     public: bool,
     mark: u16,
 ) -> u8
-    ensures { λ r. ⌜ Keeps (lent (now (count .entry)) (now (kinds .entry)) (now (visible .entry)) (now (scopes .entry)) (now (marks .entry)) (now (n0 .entry)) (now (n1 .entry)) (now (n2 .entry)) (now (n3 .entry)) (now (origins .entry)) (now (targets .entry)) (now (times .entry)) depth (now (stack .entry))) (declares item (now (name .entry)) public mark) r (lent (now (count .exit)) (now (kinds .exit)) (now (visible .exit)) (now (scopes .exit)) (now (marks .exit)) (now (n0 .exit)) (now (n1 .exit)) (now (n2 .exit)) (now (n3 .exit)) (now (origins .exit)) (now (targets .exit)) (now (times .exit)) depth (now (stack .entry))) ⌝ }
+    ensures { λ r. ⌜ Keeps (lent (now (count .entry)) (now (kinds .entry)) (now (visible .entry)) (now (scopes .entry)) (now (marks .entry)) (now (n0 .entry)) (now (n1 .entry)) (now (n2 .entry)) (now (n3 .entry)) (now (origins .entry)) (now (targets .entry)) (now (times .entry)) (now (heads .entry)) (now (links .entry)) depth (now (stack .entry))) (declares item (now (name .entry)) public mark) r (lent (now (count .exit)) (now (kinds .exit)) (now (visible .exit)) (now (scopes .exit)) (now (marks .exit)) (now (n0 .exit)) (now (n1 .exit)) (now (n2 .exit)) (now (n3 .exit)) (now (origins .exit)) (now (targets .exit)) (now (times .exit)) (now (heads .exit)) (now (links .exit)) depth (now (stack .entry))) ⌝ }
 {
     if item == 2 {
         return declare(
@@ -118,6 +138,8 @@ pub fn insert(
             &mut *origins,
             &mut *targets,
             &mut *times,
+            &mut *heads,
+            &mut *links,
             depth,
             stack,
             name,
@@ -141,6 +163,8 @@ pub fn insert(
         &mut *origins,
         &mut *targets,
         &mut *times,
+        &mut *heads,
+        &mut *links,
         depth,
         stack,
         name,
@@ -166,13 +190,15 @@ pub fn enter(
     origins: &mut [u16; 1024],
     targets: &mut [u16; 1024],
     times: &mut [u16; 1024],
+    heads: &mut [u16; 1024],
+    links: &mut [u16; 1024],
     depth: &mut usize,
     stack: &mut [u16; 9],
     name: &[u8],
     public: bool,
     mark: u16,
 ) -> u8
-    ensures { λ r. ⌜ Keeps (lent (now (count .entry)) (now (kinds .entry)) (now (visible .entry)) (now (scopes .entry)) (now (marks .entry)) (now (n0 .entry)) (now (n1 .entry)) (now (n2 .entry)) (now (n3 .entry)) (now (origins .entry)) (now (targets .entry)) (now (times .entry)) (now (depth .entry)) (now (stack .entry))) (enters (now (name .entry)) public mark) r (lent (now (count .exit)) (now (kinds .exit)) (now (visible .exit)) (now (scopes .exit)) (now (marks .exit)) (now (n0 .exit)) (now (n1 .exit)) (now (n2 .exit)) (now (n3 .exit)) (now (origins .exit)) (now (targets .exit)) (now (times .exit)) (now (depth .exit)) (now (stack .exit))) ⌝ }
+    ensures { λ r. ⌜ Keeps (lent (now (count .entry)) (now (kinds .entry)) (now (visible .entry)) (now (scopes .entry)) (now (marks .entry)) (now (n0 .entry)) (now (n1 .entry)) (now (n2 .entry)) (now (n3 .entry)) (now (origins .entry)) (now (targets .entry)) (now (times .entry)) (now (heads .entry)) (now (links .entry)) (now (depth .entry)) (now (stack .entry))) (enters (now (name .entry)) public mark) r (lent (now (count .exit)) (now (kinds .exit)) (now (visible .exit)) (now (scopes .exit)) (now (marks .exit)) (now (n0 .exit)) (now (n1 .exit)) (now (n2 .exit)) (now (n3 .exit)) (now (origins .exit)) (now (targets .exit)) (now (times .exit)) (now (heads .exit)) (now (links .exit)) (now (depth .exit)) (now (stack .exit))) ⌝ }
 {
     let d = *depth;
     let number = declare(
@@ -188,6 +214,8 @@ pub fn enter(
         &mut *origins,
         &mut *targets,
         &mut *times,
+        &mut *heads,
+        &mut *links,
         d,
         &*stack,
         name,
@@ -229,12 +257,14 @@ pub fn get<'a>(
     n1: &'a [u64; 1024],
     n2: &'a [u64; 1024],
     n3: &'a [u64; 1024],
+    heads: &'a [u16; 1024],
+    links: &'a [u16; 1024],
     depth: usize,
     stack: &'a [u16; 9],
     name: &'a [u8],
     kind: u8,
 ) -> Answer
-    ensures { λ r. ⌜ Gets count (now (kinds .entry)) (now (scopes .entry)) (now (marks .entry)) (now (n0 .entry)) (now (n1 .entry)) (now (n2 .entry)) (now (n3 .entry)) depth (now (stack .entry)) (now (name .entry)) kind r ⌝ }
+    ensures { λ r. ⌜ Gets count (now (kinds .entry)) (now (scopes .entry)) (now (marks .entry)) (now (n0 .entry)) (now (n1 .entry)) (now (n2 .entry)) (now (n3 .entry)) (now (heads .entry)) (now (links .entry)) depth (now (stack .entry)) (now (name .entry)) kind r ⌝ }
 {
     if names::is_identifier(name) {} else {
         return Answer::Refused(5);
@@ -247,7 +277,20 @@ pub fn get<'a>(
     }
     let n = names::name_of(name);
     let here = look::current(stack, depth);
-    let found = look::find_here(scopes, kinds, n0, n1, n2, n3, here, count, kind, n);
+    let found = look::find_in(
+        heads,
+        links,
+        scopes,
+        kinds,
+        n0,
+        n1,
+        n2,
+        n3,
+        here,
+        count,
+        kind,
+        n,
+    );
     let look::Spot::At(i) = found else {
         return Answer::Refused(43);
     };
@@ -268,12 +311,14 @@ fn commit(
     origins: &mut [u16; 1024],
     targets: &mut [u16; 1024],
     times: &mut [u16; 1024],
+    heads: &mut [u16; 1024],
+    links: &mut [u16; 1024],
     staged: stage::Staged,
     scope: u16,
     public: u8,
 )
     requires { ⌜ (now count + staged .count ≤ 1024) × (staged .count ≤ 96) ⌝ }
-    ensures { λ _. ⌜ Commits (lent (now (count .entry)) (now (kinds .entry)) (now (visible .entry)) (now (scopes .entry)) (now (marks .entry)) (now (n0 .entry)) (now (n1 .entry)) (now (n2 .entry)) (now (n3 .entry)) (now (origins .entry)) (now (targets .entry)) (now (times .entry)) 0 []) (lent (now (count .exit)) (now (kinds .exit)) (now (visible .exit)) (now (scopes .exit)) (now (marks .exit)) (now (n0 .exit)) (now (n1 .exit)) (now (n2 .exit)) (now (n3 .exit)) (now (origins .exit)) (now (targets .exit)) (now (times .exit)) 0 []) staged scope public ⌝ }
+    ensures { λ _. ⌜ Commits (lent (now (count .entry)) (now (kinds .entry)) (now (visible .entry)) (now (scopes .entry)) (now (marks .entry)) (now (n0 .entry)) (now (n1 .entry)) (now (n2 .entry)) (now (n3 .entry)) (now (origins .entry)) (now (targets .entry)) (now (times .entry)) (now (heads .entry)) (now (links .entry)) 0 []) (lent (now (count .exit)) (now (kinds .exit)) (now (visible .exit)) (now (scopes .exit)) (now (marks .exit)) (now (n0 .exit)) (now (n1 .exit)) (now (n2 .exit)) (now (n3 .exit)) (now (origins .exit)) (now (targets .exit)) (now (times .exit)) (now (heads .exit)) (now (links .exit)) 0 []) staged scope public ⌝ }
 {
     let mut i: usize = 0;
     while i < staged.count {
@@ -289,6 +334,15 @@ fn commit(
         origins[at] = staged.origins[i];
         targets[at] = staged.targets[i];
         times[at] = staged.times[i];
+        let n = names::Name {
+            w0: staged.n0[i],
+            w1: staged.n1[i],
+            w2: staged.n2[i],
+            w3: staged.n3[i],
+        };
+        let b = look::bucket(scope, staged.kinds[i], n);
+        links[at] = heads[b];
+        heads[b] = (at + 1) as u16;
         *count = at + 1;
         i += 1;
     }
@@ -310,12 +364,14 @@ pub fn resolve_use<'a>(
     origins: &mut [u16; 1024],
     targets: &mut [u16; 1024],
     times: &mut [u16; 1024],
+    heads: &mut [u16; 1024],
+    links: &mut [u16; 1024],
     depth: usize,
     stack: &'a [u16; 9],
     decl: &'a [u8],
     public: bool,
 ) -> u8
-    ensures { λ r. ⌜ Keeps (lent (now (count .entry)) (now (kinds .entry)) (now (visible .entry)) (now (scopes .entry)) (now (marks .entry)) (now (n0 .entry)) (now (n1 .entry)) (now (n2 .entry)) (now (n3 .entry)) (now (origins .entry)) (now (targets .entry)) (now (times .entry)) depth (now (stack .entry))) (resolves-use (now (decl .entry)) public) r (lent (now (count .exit)) (now (kinds .exit)) (now (visible .exit)) (now (scopes .exit)) (now (marks .exit)) (now (n0 .exit)) (now (n1 .exit)) (now (n2 .exit)) (now (n3 .exit)) (now (origins .exit)) (now (targets .exit)) (now (times .exit)) depth (now (stack .entry))) ⌝ }
+    ensures { λ r. ⌜ Keeps (lent (now (count .entry)) (now (kinds .entry)) (now (visible .entry)) (now (scopes .entry)) (now (marks .entry)) (now (n0 .entry)) (now (n1 .entry)) (now (n2 .entry)) (now (n3 .entry)) (now (origins .entry)) (now (targets .entry)) (now (times .entry)) (now (heads .entry)) (now (links .entry)) depth (now (stack .entry))) (resolves-use (now (decl .entry)) public) r (lent (now (count .exit)) (now (kinds .exit)) (now (visible .exit)) (now (scopes .exit)) (now (marks .exit)) (now (n0 .exit)) (now (n1 .exit)) (now (n2 .exit)) (now (n3 .exit)) (now (origins .exit)) (now (targets .exit)) (now (times .exit)) (now (heads .exit)) (now (links .exit)) depth (now (stack .entry))) ⌝ }
 {
     let number = form::use_form(decl);
     if number != 0 {
@@ -347,6 +403,8 @@ pub fn resolve_use<'a>(
         &*origins,
         &*targets,
         &*times,
+        &*heads,
+        &*links,
         total,
         stack,
         depth,
@@ -373,6 +431,8 @@ pub fn resolve_use<'a>(
         &*origins,
         &*targets,
         &*times,
+        &*heads,
+        &*links,
         total,
         here,
         way.scope,
@@ -405,6 +465,8 @@ pub fn resolve_use<'a>(
         &mut *origins,
         &mut *targets,
         &mut *times,
+        &mut *heads,
+        &mut *links,
         staged,
         here,
         v,

@@ -2,9 +2,9 @@
 ghost use mathlib.Core.Path.{_≡_};
 ghost use Prim.Native.Nat.{_+_, _*_, _<_, _≤_};
 ghost use lib.ListN.{getD};
-ghost use Rattle.scopes.specs.Rows.{isRow, isOwn, first-in, looked, site};
-ghost use Rattle.scopes.specs.Trees.{bit-of};
-ghost use Rattle.scopes.specs.Blocks.{Sieve, Named};
+ghost use mathlib.Core.Bool.{_&&_};
+ghost use Rattle.scopes.specs.Rows.{isRow, isOwn, site};
+ghost use Rattle.scopes.specs.Index.{bucket, place-in, within, spot-of, spot-in};
 ghost use Rattle.scopes.specs.Staging.{is-at};
 ghost use Rattle.scopes.specs.Nav.{barred, leads-on, wayed, current-of, Arrived};
 use crate::form::name_at;
@@ -29,226 +29,102 @@ pub fn is_row(scope0: u16, kind0: u8, name0: Name, scope: u16, kind: u8, name: N
     same_name(name0, name)
 }
 
-// The first entry of a kind and a name in a scope, of those from `from` on and below `to`.
-fn find_between<'a>(
+// The hash of a scope, a kind and a name, by which the index finds entries.
+pub fn bucket(scope: u16, kind: u8, name: Name) -> usize
+    ensures { λ r. ⌜ (r ≡ bucket scope kind name) × (r < 1024) ⌝ }
+{
+    let words = name.w0 % 4294967291
+        + name.w1 % 4294967279
+        + name.w2 % 4294967231
+        + name.w3 % 4294967197;
+    let all = words + (scope as u64) * 65537 + (kind as u64) * 19;
+    (all * 2654435 / 65536 % 1024) as usize
+}
+
+// A place of the index: an entry's number plus one, 0 for none. One past the limit, which no tree has, is none.
+fn place_in(place: u16, limit: usize) -> usize
+    ensures { λ r. ⌜ (r ≡ place-in place limit) × (r ≤ limit) ⌝ }
+{
+    let p = place as usize;
+    if limit < p {
+        return 0;
+    }
+    p
+}
+
+// Whether entry i is the one looked for: of those from the scope's first on and below the time.
+fn is_sought(
+    i: usize,
+    scope0: u16,
+    kind0: u8,
+    name0: Name,
+    scope: u16,
+    time: usize,
+    kind: u8,
+    name: Name,
+) -> bool
+    ensures { λ r. ⌜ r ≡ (within scope time i && isRow scope0 kind0 name0 scope kind name) ⌝ }
+{
+    if i < (scope as usize) {
+        return false;
+    }
+    if i < time {
+        return is_row(scope0, kind0, name0, scope, kind, name);
+    }
+    false
+}
+
+fn spot_of(place: usize) -> Spot
+    ensures { λ r. ⌜ r ≡ spot-of place ⌝ }
+{
+    if place == 0 {
+        return Spot::Nothing;
+    }
+    Spot::At(place - 1)
+}
+
+// The first entry of a kind and a name in a scope, among the first `time` entries: the index leads from the last entry of the hash to
+// ever earlier ones.
+pub fn find_in<'a>(
+    heads: &'a [u16; 1024],
+    links: &'a [u16; 1024],
     scopes: &'a [u16; 1024],
     kinds: &'a [u8; 1024],
     n0: &'a [u64; 1024],
     n1: &'a [u64; 1024],
     n2: &'a [u64; 1024],
     n3: &'a [u64; 1024],
-    from: usize,
-    to: usize,
     scope: u16,
+    time: usize,
     kind: u8,
     name: Name,
 ) -> Spot
-    requires { ⌜ to ≤ 1024 ⌝ }
-    ensures { λ r. ⌜ r ≡ first-in (looked (now (scopes .entry)) (now (kinds .entry)) (now (n0 .entry)) (now (n1 .entry)) (now (n2 .entry)) (now (n3 .entry)) scope kind name) from to ⌝ }
+    ensures { λ r. ⌜ r ≡ spot-in (now (heads .entry)) (now (links .entry)) (now (scopes .entry)) (now (kinds .entry)) (now (n0 .entry)) (now (n1 .entry)) (now (n2 .entry)) (now (n3 .entry)) scope time kind name ⌝ }
 {
-    let mut i = from;
-    while i < to {
+    let b = bucket(scope, kind, name);
+    let mut e = place_in(heads[b], 1024);
+    let mut first: usize = 0;
+    while 0 < e {
+        let i = e - 1;
         let n = Name {
             w0: n0[i],
             w1: n1[i],
             w2: n2[i],
             w3: n3[i],
         };
-        if is_row(scopes[i], kinds[i], n, scope, kind, name) {
-            return Spot::At(i);
+        let to = place_in(links[i], i);
+        if is_sought(i, scopes[i], kinds[i], n, scope, time, kind, name) {
+            first = e;
         }
-        i += 1;
+        e = to;
     }
-    Spot::Nothing
-}
-
-fn one8(b: bool) -> u8
-    ensures { λ r. ⌜ (r ≡ bit-of b) × (r ≤ 1) ⌝ }
-{
-    if b { 1 } else { 0 }
-}
-
-fn one16(b: bool) -> u16
-    ensures { λ r. ⌜ (r ≡ bit-of b) × (r ≤ 1) ⌝ }
-{
-    if b { 1 } else { 0 }
-}
-
-fn one64(b: bool) -> u64
-    ensures { λ r. ⌜ (r ≡ bit-of b) × (r ≤ 1) ⌝ }
-{
-    if b { 1 } else { 0 }
-}
-
-// Whether some entry from `from` on and below `to` has the kind: all are counted, so that many go at once.
-fn any_kind<'a>(kinds: &'a [u8; 1024], from: usize, to: usize, kind: u8) -> bool
-    requires { ⌜ (to ≤ from + 64) × (to ≤ 1024) ⌝ }
-    ensures { λ r. ⌜ Sieve (now (kinds .entry)) from to kind r ⌝ }
-{
-    let mut n: u8 = 0;
-    let mut i = from;
-    while i < to {
-        n = n + one8(kinds[i] == kind);
-        i += 1;
-    }
-    if n == 0 {
-        return false;
-    }
-    true
-}
-
-// Whether some entry there stands in the scope.
-fn any_in<'a>(scopes: &'a [u16; 1024], from: usize, to: usize, scope: u16) -> bool
-    requires { ⌜ (to ≤ from + 64) × (to ≤ 1024) ⌝ }
-    ensures { λ r. ⌜ Sieve (now (scopes .entry)) from to scope r ⌝ }
-{
-    let mut n: u16 = 0;
-    let mut i = from;
-    while i < to {
-        n = n + one16(scopes[i] == scope);
-        i += 1;
-    }
-    if n == 0 {
-        return false;
-    }
-    true
-}
-
-// The same of a word of the names.
-fn any_of<'a>(words: &'a [u64; 1024], from: usize, to: usize, word: u64) -> bool
-    requires { ⌜ (to ≤ from + 64) × (to ≤ 1024) ⌝ }
-    ensures { λ r. ⌜ Sieve (now (words .entry)) from to word r ⌝ }
-{
-    let mut n: u64 = 0;
-    let mut i = from;
-    while i < to {
-        n = n + one64(words[i] == word);
-        i += 1;
-    }
-    if n == 0 {
-        return false;
-    }
-    true
-}
-
-// Whether some entry there may have the name: its last word that isn't zero is looked for, where names differ most.
-fn any_named<'a>(
-    n0: &'a [u64; 1024],
-    n1: &'a [u64; 1024],
-    n2: &'a [u64; 1024],
-    n3: &'a [u64; 1024],
-    from: usize,
-    to: usize,
-    name: Name,
-) -> bool
-    requires { ⌜ (to ≤ from + 64) × (to ≤ 1024) ⌝ }
-    ensures { λ r. ⌜ Named (now (n0 .entry)) (now (n1 .entry)) (now (n2 .entry)) (now (n3 .entry)) from to name r ⌝ }
-{
-    if name.w3 != 0 {
-        return any_of(n3, from, to, name.w3);
-    }
-    if name.w2 != 0 {
-        return any_of(n2, from, to, name.w2);
-    }
-    if name.w1 != 0 {
-        return any_of(n1, from, to, name.w1);
-    }
-    any_of(n0, from, to, name.w0)
-}
-
-// The end of the block of at most 64 entries from i on.
-fn block_end(i: usize, time: usize) -> usize
-    requires { ⌜ (i < time) × (time ≤ 1024) ⌝ }
-    ensures { λ r. ⌜ (i < r) × ((r ≤ time) × (r ≤ i + 64)) ⌝ }
-{
-    let e = i + 64;
-    if e < time {
-        return e;
-    }
-    time
-}
-
-// The first entry of a kind and a name in a scope, among the first `time` entries: block by block, and row by row only where some entry
-// of the block has the kind, some stands in the scope and some may have the name.
-pub fn find_in<'a>(
-    scopes: &'a [u16; 1024],
-    kinds: &'a [u8; 1024],
-    n0: &'a [u64; 1024],
-    n1: &'a [u64; 1024],
-    n2: &'a [u64; 1024],
-    n3: &'a [u64; 1024],
-    scope: u16,
-    time: usize,
-    kind: u8,
-    name: Name,
-) -> Spot
-    requires { ⌜ time ≤ 1024 ⌝ }
-    ensures { λ r. ⌜ r ≡ first-in (looked (now (scopes .entry)) (now (kinds .entry)) (now (n0 .entry)) (now (n1 .entry)) (now (n2 .entry)) (now (n3 .entry)) scope kind name) scope time ⌝ }
-{
-    let mut i = scope as usize;
-    while i < time {
-        let from = i;
-        let to = block_end(from, time);
-        i = to;
-        if any_kind(kinds, from, to, kind) {
-            if any_in(scopes, from, to, scope) {
-                if any_named(n0, n1, n2, n3, from, to, name) {
-                    let found = find_between(
-                        scopes,
-                        kinds,
-                        n0,
-                        n1,
-                        n2,
-                        n3,
-                        from,
-                        to,
-                        scope,
-                        kind,
-                        name,
-                    );
-                    if let Spot::At(j) = found {
-                        return Spot::At(j);
-                    }
-                }
-            }
-        }
-    }
-    Spot::Nothing
-}
-
-// The same, where most entries from the scope's first on stand in it, as in the current module: the names alone tell blocks apart.
-pub fn find_here<'a>(
-    scopes: &'a [u16; 1024],
-    kinds: &'a [u8; 1024],
-    n0: &'a [u64; 1024],
-    n1: &'a [u64; 1024],
-    n2: &'a [u64; 1024],
-    n3: &'a [u64; 1024],
-    scope: u16,
-    time: usize,
-    kind: u8,
-    name: Name,
-) -> Spot
-    requires { ⌜ time ≤ 1024 ⌝ }
-    ensures { λ r. ⌜ r ≡ first-in (looked (now (scopes .entry)) (now (kinds .entry)) (now (n0 .entry)) (now (n1 .entry)) (now (n2 .entry)) (now (n3 .entry)) scope kind name) scope time ⌝ }
-{
-    let mut i = scope as usize;
-    while i < time {
-        let from = i;
-        let to = block_end(from, time);
-        i = to;
-        if any_named(n0, n1, n2, n3, from, to, name) {
-            let found = find_between(scopes, kinds, n0, n1, n2, n3, from, to, scope, kind, name);
-            if let Spot::At(j) = found {
-                return Spot::At(j);
-            }
-        }
-    }
-    Spot::Nothing
+    spot_of(first)
 }
 
 // Whether a scope holds a kind and a name, among the first `time` entries.
 pub fn is_held<'a>(
+    heads: &'a [u16; 1024],
+    links: &'a [u16; 1024],
     scopes: &'a [u16; 1024],
     kinds: &'a [u8; 1024],
     n0: &'a [u64; 1024],
@@ -260,10 +136,22 @@ pub fn is_held<'a>(
     kind: u8,
     name: Name,
 ) -> bool
-    requires { ⌜ time ≤ 1024 ⌝ }
-    ensures { λ r. ⌜ r ≡ is-at (first-in (looked (now (scopes .entry)) (now (kinds .entry)) (now (n0 .entry)) (now (n1 .entry)) (now (n2 .entry)) (now (n3 .entry)) scope kind name) scope time) ⌝ }
+    ensures { λ r. ⌜ r ≡ is-at (spot-in (now (heads .entry)) (now (links .entry)) (now (scopes .entry)) (now (kinds .entry)) (now (n0 .entry)) (now (n1 .entry)) (now (n2 .entry)) (now (n3 .entry)) scope time kind name) ⌝ }
 {
-    let found = find_here(scopes, kinds, n0, n1, n2, n3, scope, time, kind, name);
+    let found = find_in(
+        heads,
+        links,
+        scopes,
+        kinds,
+        n0,
+        n1,
+        n2,
+        n3,
+        scope,
+        time,
+        kind,
+        name,
+    );
     if let Spot::At(_) = found {
         return true;
     }
@@ -409,6 +297,8 @@ pub fn navigate<'a>(
     origins: &'a [u16; 1024],
     targets: &'a [u16; 1024],
     times: &'a [u16; 1024],
+    heads: &'a [u16; 1024],
+    links: &'a [u16; 1024],
     total: usize,
     stack: &'a [u16; 9],
     depth: usize,
@@ -417,7 +307,7 @@ pub fn navigate<'a>(
     count: usize,
 ) -> Way
     requires { ⌜ (total ≤ 1024) × ((depth ≤ 9) × (at + 256 * count < 16384)) ⌝ }
-    ensures { λ r. ⌜ Arrived (now (kinds .entry)) (now (visible .entry)) (now (scopes .entry)) (now (n0 .entry)) (now (n1 .entry)) (now (n2 .entry)) (now (n3 .entry)) (now (origins .entry)) (now (targets .entry)) (now (times .entry)) total (now (stack .entry)) depth (now (decl .entry)) at count r ⌝ }
+    ensures { λ r. ⌜ Arrived (now (kinds .entry)) (now (visible .entry)) (now (scopes .entry)) (now (n0 .entry)) (now (n1 .entry)) (now (n2 .entry)) (now (n3 .entry)) (now (origins .entry)) (now (targets .entry)) (now (times .entry)) (now (heads .entry)) (now (links .entry)) total (now (stack .entry)) depth (now (decl .entry)) at count r ⌝ }
 {
     let mut scope: u16 = 0;
     let mut time = total;
@@ -426,7 +316,20 @@ pub fn navigate<'a>(
     let mut i: usize = 0;
     while i < count {
         let name = name_at(decl, p);
-        let found = find_in(scopes, kinds, n0, n1, n2, n3, scope, time, 3, name);
+        let found = find_in(
+            heads,
+            links,
+            scopes,
+            kinds,
+            n0,
+            n1,
+            n2,
+            n3,
+            scope,
+            time,
+            3,
+            name,
+        );
         let Spot::At(e) = found else {
             return no_way(41);
         };

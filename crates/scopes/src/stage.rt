@@ -111,6 +111,8 @@ fn choose<'a>(
     origins: &'a [u16; 1024],
     targets: &'a [u16; 1024],
     times: &'a [u16; 1024],
+    heads: &'a [u16; 1024],
+    links: &'a [u16; 1024],
     total: usize,
     here: u16,
     scope: u16,
@@ -120,16 +122,42 @@ fn choose<'a>(
     local: Name,
 ) -> Choice
     requires { ⌜ (total ≤ 1024) × (time ≤ 1024) ⌝ }
-    ensures { λ r. ⌜ r ≡ choice-of (arrays (now (kinds .entry)) (now (visible .entry)) (now (scopes .entry)) (now (marks .entry)) (now (n0 .entry)) (now (n1 .entry)) (now (n2 .entry)) (now (n3 .entry)) (now (origins .entry)) (now (targets .entry)) (now (times .entry))) total here scope time kind name local ⌝ }
+    ensures { λ r. ⌜ r ≡ choice-of (arrays (now (kinds .entry)) (now (visible .entry)) (now (scopes .entry)) (now (marks .entry)) (now (n0 .entry)) (now (n1 .entry)) (now (n2 .entry)) (now (n3 .entry)) (now (origins .entry)) (now (targets .entry)) (now (times .entry)) (now (heads .entry)) (now (links .entry))) total here scope time kind name local ⌝ }
 {
-    let found = find_in(scopes, kinds, n0, n1, n2, n3, scope, time, kind, name);
+    let found = find_in(
+        heads,
+        links,
+        scopes,
+        kinds,
+        n0,
+        n1,
+        n2,
+        n3,
+        scope,
+        time,
+        kind,
+        name,
+    );
     let Spot::At(e) = found else {
         return no_choice(43);
     };
     if visible[e] != 1 {
         return no_choice(44);
     }
-    if is_held(scopes, kinds, n0, n1, n2, n3, here, total, kind, local) {
+    if is_held(
+        heads,
+        links,
+        scopes,
+        kinds,
+        n0,
+        n1,
+        n2,
+        n3,
+        here,
+        total,
+        kind,
+        local,
+    ) {
         return no_choice(45);
     }
     let to = inside(e, kinds[e], origins[e], targets[e], times[e], time);
@@ -184,6 +212,8 @@ pub fn stage<'a>(
     origins: &'a [u16; 1024],
     targets: &'a [u16; 1024],
     times: &'a [u16; 1024],
+    heads: &'a [u16; 1024],
+    links: &'a [u16; 1024],
     total: usize,
     here: u16,
     scope: u16,
@@ -193,7 +223,7 @@ pub fn stage<'a>(
     count: usize,
 ) -> Staged
     requires { ⌜ (total ≤ 1024) × ((time ≤ 1024) × ((count ≤ 32) × (at < 32768))) ⌝ }
-    ensures { λ r. ⌜ r ≡ staged-all (arrays (now (kinds .entry)) (now (visible .entry)) (now (scopes .entry)) (now (marks .entry)) (now (n0 .entry)) (now (n1 .entry)) (now (n2 .entry)) (now (n3 .entry)) (now (origins .entry)) (now (targets .entry)) (now (times .entry))) total here scope time (now (decl .entry)) count at (refusal 0) ⌝ }
+    ensures { λ r. ⌜ r ≡ staged-all (arrays (now (kinds .entry)) (now (visible .entry)) (now (scopes .entry)) (now (marks .entry)) (now (n0 .entry)) (now (n1 .entry)) (now (n2 .entry)) (now (n3 .entry)) (now (origins .entry)) (now (targets .entry)) (now (times .entry)) (now (heads .entry)) (now (links .entry))) total here scope time (now (decl .entry)) count at (refusal 0) ⌝ }
 {
     let mut s = refused(0);
     let mut p = at;
@@ -217,6 +247,8 @@ pub fn stage<'a>(
                 origins,
                 targets,
                 times,
+                heads,
+                links,
                 total,
                 here,
                 scope,

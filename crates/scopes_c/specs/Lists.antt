@@ -7,7 +7,7 @@ use mathlib.Core.Bool.{Bool, true, false, cond}
 use mathlib.Core.List.{List, [], _∷_}
 use mathlib.Core.Logic.{_⊎_, inl, inr}
 use lib.Dec.{eqb, ltb}
-use lib.ListN.{length, getD, set, take, drop, drop-of-length-le}
+use lib.ListN.{length, getD, set, take, drop, drop-of-length-le, replicate, length-replicate, getD-replicate}
 use lib.Seq.{take-all}
 use borrow.Author.Tests.{eq-eqb, ne-eqb, lt-ltb, le-ltb}
 use Rattle.scopes.specs.declared.Tree.{Tree}
@@ -19,6 +19,7 @@ use Rattle.scopes.specs.Step.{Answer, ok, marked, refused, step}
 use Rattle.scopes.specs.Flat.{Flat, flat, first-flat}
 use Rattle.scopes.specs.Form.{Request, enters, exits, inserts-alias, inserts-enum, inserts-function, resolves-use, gets-alias, gets-function, call-of}
 use Rattle.scopes.specs.Rows.{tab}
+use Rattle.scopes.specs.Index.{last-of}
 use Rattle.scopes.specs.Nav.{stack-of}
 use Rattle.scopes.specs.Trees.{cleared, told, flat-of, Good, Sized, accepting, refusing, ended, got-of}
 use Rattle.scopes.specs.Meets.{Meets, Answers}
@@ -175,14 +176,20 @@ turns-function t d a q r e = turns-asks t (gets-function d) a (subst (Answers t 
 -- no entry, no open module
 abbrev pub emptied : Tree → Tree
 emptied t =
-    record { count = 0; kinds = t .kinds; visible = t .visible; scopes = t .scopes; marks = t .marks; n0 = t .n0; n1 = t .n1; n2 = t .n2; n3 = t .n3; origins = t .origins; targets = t .targets; times = t .times; depth = 0; stack = t .stack }
+    record { count = 0; kinds = t .kinds; visible = t .visible; scopes = t .scopes; marks = t .marks; n0 = t .n0; n1 = t .n1; n2 = t .n2; n3 = t .n3; origins = t .origins; targets = t .targets; times = t .times; heads = replicate 1024 0; links = t .links; depth = 0; stack = t .stack }
 
 pub turns-clears : (t : Tree) → Turns t clears 0 (emptied t)
-unfolding tab stack-of
+unfolding tab stack-of last-of
 turns-clears t =
     record {
-      sized = λ z. record { kinds = z .kinds; visible = z .visible; scopes = z .scopes; marks = z .marks; n0 = z .n0; n1 = z .n1; n2 = z .n2; n3 = z .n3; origins = z .origins; targets = z .targets; times = z .times; stack = z .stack };
-      good = λ z g. record { small = omega arith; shallow = omega arith; doors = λ j h. absurd (omega arith) };
+      sized = λ z. record { kinds = z .kinds; visible = z .visible; scopes = z .scopes; marks = z .marks; n0 = z .n0; n1 = z .n1; n2 = z .n2; n3 = z .n3; origins = z .origins; targets = z .targets; times = z .times; heads = length-replicate {A = ℕ} 1024 zero; links = z .links; stack = z .stack };
+      good = λ z g.
+          record {
+            small = omega arith;
+            shallow = omega arith;
+            doors = λ j h. absurd (omega arith);
+            indexed = record { heads = λ b h. getD-replicate 1024 b 0 0 h; links = λ i h. absurd (omega arith) };
+          };
       tree = λ z g. refl;
       said = λ z g. refl;
     }

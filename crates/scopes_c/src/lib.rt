@@ -277,13 +277,15 @@ fn call_in(
     origins: &mut [u16; 1024],
     targets: &mut [u16; 1024],
     times: &mut [u16; 1024],
+    heads: &mut [u16; 1024],
+    links: &mut [u16; 1024],
     depth: &mut usize,
     stack: &mut [u16; 9],
     s: &[u8],
     p: usize,
 ) -> u32
     requires { ⌜ p < 16777216 ⌝ }
-    ensures { λ r. ⌜ Turns (lent (now (count .entry)) (now (kinds .entry)) (now (visible .entry)) (now (scopes .entry)) (now (marks .entry)) (now (n0 .entry)) (now (n1 .entry)) (now (n2 .entry)) (now (n3 .entry)) (now (origins .entry)) (now (targets .entry)) (now (times .entry)) (now (depth .entry)) (now (stack .entry))) (order-at (now (s .entry)) p) r (lent (now (count .exit)) (now (kinds .exit)) (now (visible .exit)) (now (scopes .exit)) (now (marks .exit)) (now (n0 .exit)) (now (n1 .exit)) (now (n2 .exit)) (now (n3 .exit)) (now (origins .exit)) (now (targets .exit)) (now (times .exit)) (now (depth .exit)) (now (stack .exit))) ⌝ }
+    ensures { λ r. ⌜ Turns (lent (now (count .entry)) (now (kinds .entry)) (now (visible .entry)) (now (scopes .entry)) (now (marks .entry)) (now (n0 .entry)) (now (n1 .entry)) (now (n2 .entry)) (now (n3 .entry)) (now (origins .entry)) (now (targets .entry)) (now (times .entry)) (now (heads .entry)) (now (links .entry)) (now (depth .entry)) (now (stack .entry))) (order-at (now (s .entry)) p) r (lent (now (count .exit)) (now (kinds .exit)) (now (visible .exit)) (now (scopes .exit)) (now (marks .exit)) (now (n0 .exit)) (now (n1 .exit)) (now (n2 .exit)) (now (n3 .exit)) (now (origins .exit)) (now (targets .exit)) (now (times .exit)) (now (heads .exit)) (now (links .exit)) (now (depth .exit)) (now (stack .exit))) ⌝ }
 {
     let op = byte(s, p);
     if op == 2 {
@@ -305,6 +307,8 @@ fn call_in(
             &mut *origins,
             &mut *targets,
             &mut *times,
+            &mut *heads,
+            &mut *links,
             *depth,
             &*stack,
             part(s, p + 3, n),
@@ -323,6 +327,8 @@ fn call_in(
             &*n1,
             &*n2,
             &*n3,
+            &*heads,
+            &*links,
             *depth,
             &*stack,
             part(s, p + 2, n),
@@ -339,6 +345,8 @@ fn call_in(
             &*n1,
             &*n2,
             &*n3,
+            &*heads,
+            &*links,
             *depth,
             &*stack,
             part(s, p + 2, n),
@@ -361,6 +369,8 @@ fn call_in(
             &mut *origins,
             &mut *targets,
             &mut *times,
+            &mut *heads,
+            &mut *links,
             &mut *depth,
             &mut *stack,
             part(s, p + 2, n),
@@ -382,6 +392,8 @@ fn call_in(
             &mut *origins,
             &mut *targets,
             &mut *times,
+            &mut *heads,
+            &mut *links,
             *depth,
             &*stack,
             item_of(op),
@@ -391,6 +403,7 @@ fn call_in(
         ));
     }
     *count = 0;
+    *heads = [0u16; 1024];
     *depth = 0;
     0
 }
@@ -413,6 +426,8 @@ pub extern "C" fn scopes_walk(s: &[u8], out: &mut [u32]) -> usize
     let mut origins = [0u16; 1024];
     let mut targets = [0u16; 1024];
     let mut times = [0u16; 1024];
+    let mut heads = [0u16; 1024];
+    let mut links = [0u16; 1024];
     let mut depth: usize = 0;
     let mut stack = [0u16; 9];
     let mut p: usize = 0;
@@ -437,6 +452,8 @@ pub extern "C" fn scopes_walk(s: &[u8], out: &mut [u32]) -> usize
             &mut origins,
             &mut targets,
             &mut times,
+            &mut heads,
+            &mut links,
             &mut depth,
             &mut stack,
             s,

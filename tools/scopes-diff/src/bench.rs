@@ -53,7 +53,19 @@ impl Who {
     }
 }
 
-/// The calls by name: the eight, and a list of 1,000 calls from an empty tree.
+/// What a walk over a program does, by name, each measured as a whole.
+const WHOLE: [(&str, &str); 5] = [
+    ("list", "list of 1,000 calls"),
+    ("items", "a module of 1,000 items"),
+    ("elements", "a use of 32 functions, into 960 entries"),
+    (
+        "kinds",
+        "a use of 32 types, functions and modules each, into 900",
+    ),
+    ("meeting", "a module of 1,000 functions of one hash"),
+];
+
+/// The eight calls by name.
 const ROWS: [&str; 8] = [
     "enter",
     "exit",
@@ -122,12 +134,73 @@ fn list_of_1000() -> Vec<Call> {
     calls
 }
 
+/// One module, of types and functions in turn.
+fn items_of_1000() -> Vec<Call> {
+    let item = |at: usize| match at % 2 {
+        0 => alias(&format!("item_{at}")),
+        _ => function(&format!("item_{at}")),
+    };
+    std::iter::once(enter("m"))
+        .chain((0..999).map(item))
+        .collect()
+}
+
+/// A use of 32 elements that fills a tree up to so many entries and then some: the elements stand
+/// in a module, each a function, and where `kinds` holds a type and a module too; the rest of the
+/// entries stand in the module that imports.
+fn use_of_32(kinds: bool, entries: usize) -> Case {
+    let mut before = vec![enter("m")];
+    for at in 0..32 {
+        before.push(function(&format!("e{at}")));
+        if kinds {
+            before.push(alias(&format!("e{at}")));
+            before.extend([enter(&format!("e{at}")), Call::Exit]);
+        }
+    }
+    before.extend([Call::Exit, enter("here")]);
+    let made = if kinds { 98 } else { 34 };
+    before.extend((made..entries).map(|at| function(&format!("d{at}"))));
+    let element = |at| (format!("e{at}"), String::new());
+    let calls = vec![use_of("m", (0..32).map(element).collect())];
+    Case { before, calls }
+}
+
+/// The hash of a function's name in the scope of entry 0, as crates/scopes has it.
+fn hash(name: &str) -> u64 {
+    let mut bytes = [0; 32];
+    bytes[..name.len()].copy_from_slice(name.as_bytes());
+    let word = |at: usize| {
+        let word = bytes[8 * at..8 * at + 8].try_into().expect("eight bytes");
+        u64::from_be_bytes(word)
+    };
+    let primes = [4294967291, 4294967279, 4294967231, 4294967197];
+    let words: u64 = (0..4).map(|at| word(at) % primes[at]).sum();
+    (words + 65537 + 2 * 19) * 2654435 / 65536 % 1024
+}
+
+/// One module of functions whose names were chosen to have one hash: the worst that a program can
+/// do to the port's lookups.
+fn meeting_1000() -> Vec<Call> {
+    let names = (0..)
+        .map(|at| format!("f{at}"))
+        .filter(|name| hash(name) == 0);
+    std::iter::once(enter("m"))
+        .chain(names.take(999).map(|name| function(&name)))
+        .collect()
+}
+
 fn case(row: &str, entries: usize) -> Option<Case> {
-    if row == "list" {
-        return Some(Case {
-            before: Vec::new(),
-            calls: list_of_1000(),
-        });
+    let from_nothing = |calls| Case {
+        before: Vec::new(),
+        calls,
+    };
+    match row {
+        "list" => return Some(from_nothing(list_of_1000())),
+        "items" => return Some(from_nothing(items_of_1000())),
+        "meeting" => return Some(from_nothing(meeting_1000())),
+        "elements" => return Some(use_of_32(false, 960)),
+        "kinds" => return Some(use_of_32(true, 900)),
+        _ => {}
     }
     let mut before = tree_of(entries);
     // A second enter would search an empty module.
@@ -208,8 +281,7 @@ pub fn scopes_diff_measured(tree: &mut Bare, calls: &[bare::Call]) {
 }
 
 /// `measure ROW WHO ENTRIES WITH`, for a counter of instructions: WITH is 1 with the calls, 0
-/// without them; what is made beforehand does not depend on it. The row `list` is the list of
-/// 1,000 calls.
+/// without them; what is made beforehand does not depend on it.
 pub fn measure(row: &str, who: &str, entries: usize, with: bool) -> Option<()> {
     let who = Who::of(who)?;
     let case = case(row, entries)?;
@@ -270,16 +342,23 @@ fn spent(row: &str, who: Who, entries: usize) -> u64 {
     }
 }
 
-/// The rows of a table, each with its sizes; the last is the list.
+/// The rows of a table: the calls, each with its sizes, then what is measured as a whole.
 fn rows() -> impl Iterator<Item = (&'static str, usize)> {
     let sizes = |row| SIZES.map(|entries| (row, entries));
-    ROWS.into_iter().flat_map(sizes).chain([("list", 0)])
+    let whole = WHOLE.into_iter().map(|(row, _)| (row, 0));
+    ROWS.into_iter().flat_map(sizes).chain(whole)
+}
+
+/// The title of a row that is measured as a whole.
+fn whole(row: &str) -> Option<&'static str> {
+    let named = WHOLE.into_iter().find(|(name, _)| *name == row);
+    named.map(|(_, title)| title)
 }
 
 fn tell(row: &str, entries: usize, port: f64, walk: f64, original: f64) {
-    let title = match row {
-        "list" => "list of 1,000 calls | ".to_string(),
-        row => format!("{row} | {entries}"),
+    let title = match whole(row) {
+        Some(title) => format!("{title} | "),
+        None => format!("{row} | {entries}"),
     };
     println!(
         "| {title} | {port:.0} | {walk:.0} | {original:.0} | {:.0} | {:.1} |",
@@ -294,13 +373,13 @@ fn head() {
     println!("|---|---|---|---|---|---|---|");
 }
 
-/// A table of instructions a call, and of the list as a whole.
+/// A table of instructions a call, and of the rest as a whole.
 pub fn instructions() {
     head();
     for (row, entries) in rows() {
-        let times = match row {
-            "list" => 1,
-            row => case(row, entries).expect("a row").calls.len(),
+        let times = match whole(row) {
+            Some(_) => 1,
+            None => case(row, entries).expect("a row").calls.len(),
         };
         let spent = |who| spent(row, who, entries) as f64 / times as f64;
         let [port, walk, original] = Who::ALL.map(spent);
@@ -335,9 +414,9 @@ pub fn time() {
     head();
     for (row, entries) in rows() {
         let case = case(row, entries).expect("a row");
-        let (runs, times) = match row {
-            "list" => (50, 1.0),
-            _ => (500, case.calls.len() as f64),
+        let (runs, times) = match whole(row) {
+            Some(_) => (50, 1.0),
+            None => (500, case.calls.len() as f64),
         };
         let mut list = bytes(&case.before);
         let end = list.len();

@@ -12,7 +12,12 @@ answered-requires : tie.Need-answered-requires
 answered-requires c κs = search needs
 
 returns : tie.Need-returns
-returns c = subst (Meets _ _) (sym ((c .answered) .ensures)) ((c .before .enter) .ensures .meets (sized _ _ ((c .before .before .before .before .before .before .before .before .before .before .before .before .before .before .before .before .before .before .before .before .before .before .before .before .before .before .before .before .before .good) .0)))
+returns c = subst (Meets _ _) (sym ((c .answered) .ensures)) ((c .before .enter) .ensures .meets (sized _ _ ((c .before .before .before .before .before .before .before .before .before .before .before .before .before .before .before .before .before .before .before .before .before .before .before .before .before .before .before .before .before .before .before .before .before .good) .0)))
 
 pub enter-spec : {M : Type 1} → statement M
-enter-spec = tie.close (tie.spec enter-requires answered-requires returns)
+enter-spec =
+    tie.close
+    (tie.spec
+    enter-requires
+    answered-requires
+    returns)

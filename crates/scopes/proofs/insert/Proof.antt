@@ -12,7 +12,12 @@ answered-requires : tie.Need-answered-requires
 answered-requires c κs = search needs
 
 returns : tie.Need-returns
-returns c = subst (Meets _ _) (sym ((c .answered) .ensures)) ((c .before .insert) .ensures .meets (sized _ _ ((c .before .before .before .before .before .before .before .before .before .before .before .before .before .before .before .before .before .before .before .before .before .before .before .before .before .before .before .before .good) .0)))
+returns c = subst (Meets _ _) (sym ((c .answered) .ensures)) ((c .before .insert) .ensures .meets (sized _ _ ((c .before .before .before .before .before .before .before .before .before .before .before .before .before .before .before .before .before .before .before .before .before .before .before .before .before .before .before .before .before .before .before .before .good) .0)))
 
 pub insert-spec : {M : Type 1} → statement M
-insert-spec = tie.close (tie.spec insert-requires answered-requires returns)
+insert-spec =
+    tie.close
+    (tie.spec
+    insert-requires
+    answered-requires
+    returns)

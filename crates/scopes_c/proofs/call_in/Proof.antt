@@ -15,7 +15,7 @@ numbered-requires : tie.Need-numbered-requires
 numbered-requires c κs = search needs
 
 returns : tie.Need-returns
-returns c = turned (order-exit _ _ _ ((c .before .before .before .before .byte) .ensures .0) ((c .before .before .before .if1) .taken)) (turns-keeps _ _ _ _ ((c .before .exit) .ensures (lent ((c .before .before .before .before .before .before .args) .count .now) ((c .before .before .before .before .before .before .args) .kinds .now) ((c .before .before .before .before .before .before .args) .visible .now) ((c .before .before .before .before .before .before .args) .scopes .now) ((c .before .before .before .before .before .before .args) .marks .now) ((c .before .before .before .before .before .before .args) .n0 .now) ((c .before .before .before .before .before .before .args) .n1 .now) ((c .before .before .before .before .before .before .args) .n2 .now) ((c .before .before .before .before .before .before .args) .n3 .now) ((c .before .before .before .before .before .before .args) .origins .now) ((c .before .before .before .before .before .before .args) .targets .now) ((c .before .before .before .before .before .before .args) .times .now) ((c .before .before .before .before .before .before .args) .depth .now) ((c .before .before .before .before .before .before .args) .stack .now))) _ ((c .numbered) .ensures))
+returns c = turned (order-exit _ _ _ ((c .before .before .before .before .byte) .ensures .0) ((c .before .before .before .if1) .taken)) (turns-keeps _ _ _ _ ((c .before .exit) .ensures (lent ((c .before .before .before .before .before .before .args) .count .now) ((c .before .before .before .before .before .before .args) .kinds .now) ((c .before .before .before .before .before .before .args) .visible .now) ((c .before .before .before .before .before .before .args) .scopes .now) ((c .before .before .before .before .before .before .args) .marks .now) ((c .before .before .before .before .before .before .args) .n0 .now) ((c .before .before .before .before .before .before .args) .n1 .now) ((c .before .before .before .before .before .before .args) .n2 .now) ((c .before .before .before .before .before .before .args) .n3 .now) ((c .before .before .before .before .before .before .args) .origins .now) ((c .before .before .before .before .before .before .args) .targets .now) ((c .before .before .before .before .before .before .args) .times .now) ((c .before .before .before .before .before .before .args) .heads .now) ((c .before .before .before .before .before .before .args) .links .now) ((c .before .before .before .before .before .before .args) .depth .now) ((c .before .before .before .before .before .before .args) .stack .now))) _ ((c .numbered) .ensures))
 
 add-pair : tie.Need-add-pair
 add-pair c = search needs
@@ -45,7 +45,7 @@ numbered-requires-2 : tie.Need-numbered-requires-2
 numbered-requires-2 c κs = search needs
 
 returns-2 : tie.Need-returns-2
-returns-2 c = turned (order-use _ _ _ ((c .before .before .before .before .before .before .before .before .before .before .before .before .before .before .before .before .before .before .before .before .before .byte) .ensures .0) ((c .before .before .before .before .before .before .before .before .before .before .before .before .before .before .before .before .before .before .before .before .if1) .left) ((c .before .before .before .before .before .before .before .before .before .before .before .before .before .before .before .before .before .before .before .if2) .taken) _ ((c .before .before .before .before .before .before .before .before .before .before .before .before .before .before .before .before .before .before .pair) .ensures .0) _ ((c .before .before .part) .ensures) _ ((c .before .before .before .before .before .before .before .before .before .before .before .before .before .before .before .before .before .byte2) .ensures .0)) (turns-keeps _ _ _ _ ((c .before .resolve-use) .ensures) _ ((c .numbered2) .ensures))
+returns-2 c = turned (order-use _ _ _ ((c .before .before .before .before .before .before .before .before .before .before .before .before .before .before .before .before .before .before .before .before .before .before .before .byte) .ensures .0) ((c .before .before .before .before .before .before .before .before .before .before .before .before .before .before .before .before .before .before .before .before .before .before .if1) .left) ((c .before .before .before .before .before .before .before .before .before .before .before .before .before .before .before .before .before .before .before .before .before .if2) .taken) _ ((c .before .before .before .before .before .before .before .before .before .before .before .before .before .before .before .before .before .before .before .before .pair) .ensures .0) _ ((c .before .before .part) .ensures) _ ((c .before .before .before .before .before .before .before .before .before .before .before .before .before .before .before .before .before .before .before .byte2) .ensures .0)) (turns-keeps _ _ _ _ ((c .before .resolve-use) .ensures) _ ((c .numbered2) .ensures))
 
 add-byte-3 : tie.Need-add-byte-3
 add-byte-3 c = search needs
@@ -72,7 +72,7 @@ shown-requires : tie.Need-shown-requires
 shown-requires c κs = search needs
 
 returns-3 : tie.Need-returns-3
-returns-3 c = turned (order-alias _ _ _ ((c .before .before .before .before .before .before .before .before .before .before .before .before .before .before .before .before .before .byte) .ensures .0) ((c .before .before .before .before .before .before .before .before .before .before .before .before .before .before .before .before .if1) .left) ((c .before .before .before .before .before .before .before .before .before .before .before .before .before .before .before .if2) .left) _ ((c .before .before .before .before .before .before .before .before .before .before .before .before .before .before .byte3) .ensures .0) _ ((c .before .before .part2) .ensures) ((c .before .before .before .before .before .before .before .before .before .before .before .before .before .if3) .taken)) (turns-alias (lent ((c .before .before .before .before .before .before .before .before .before .before .before .before .before .before .before .before .before .before .before .args) .count .now) ((c .before .before .before .before .before .before .before .before .before .before .before .before .before .before .before .before .before .before .before .args) .kinds .now) ((c .before .before .before .before .before .before .before .before .before .before .before .before .before .before .before .before .before .before .before .args) .visible .now) ((c .before .before .before .before .before .before .before .before .before .before .before .before .before .before .before .before .before .before .before .args) .scopes .now) ((c .before .before .before .before .before .before .before .before .before .before .before .before .before .before .before .before .before .before .before .args) .marks .now) ((c .before .before .before .before .before .before .before .before .before .before .before .before .before .before .before .before .before .before .before .args) .n0 .now) ((c .before .before .before .before .before .before .before .before .before .before .before .before .before .before .before .before .before .before .before .args) .n1 .now) ((c .before .before .before .before .before .before .before .before .before .before .before .before .before .before .before .before .before .before .before .args) .n2 .now) ((c .before .before .before .before .before .before .before .before .before .before .before .before .before .before .before .before .before .before .before .args) .n3 .now) ((c .before .before .before .before .before .before .before .before .before .before .before .before .before .before .before .before .before .before .before .args) .origins .now) ((c .before .before .before .before .before .before .before .before .before .before .before .before .before .before .before .before .before .before .before .args) .targets .now) ((c .before .before .before .before .before .before .before .before .before .before .before .before .before .before .before .before .before .before .before .args) .times .now) ((c .before .before .before .before .before .before .before .before .before .before .before .before .before .before .before .before .before .before .before .args) .depth .now) ((c .before .before .before .before .before .before .before .before .before .before .before .before .before .before .before .before .before .before .before .args) .stack .now)) _ _ ((c .before .get) .ensures ((c .before .before .before .before .before .before .before .before .before .before .before .before .before .before .before .before .before .before .before .args) .visible .now) ((c .before .before .before .before .before .before .before .before .before .before .before .before .before .before .before .before .before .before .before .args) .origins .now) ((c .before .before .before .before .before .before .before .before .before .before .before .before .before .before .before .before .before .before .before .args) .targets .now) ((c .before .before .before .before .before .before .before .before .before .before .before .before .before .before .before .before .before .before .before .args) .times .now)) _ ((c .shown) .ensures))
+returns-3 c = turned (order-alias _ _ _ ((c .before .before .before .before .before .before .before .before .before .before .before .before .before .before .before .before .before .before .before .byte) .ensures .0) ((c .before .before .before .before .before .before .before .before .before .before .before .before .before .before .before .before .before .before .if1) .left) ((c .before .before .before .before .before .before .before .before .before .before .before .before .before .before .before .before .before .if2) .left) _ ((c .before .before .before .before .before .before .before .before .before .before .before .before .before .before .before .before .byte3) .ensures .0) _ ((c .before .before .part2) .ensures) ((c .before .before .before .before .before .before .before .before .before .before .before .before .before .before .before .if3) .taken)) (turns-alias (lent ((c .before .before .before .before .before .before .before .before .before .before .before .before .before .before .before .before .before .before .before .before .before .args) .count .now) ((c .before .before .before .before .before .before .before .before .before .before .before .before .before .before .before .before .before .before .before .before .before .args) .kinds .now) ((c .before .before .before .before .before .before .before .before .before .before .before .before .before .before .before .before .before .before .before .before .before .args) .visible .now) ((c .before .before .before .before .before .before .before .before .before .before .before .before .before .before .before .before .before .before .before .before .before .args) .scopes .now) ((c .before .before .before .before .before .before .before .before .before .before .before .before .before .before .before .before .before .before .before .before .before .args) .marks .now) ((c .before .before .before .before .before .before .before .before .before .before .before .before .before .before .before .before .before .before .before .before .before .args) .n0 .now) ((c .before .before .before .before .before .before .before .before .before .before .before .before .before .before .before .before .before .before .before .before .before .args) .n1 .now) ((c .before .before .before .before .before .before .before .before .before .before .before .before .before .before .before .before .before .before .before .before .before .args) .n2 .now) ((c .before .before .before .before .before .before .before .before .before .before .before .before .before .before .before .before .before .before .before .before .before .args) .n3 .now) ((c .before .before .before .before .before .before .before .before .before .before .before .before .before .before .before .before .before .before .before .before .before .args) .origins .now) ((c .before .before .before .before .before .before .before .before .before .before .before .before .before .before .before .before .before .before .before .before .before .args) .targets .now) ((c .before .before .before .before .before .before .before .before .before .before .before .before .before .before .before .before .before .before .before .before .before .args) .times .now) ((c .before .before .before .before .before .before .before .before .before .before .before .before .before .before .before .before .before .before .before .before .before .args) .heads .now) ((c .before .before .before .before .before .before .before .before .before .before .before .before .before .before .before .before .before .before .before .before .before .args) .links .now) ((c .before .before .before .before .before .before .before .before .before .before .before .before .before .before .before .before .before .before .before .before .before .args) .depth .now) ((c .before .before .before .before .before .before .before .before .before .before .before .before .before .before .before .before .before .before .before .before .before .args) .stack .now)) _ _ ((c .before .get) .ensures ((c .before .before .before .before .before .before .before .before .before .before .before .before .before .before .before .before .before .before .before .before .before .args) .visible .now) ((c .before .before .before .before .before .before .before .before .before .before .before .before .before .before .before .before .before .before .before .before .before .args) .origins .now) ((c .before .before .before .before .before .before .before .before .before .before .before .before .before .before .before .before .before .before .before .before .before .args) .targets .now) ((c .before .before .before .before .before .before .before .before .before .before .before .before .before .before .before .before .before .before .before .before .before .args) .times .now)) _ ((c .shown) .ensures))
 
 add-part-3 : tie.Need-add-part-3
 add-part-3 c = search needs
@@ -87,7 +87,7 @@ shown-requires-2 : tie.Need-shown-requires-2
 shown-requires-2 c κs = search needs
 
 returns-4 : tie.Need-returns-4
-returns-4 c = turned (order-function _ _ _ ((c .before .before .before .before .before .before .before .before .before .before .before .before .before .before .before .before .before .before .byte) .ensures .0) ((c .before .before .before .before .before .before .before .before .before .before .before .before .before .before .before .before .before .if1) .left) ((c .before .before .before .before .before .before .before .before .before .before .before .before .before .before .before .before .if2) .left) _ ((c .before .before .before .before .before .before .before .before .before .before .before .before .before .before .before .byte3) .ensures .0) _ ((c .before .before .part3) .ensures) ((c .before .before .before .before .before .before .before .before .before .before .before .before .before .before .if3) .left) ((c .before .before .before .before .before .before .before .before .before .before .before .before .before .if4) .taken)) (turns-function (lent ((c .before .before .before .before .before .before .before .before .before .before .before .before .before .before .before .before .before .before .before .before .args) .count .now) ((c .before .before .before .before .before .before .before .before .before .before .before .before .before .before .before .before .before .before .before .before .args) .kinds .now) ((c .before .before .before .before .before .before .before .before .before .before .before .before .before .before .before .before .before .before .before .before .args) .visible .now) ((c .before .before .before .before .before .before .before .before .before .before .before .before .before .before .before .before .before .before .before .before .args) .scopes .now) ((c .before .before .before .before .before .before .before .before .before .before .before .before .before .before .before .before .before .before .before .before .args) .marks .now) ((c .before .before .before .before .before .before .before .before .before .before .before .before .before .before .before .before .before .before .before .before .args) .n0 .now) ((c .before .before .before .before .before .before .before .before .before .before .before .before .before .before .before .before .before .before .before .before .args) .n1 .now) ((c .before .before .before .before .before .before .before .before .before .before .before .before .before .before .before .before .before .before .before .before .args) .n2 .now) ((c .before .before .before .before .before .before .before .before .before .before .before .before .before .before .before .before .before .before .before .before .args) .n3 .now) ((c .before .before .before .before .before .before .before .before .before .before .before .before .before .before .before .before .before .before .before .before .args) .origins .now) ((c .before .before .before .before .before .before .before .before .before .before .before .before .before .before .before .before .before .before .before .before .args) .targets .now) ((c .before .before .before .before .before .before .before .before .before .before .before .before .before .before .before .before .before .before .before .before .args) .times .now) ((c .before .before .before .before .before .before .before .before .before .before .before .before .before .before .before .before .before .before .before .before .args) .depth .now) ((c .before .before .before .before .before .before .before .before .before .before .before .before .before .before .before .before .before .before .before .before .args) .stack .now)) _ _ ((c .before .get2) .ensures ((c .before .before .before .before .before .before .before .before .before .before .before .before .before .before .before .before .before .before .before .before .args) .visible .now) ((c .before .before .before .before .before .before .before .before .before .before .before .before .before .before .before .before .before .before .before .before .args) .origins .now) ((c .before .before .before .before .before .before .before .before .before .before .before .before .before .before .before .before .before .before .before .before .args) .targets .now) ((c .before .before .before .before .before .before .before .before .before .before .before .before .before .before .before .before .before .before .before .before .args) .times .now)) _ ((c .shown2) .ensures))
+returns-4 c = turned (order-function _ _ _ ((c .before .before .before .before .before .before .before .before .before .before .before .before .before .before .before .before .before .before .before .before .byte) .ensures .0) ((c .before .before .before .before .before .before .before .before .before .before .before .before .before .before .before .before .before .before .before .if1) .left) ((c .before .before .before .before .before .before .before .before .before .before .before .before .before .before .before .before .before .before .if2) .left) _ ((c .before .before .before .before .before .before .before .before .before .before .before .before .before .before .before .before .before .byte3) .ensures .0) _ ((c .before .before .part3) .ensures) ((c .before .before .before .before .before .before .before .before .before .before .before .before .before .before .before .before .if3) .left) ((c .before .before .before .before .before .before .before .before .before .before .before .before .before .before .before .if4) .taken)) (turns-function (lent ((c .before .before .before .before .before .before .before .before .before .before .before .before .before .before .before .before .before .before .before .before .before .before .args) .count .now) ((c .before .before .before .before .before .before .before .before .before .before .before .before .before .before .before .before .before .before .before .before .before .before .args) .kinds .now) ((c .before .before .before .before .before .before .before .before .before .before .before .before .before .before .before .before .before .before .before .before .before .before .args) .visible .now) ((c .before .before .before .before .before .before .before .before .before .before .before .before .before .before .before .before .before .before .before .before .before .before .args) .scopes .now) ((c .before .before .before .before .before .before .before .before .before .before .before .before .before .before .before .before .before .before .before .before .before .before .args) .marks .now) ((c .before .before .before .before .before .before .before .before .before .before .before .before .before .before .before .before .before .before .before .before .before .before .args) .n0 .now) ((c .before .before .before .before .before .before .before .before .before .before .before .before .before .before .before .before .before .before .before .before .before .before .args) .n1 .now) ((c .before .before .before .before .before .before .before .before .before .before .before .before .before .before .before .before .before .before .before .before .before .before .args) .n2 .now) ((c .before .before .before .before .before .before .before .before .before .before .before .before .before .before .before .before .before .before .before .before .before .before .args) .n3 .now) ((c .before .before .before .before .before .before .before .before .before .before .before .before .before .before .before .before .before .before .before .before .before .before .args) .origins .now) ((c .before .before .before .before .before .before .before .before .before .before .before .before .before .before .before .before .before .before .before .before .before .before .args) .targets .now) ((c .before .before .before .before .before .before .before .before .before .before .before .before .before .before .before .before .before .before .before .before .before .before .args) .times .now) ((c .before .before .before .before .before .before .before .before .before .before .before .before .before .before .before .before .before .before .before .before .before .before .args) .heads .now) ((c .before .before .before .before .before .before .before .before .before .before .before .before .before .before .before .before .before .before .before .before .before .before .args) .links .now) ((c .before .before .before .before .before .before .before .before .before .before .before .before .before .before .before .before .before .before .before .before .before .before .args) .depth .now) ((c .before .before .before .before .before .before .before .before .before .before .before .before .before .before .before .before .before .before .before .before .before .before .args) .stack .now)) _ _ ((c .before .get2) .ensures ((c .before .before .before .before .before .before .before .before .before .before .before .before .before .before .before .before .before .before .before .before .before .before .args) .visible .now) ((c .before .before .before .before .before .before .before .before .before .before .before .before .before .before .before .before .before .before .before .before .before .before .args) .origins .now) ((c .before .before .before .before .before .before .before .before .before .before .before .before .before .before .before .before .before .before .before .before .before .before .args) .targets .now) ((c .before .before .before .before .before .before .before .before .before .before .before .before .before .before .before .before .before .before .before .before .before .before .args) .times .now)) _ ((c .shown2) .ensures))
 
 byte-requires-4 : tie.Need-byte-requires-4
 byte-requires-4 c κs = search needs
@@ -111,7 +111,7 @@ numbered-requires-3 : tie.Need-numbered-requires-3
 numbered-requires-3 c κs = search needs
 
 returns-5 : tie.Need-returns-5
-returns-5 c = turned (order-enter _ _ _ ((c .before .before .before .before .before .before .before .before .before .before .before .before .before .before .before .before .before .before .before .before .before .before .before .before .before .byte) .ensures .0) ((c .before .before .before .before .before .before .before .before .before .before .before .before .before .before .before .before .before .before .before .before .before .before .before .before .if1) .left) ((c .before .before .before .before .before .before .before .before .before .before .before .before .before .before .before .before .before .before .before .before .before .before .before .if2) .left) _ ((c .before .before .before .before .before .before .before .before .before .before .before .before .before .before .before .before .before .before .before .before .before .before .byte3) .ensures .0) _ ((c .before .before .part4) .ensures) ((c .before .before .before .before .before .before .before .before .before .before .before .before .before .before .before .before .before .before .before .before .before .if3) .left) ((c .before .before .before .before .before .before .before .before .before .before .before .before .before .before .before .before .before .before .before .before .if4) .left) _ ((c .before .before .before .before .before .before .before .before .before .before .before .before .before .before .before .before .before .before .before .byte4) .ensures .0) _ ((c .before .before .before .before .before .before .before .before .before .before .before .before .before .before .before .before .before .before .mark) .ensures) ((c .before .before .before .before .before .before .before .before .before .before .before .before .before .before .before .before .before .if5) .taken)) (turns-keeps _ _ _ _ ((c .before .enter) .ensures) _ ((c .numbered3) .ensures))
+returns-5 c = turned (order-enter _ _ _ ((c .before .before .before .before .before .before .before .before .before .before .before .before .before .before .before .before .before .before .before .before .before .before .before .before .before .before .before .byte) .ensures .0) ((c .before .before .before .before .before .before .before .before .before .before .before .before .before .before .before .before .before .before .before .before .before .before .before .before .before .before .if1) .left) ((c .before .before .before .before .before .before .before .before .before .before .before .before .before .before .before .before .before .before .before .before .before .before .before .before .before .if2) .left) _ ((c .before .before .before .before .before .before .before .before .before .before .before .before .before .before .before .before .before .before .before .before .before .before .before .before .byte3) .ensures .0) _ ((c .before .before .part4) .ensures) ((c .before .before .before .before .before .before .before .before .before .before .before .before .before .before .before .before .before .before .before .before .before .before .before .if3) .left) ((c .before .before .before .before .before .before .before .before .before .before .before .before .before .before .before .before .before .before .before .before .before .before .if4) .left) _ ((c .before .before .before .before .before .before .before .before .before .before .before .before .before .before .before .before .before .before .before .before .before .byte4) .ensures .0) _ ((c .before .before .before .before .before .before .before .before .before .before .before .before .before .before .before .before .before .before .before .before .mark) .ensures) ((c .before .before .before .before .before .before .before .before .before .before .before .before .before .before .before .before .before .before .before .if5) .taken)) (turns-keeps _ _ _ _ ((c .before .enter) .ensures) _ ((c .numbered3) .ensures))
 
 declares-requires : tie.Need-declares-requires
 declares-requires c κs = search needs
@@ -132,10 +132,10 @@ numbered-requires-4 : tie.Need-numbered-requires-4
 numbered-requires-4 c κs = search needs
 
 returns-6 : tie.Need-returns-6
-returns-6 c = turned (order-insert _ _ _ ((c .before .before .before .before .before .before .before .before .before .before .before .before .before .before .before .before .before .before .before .before .before .before .before .before .before .before .before .before .byte) .ensures .0) ((c .before .before .before .before .before .before .before .before .before .before .before .before .before .before .before .before .before .before .before .before .before .before .before .before .before .before .before .if1) .left) ((c .before .before .before .before .before .before .before .before .before .before .before .before .before .before .before .before .before .before .before .before .before .before .before .before .before .before .if2) .left) _ ((c .before .before .before .before .before .before .before .before .before .before .before .before .before .before .before .before .before .before .before .before .before .before .before .before .before .byte3) .ensures .0) _ ((c .before .before .part5) .ensures) ((c .before .before .before .before .before .before .before .before .before .before .before .before .before .before .before .before .before .before .before .before .before .before .before .before .if3) .left) ((c .before .before .before .before .before .before .before .before .before .before .before .before .before .before .before .before .before .before .before .before .before .before .before .if4) .left) _ ((c .before .before .before .before .before .before .before .before .before .before .before .before .before .before .before .before .before .before .before .before .before .before .byte4) .ensures .0) _ ((c .before .before .before .before .before .before .before .before .before .before .before .before .before .before .before .before .before .before .before .before .before .mark) .ensures) ((c .before .before .before .before .before .before .before .before .before .before .before .before .before .before .before .before .before .before .before .before .if5) .left) _ ((c .before .before .before .before .before .before .before .before .before .before .before .before .before .before .before .before .before .before .before .declares) .ensures) ((c .before .before .before .before .before .before .before .before .before .before .before .before .before .before .before .before .before .before .if6) .taken) _ ((c .before .before .before .item-of) .ensures)) (turns-keeps _ _ _ _ ((c .before .insert) .ensures) _ ((c .numbered4) .ensures))
+returns-6 c = turned (order-insert _ _ _ ((c .before .before .before .before .before .before .before .before .before .before .before .before .before .before .before .before .before .before .before .before .before .before .before .before .before .before .before .before .before .before .byte) .ensures .0) ((c .before .before .before .before .before .before .before .before .before .before .before .before .before .before .before .before .before .before .before .before .before .before .before .before .before .before .before .before .before .if1) .left) ((c .before .before .before .before .before .before .before .before .before .before .before .before .before .before .before .before .before .before .before .before .before .before .before .before .before .before .before .before .if2) .left) _ ((c .before .before .before .before .before .before .before .before .before .before .before .before .before .before .before .before .before .before .before .before .before .before .before .before .before .before .before .byte3) .ensures .0) _ ((c .before .before .part5) .ensures) ((c .before .before .before .before .before .before .before .before .before .before .before .before .before .before .before .before .before .before .before .before .before .before .before .before .before .before .if3) .left) ((c .before .before .before .before .before .before .before .before .before .before .before .before .before .before .before .before .before .before .before .before .before .before .before .before .before .if4) .left) _ ((c .before .before .before .before .before .before .before .before .before .before .before .before .before .before .before .before .before .before .before .before .before .before .before .before .byte4) .ensures .0) _ ((c .before .before .before .before .before .before .before .before .before .before .before .before .before .before .before .before .before .before .before .before .before .before .before .mark) .ensures) ((c .before .before .before .before .before .before .before .before .before .before .before .before .before .before .before .before .before .before .before .before .before .before .if5) .left) _ ((c .before .before .before .before .before .before .before .before .before .before .before .before .before .before .before .before .before .before .before .before .before .declares) .ensures) ((c .before .before .before .before .before .before .before .before .before .before .before .before .before .before .before .before .before .before .before .before .if6) .taken) _ ((c .before .before .before .item-of) .ensures)) (turns-keeps _ _ _ _ ((c .before .insert) .ensures) _ ((c .numbered4) .ensures))
 
 returns-7 : tie.Need-returns-7
-returns-7 c = turned (order-clear _ _ _ ((c .before .before .before .before .before .before .before .before .before .before .byte) .ensures .0) ((c .before .before .before .before .before .before .before .before .before .if1) .left) ((c .before .before .before .before .before .before .before .before .if2) .left) _ ((c .before .before .before .before .before .before .before .byte3) .ensures .0) _ refl ((c .before .before .before .before .before .before .if3) .left) ((c .before .before .before .before .before .if4) .left) _ ((c .before .before .before .before .byte4) .ensures .0) _ ((c .before .before .before .mark) .ensures) ((c .before .before .if5) .left) _ ((c .before .declares) .ensures) ((c .if6) .left)) (turns-clears (lent ((c .before .before .before .before .before .before .before .before .before .before .before .before .args) .count .now) ((c .before .before .before .before .before .before .before .before .before .before .before .before .args) .kinds .now) ((c .before .before .before .before .before .before .before .before .before .before .before .before .args) .visible .now) ((c .before .before .before .before .before .before .before .before .before .before .before .before .args) .scopes .now) ((c .before .before .before .before .before .before .before .before .before .before .before .before .args) .marks .now) ((c .before .before .before .before .before .before .before .before .before .before .before .before .args) .n0 .now) ((c .before .before .before .before .before .before .before .before .before .before .before .before .args) .n1 .now) ((c .before .before .before .before .before .before .before .before .before .before .before .before .args) .n2 .now) ((c .before .before .before .before .before .before .before .before .before .before .before .before .args) .n3 .now) ((c .before .before .before .before .before .before .before .before .before .before .before .before .args) .origins .now) ((c .before .before .before .before .before .before .before .before .before .before .before .before .args) .targets .now) ((c .before .before .before .before .before .before .before .before .before .before .before .before .args) .times .now) ((c .before .before .before .before .before .before .before .before .before .before .before .before .args) .depth .now) ((c .before .before .before .before .before .before .before .before .before .before .before .before .args) .stack .now)))
+returns-7 c = turned (order-clear _ _ _ ((c .before .before .before .before .before .before .before .before .before .before .before .byte) .ensures .0) ((c .before .before .before .before .before .before .before .before .before .before .if1) .left) ((c .before .before .before .before .before .before .before .before .before .if2) .left) _ ((c .before .before .before .before .before .before .before .before .byte3) .ensures .0) _ refl ((c .before .before .before .before .before .before .before .if3) .left) ((c .before .before .before .before .before .before .if4) .left) _ ((c .before .before .before .before .before .byte4) .ensures .0) _ ((c .before .before .before .before .mark) .ensures) ((c .before .before .before .if5) .left) _ ((c .before .before .declares) .ensures) ((c .before .if6) .left)) (turns-clears (lent ((c .before .before .before .before .before .before .before .before .before .before .before .before .before .args) .count .now) ((c .before .before .before .before .before .before .before .before .before .before .before .before .before .args) .kinds .now) ((c .before .before .before .before .before .before .before .before .before .before .before .before .before .args) .visible .now) ((c .before .before .before .before .before .before .before .before .before .before .before .before .before .args) .scopes .now) ((c .before .before .before .before .before .before .before .before .before .before .before .before .before .args) .marks .now) ((c .before .before .before .before .before .before .before .before .before .before .before .before .before .args) .n0 .now) ((c .before .before .before .before .before .before .before .before .before .before .before .before .before .args) .n1 .now) ((c .before .before .before .before .before .before .before .before .before .before .before .before .before .args) .n2 .now) ((c .before .before .before .before .before .before .before .before .before .before .before .before .before .args) .n3 .now) ((c .before .before .before .before .before .before .before .before .before .before .before .before .before .args) .origins .now) ((c .before .before .before .before .before .before .before .before .before .before .before .before .before .args) .targets .now) ((c .before .before .before .before .before .before .before .before .before .before .before .before .before .args) .times .now) ((c .before .before .before .before .before .before .before .before .before .before .before .before .before .args) .heads .now) ((c .before .before .before .before .before .before .before .before .before .before .before .before .before .args) .links .now) ((c .before .before .before .before .before .before .before .before .before .before .before .before .before .args) .depth .now) ((c .before .before .before .before .before .before .before .before .before .before .before .before .before .args) .stack .now)))
 
 pub call-in-spec : {M : Type 1} → statement M
 call-in-spec =

@@ -1,3 +1,4 @@
+use native.Mathlib.Omega.{arith}
 use Rattle.scopes_c.proofs.scopes_walk.Statement.{statement}
 use Rattle.scopes_c.proofs.scopes_walk.Tie as tie
 use borrow.Author.Needs.{needs}
@@ -8,10 +9,10 @@ use Rattle.scopes.specs.LentRuns.{cleared-sized}
 use Rattle.scopes_c.specs.Lists.{Walking, walking-start, walking-turn, walking-past, walking-far, walking-end, at-size}
 
 abbrev Inv-loop : tie.InvT-loop
-Inv-loop s out₀ count₀ kinds₀ visible₀ scopes₀ marks₀ n0₀ n1₀ n2₀ n3₀ origins₀ targets₀ times₀ depth₀ stack₀ p₀ i₀ out count kinds visible scopes marks n0 n1 n2 n3 origins targets times depth stack p i = Walking s out₀ out (lent count kinds visible scopes marks n0 n1 n2 n3 origins targets times depth stack) p i × Sized (lent count kinds visible scopes marks n0 n1 n2 n3 origins targets times depth stack)
+Inv-loop s out₀ count₀ kinds₀ visible₀ scopes₀ marks₀ n0₀ n1₀ n2₀ n3₀ origins₀ targets₀ times₀ heads₀ links₀ depth₀ stack₀ p₀ i₀ out count kinds visible scopes marks n0 n1 n2 n3 origins targets times heads links depth stack p i = Walking s out₀ out (lent count kinds visible scopes marks n0 n1 n2 n3 origins targets times heads links depth stack) p i × Sized (lent count kinds visible scopes marks n0 n1 n2 n3 origins targets times heads links depth stack)
 
 abbrev μ-loop : tie.MeasureT-loop
-μ-loop s out₀ count₀ kinds₀ visible₀ scopes₀ marks₀ n0₀ n1₀ n2₀ n3₀ origins₀ targets₀ times₀ depth₀ stack₀ p₀ i₀ out count kinds visible scopes marks n0 n1 n2 n3 origins targets times depth stack p i = 16000000 - i
+μ-loop s out₀ count₀ kinds₀ visible₀ scopes₀ marks₀ n0₀ n1₀ n2₀ n3₀ origins₀ targets₀ times₀ heads₀ links₀ depth₀ stack₀ p₀ i₀ out count kinds visible scopes marks n0 n1 n2 n3 origins targets times heads links depth stack p i = 16000000 - i
 
 loop-holds : tie.Need-loop-holds Inv-loop μ-loop
 loop-holds c = (walking-start _ _, cleared-sized)
@@ -38,13 +39,13 @@ after-requires : tie.Need-after-requires Inv-loop μ-loop
 after-requires c κs = search needs
 
 add-i : tie.Need-add-i Inv-loop μ-loop
-add-i c = search needs
+add-i c = let t = (c .before .before .before .before .before .before .before .before .before .before .before .before .before .before .before .before .before .before .before .before .before .before .before .before .loop-test) .taken in omega arith
 
 loop-less : tie.Need-loop-less Inv-loop μ-loop
-loop-less c = search needs
+loop-less c = let t = (c .before .before .before .before .before .before .before .before .before .before .before .before .before .before .before .before .before .before .before .before .before .before .before .before .loop-test) .taken in omega arith
 
 loop-again : tie.Need-loop-again Inv-loop μ-loop
-loop-again c = (walking-turn _ _ _ _ _ _ ((c .before .before .before .before .before .before .before .before .before .before .before .before .before .before .before .before .before .before .before .before .before .before .before .loop) .inv .0) ((c .before .before .before .before .before .before .before .before .before .before .before .before .before .before .before .before .before .before .before .before .before .before .loop-test) .taken) ((c .before .before .before .before .before .before .before .before .before .before .before .before .before .before .before .before .before .before .before .before .before .if1) .left) ((c .before .before .before .before .before .before .before .before .before .before .before .before .before .before .before .before .before .before .before .before .if2) .left) _ _ (at-size ((c .before .before .before .before .before .call-in) .ensures) ((c .before .before .before .before .before .before .before .before .before .before .before .before .before .before .before .before .before .before .before .before .before .before .before .loop) .inv .1)) _ ((c .before .before .before .put) .ensures .0) ((c .before .before .before .put) .ensures .1) _ ((c .after) .ensures .0) ((c .after) .ensures .1), (c .before .before .before .before .before .call-in) .ensures .sized ((c .before .before .before .before .before .before .before .before .before .before .before .before .before .before .before .before .before .before .before .before .before .before .before .loop) .inv .1))
+loop-again c = (walking-turn _ _ _ _ _ _ ((c .before .before .before .before .before .before .before .before .before .before .before .before .before .before .before .before .before .before .before .before .before .before .before .before .before .loop) .inv .0) ((c .before .before .before .before .before .before .before .before .before .before .before .before .before .before .before .before .before .before .before .before .before .before .before .before .loop-test) .taken) ((c .before .before .before .before .before .before .before .before .before .before .before .before .before .before .before .before .before .before .before .before .before .before .before .if1) .left) ((c .before .before .before .before .before .before .before .before .before .before .before .before .before .before .before .before .before .before .before .before .before .before .if2) .left) _ _ (at-size ((c .before .before .before .before .before .call-in) .ensures) ((c .before .before .before .before .before .before .before .before .before .before .before .before .before .before .before .before .before .before .before .before .before .before .before .before .before .loop) .inv .1)) _ ((c .before .before .before .put) .ensures .0) ((c .before .before .before .put) .ensures .1) _ ((c .after) .ensures .0) ((c .after) .ensures .1), (c .before .before .before .before .before .call-in) .ensures .sized ((c .before .before .before .before .before .before .before .before .before .before .before .before .before .before .before .before .before .before .before .before .before .before .before .before .before .loop) .inv .1))
 
 same-length-3 : tie.Need-same-length-3 Inv-loop μ-loop
 same-length-3 c = search needs

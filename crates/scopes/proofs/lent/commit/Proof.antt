@@ -1,3 +1,4 @@
+use borrow.Author.Needs.{needs}
 use Rattle.scopes.proofs.lent.commit.Statement.{statement}
 use Rattle.scopes.proofs.lent.commit.Tie as tie
 use native.Mathlib.Omega.{arith}
@@ -7,10 +8,10 @@ use Rattle.scopes.specs.Trees.{Counting, counting-start, counting-turn, 
 use Rattle.scopes.specs.Lent.{lent}
 
 abbrev Inv-loop : tie.InvT-loop
-Inv-loop count₀ kinds₀ visible₀ scopes₀ marks₀ n0₀ n1₀ n2₀ n3₀ origins₀ targets₀ times₀ scope public staged i₀ count kinds visible scopes marks n0 n1 n2 n3 origins targets times i = (d : ℕ) (k : List ℕ) → Counting (lent count₀ kinds₀ visible₀ scopes₀ marks₀ n0₀ n1₀ n2₀ n3₀ origins₀ targets₀ times₀ d k) staged scope public (lent count kinds visible scopes marks n0 n1 n2 n3 origins targets times d k) i
+Inv-loop count₀ kinds₀ visible₀ scopes₀ marks₀ n0₀ n1₀ n2₀ n3₀ origins₀ targets₀ times₀ heads₀ links₀ scope public staged i₀ count kinds visible scopes marks n0 n1 n2 n3 origins targets times heads links i = (d : ℕ) (k : List ℕ) → Counting (lent count₀ kinds₀ visible₀ scopes₀ marks₀ n0₀ n1₀ n2₀ n3₀ origins₀ targets₀ times₀ heads₀ links₀ d k) staged scope public (lent count kinds visible scopes marks n0 n1 n2 n3 origins targets times heads links d k) i
 
 abbrev μ-loop : tie.MeasureT-loop
-μ-loop count₀ kinds₀ visible₀ scopes₀ marks₀ n0₀ n1₀ n2₀ n3₀ origins₀ targets₀ times₀ scope public staged i₀ count kinds visible scopes marks n0 n1 n2 n3 origins targets times i = staged .count - i
+μ-loop count₀ kinds₀ visible₀ scopes₀ marks₀ n0₀ n1₀ n2₀ n3₀ origins₀ targets₀ times₀ heads₀ links₀ scope public staged i₀ count kinds visible scopes marks n0 n1 n2 n3 origins targets times heads links i = staged .count - i
 
 loop-holds : tie.Need-loop-holds Inv-loop μ-loop
 loop-holds c = λ d k. counting-start _ _ _ _
@@ -126,17 +127,71 @@ mul-times-2 c = let e = (c .before .before .before .before .before .before .befo
 element-write-times : tie.Need-element-write-times Inv-loop μ-loop
 element-write-times c = let e = (c .before .before .before .before .before .before .before .before .before .before .loop-test) .taken in let p = (c .before .before .before .before .before .before .before .before .before .before .before .before .pre) in let q = (c .before .before .before .before .before .before .before .before .before .before .before .loop) .inv 0 [] .count in omega arith
 
+mul-t23 : tie.Need-mul-t23 Inv-loop μ-loop
+mul-t23 c = let e = (c .before .before .before .before .before .before .before .before .before .before .loop-test) .taken in let p = (c .before .before .before .before .before .before .before .before .before .before .before .before .pre) in let q = (c .before .before .before .before .before .before .before .before .before .before .before .loop) .inv 0 [] .count in omega arith
+
+element-copy-out-t42 : tie.Need-element-copy-out-t42 Inv-loop μ-loop
+element-copy-out-t42 c = let e = (c .before .before .before .before .before .before .before .before .before .before .loop-test) .taken in let p = (c .before .before .before .before .before .before .before .before .before .before .before .before .pre) in let q = (c .before .before .before .before .before .before .before .before .before .before .before .loop) .inv 0 [] .count in omega arith
+
+mul-t37 : tie.Need-mul-t37 Inv-loop μ-loop
+mul-t37 c = let e = (c .before .before .before .before .before .before .before .before .before .before .before .loop-test) .taken in let p = (c .before .before .before .before .before .before .before .before .before .before .before .before .before .pre) in let q = (c .before .before .before .before .before .before .before .before .before .before .before .before .loop) .inv 0 [] .count in omega arith
+
+element-copy-out-t73 : tie.Need-element-copy-out-t73 Inv-loop μ-loop
+element-copy-out-t73 c = let e = (c .before .before .before .before .before .before .before .before .before .before .before .loop-test) .taken in let p = (c .before .before .before .before .before .before .before .before .before .before .before .before .before .pre) in let q = (c .before .before .before .before .before .before .before .before .before .before .before .before .loop) .inv 0 [] .count in omega arith
+
+mul-t74 : tie.Need-mul-t74 Inv-loop μ-loop
+mul-t74 c = let e = (c .before .before .before .before .before .before .before .before .before .before .before .before .loop-test) .taken in let p = (c .before .before .before .before .before .before .before .before .before .before .before .before .before .before .pre) in let q = (c .before .before .before .before .before .before .before .before .before .before .before .before .before .loop) .inv 0 [] .count in omega arith
+
+element-copy-out-t77 : tie.Need-element-copy-out-t77 Inv-loop μ-loop
+element-copy-out-t77 c = let e = (c .before .before .before .before .before .before .before .before .before .before .before .before .loop-test) .taken in let p = (c .before .before .before .before .before .before .before .before .before .before .before .before .before .before .pre) in let q = (c .before .before .before .before .before .before .before .before .before .before .before .before .before .loop) .inv 0 [] .count in omega arith
+
+mul-t78 : tie.Need-mul-t78 Inv-loop μ-loop
+mul-t78 c = let e = (c .before .before .before .before .before .before .before .before .before .before .before .before .before .loop-test) .taken in let p = (c .before .before .before .before .before .before .before .before .before .before .before .before .before .before .before .pre) in let q = (c .before .before .before .before .before .before .before .before .before .before .before .before .before .before .loop) .inv 0 [] .count in omega arith
+
+element-copy-out-t81 : tie.Need-element-copy-out-t81 Inv-loop μ-loop
+element-copy-out-t81 c = let e = (c .before .before .before .before .before .before .before .before .before .before .before .before .before .loop-test) .taken in let p = (c .before .before .before .before .before .before .before .before .before .before .before .before .before .before .before .pre) in let q = (c .before .before .before .before .before .before .before .before .before .before .before .before .before .before .loop) .inv 0 [] .count in omega arith
+
+element-copy-out-bucket : tie.Need-element-copy-out-bucket Inv-loop μ-loop
+element-copy-out-bucket c = let e = (c .before .before .before .before .before .before .before .before .before .before .before .before .before .before .loop-test) .taken in let p = (c .before .before .before .before .before .before .before .before .before .before .before .before .before .before .before .before .pre) in let q = (c .before .before .before .before .before .before .before .before .before .before .before .before .before .before .before .loop) .inv 0 [] .count in omega arith
+
+bucket-requires : tie.Need-bucket-requires Inv-loop μ-loop
+bucket-requires c κs = search needs
+
+mul-links : tie.Need-mul-links Inv-loop μ-loop
+mul-links c = let e = (c .before .before .before .before .before .before .before .before .before .before .before .before .before .before .before .before .loop-test) .taken in let p = (c .before .before .before .before .before .before .before .before .before .before .before .before .before .before .before .before .before .before .pre) in let q = (c .before .before .before .before .before .before .before .before .before .before .before .before .before .before .before .before .before .loop) .inv 0 [] .count in let b = (c .bucket) .ensures .1 in omega arith
+
+element-copy-out-links : tie.Need-element-copy-out-links Inv-loop μ-loop
+element-copy-out-links c = let e = (c .before .before .before .before .before .before .before .before .before .before .before .before .before .before .before .before .loop-test) .taken in let p = (c .before .before .before .before .before .before .before .before .before .before .before .before .before .before .before .before .before .before .pre) in let q = (c .before .before .before .before .before .before .before .before .before .before .before .before .before .before .before .before .before .loop) .inv 0 [] .count in let b = (c .bucket) .ensures .1 in omega arith
+
+mul-links-2 : tie.Need-mul-links-2 Inv-loop μ-loop
+mul-links-2 c = let e = (c .before .before .before .before .before .before .before .before .before .before .before .before .before .before .before .before .before .loop-test) .taken in let p = (c .before .before .before .before .before .before .before .before .before .before .before .before .before .before .before .before .before .before .before .pre) in let q = (c .before .before .before .before .before .before .before .before .before .before .before .before .before .before .before .before .before .before .loop) .inv 0 [] .count in let b = (c .before .bucket) .ensures .1 in omega arith
+
+element-write-links : tie.Need-element-write-links Inv-loop μ-loop
+element-write-links c = let e = (c .before .before .before .before .before .before .before .before .before .before .before .before .before .before .before .before .before .loop-test) .taken in let p = (c .before .before .before .before .before .before .before .before .before .before .before .before .before .before .before .before .before .before .before .pre) in let q = (c .before .before .before .before .before .before .before .before .before .before .before .before .before .before .before .before .before .before .loop) .inv 0 [] .count in let b = (c .before .bucket) .ensures .1 in omega arith
+
+add-heads : tie.Need-add-heads Inv-loop μ-loop
+add-heads c = let e = (c .before .before .before .before .before .before .before .before .before .before .before .before .before .before .before .before .before .loop-test) .taken in let p = (c .before .before .before .before .before .before .before .before .before .before .before .before .before .before .before .before .before .before .before .pre) in let q = (c .before .before .before .before .before .before .before .before .before .before .before .before .before .before .before .before .before .before .loop) .inv 0 [] .count in let b = (c .before .bucket) .ensures .1 in omega arith
+
+cast-heads : tie.Need-cast-heads Inv-loop μ-loop
+cast-heads c = let e = (c .before .before .before .before .before .before .before .before .before .before .before .before .before .before .before .before .before .loop-test) .taken in let p = (c .before .before .before .before .before .before .before .before .before .before .before .before .before .before .before .before .before .before .before .pre) in let q = (c .before .before .before .before .before .before .before .before .before .before .before .before .before .before .before .before .before .before .loop) .inv 0 [] .count in let b = (c .before .bucket) .ensures .1 in omega arith
+
+mul-heads : tie.Need-mul-heads Inv-loop μ-loop
+mul-heads c = let e = (c .before .before .before .before .before .before .before .before .before .before .before .before .before .before .before .before .before .loop-test) .taken in let p = (c .before .before .before .before .before .before .before .before .before .before .before .before .before .before .before .before .before .before .before .pre) in let q = (c .before .before .before .before .before .before .before .before .before .before .before .before .before .before .before .before .before .before .loop) .inv 0 [] .count in let b = (c .before .bucket) .ensures .1 in omega arith
+
+element-write-heads : tie.Need-element-write-heads Inv-loop μ-loop
+element-write-heads c = let e = (c .before .before .before .before .before .before .before .before .before .before .before .before .before .before .before .before .before .loop-test) .taken in let p = (c .before .before .before .before .before .before .before .before .before .before .before .before .before .before .before .before .before .before .before .pre) in let q = (c .before .before .before .before .before .before .before .before .before .before .before .before .before .before .before .before .before .before .loop) .inv 0 [] .count in let b = (c .before .bucket) .ensures .1 in omega arith
+
 add-count : tie.Need-add-count Inv-loop μ-loop
-add-count c = let e = (c .before .before .before .before .before .before .before .before .before .before .loop-test) .taken in let p = (c .before .before .before .before .before .before .before .before .before .before .before .before .pre) in let q = (c .before .before .before .before .before .before .before .before .before .before .before .loop) .inv 0 [] .count in omega arith
+add-count c = let e = (c .before .before .before .before .before .before .before .before .before .before .before .before .before .before .before .before .before .loop-test) .taken in let p = (c .before .before .before .before .before .before .before .before .before .before .before .before .before .before .before .before .before .before .before .pre) in let q = (c .before .before .before .before .before .before .before .before .before .before .before .before .before .before .before .before .before .before .loop) .inv 0 [] .count in omega arith
 
 add-i : tie.Need-add-i Inv-loop μ-loop
-add-i c = let e = (c .before .before .before .before .before .before .before .before .before .before .loop-test) .taken in let p = (c .before .before .before .before .before .before .before .before .before .before .before .before .pre) in let q = (c .before .before .before .before .before .before .before .before .before .before .before .loop) .inv 0 [] .count in omega arith
+add-i c = let e = (c .before .before .before .before .before .before .before .before .before .before .before .before .before .before .before .before .before .loop-test) .taken in let p = (c .before .before .before .before .before .before .before .before .before .before .before .before .before .before .before .before .before .before .before .pre) in let q = (c .before .before .before .before .before .before .before .before .before .before .before .before .before .before .before .before .before .before .loop) .inv 0 [] .count in omega arith
 
 loop-less : tie.Need-loop-less Inv-loop μ-loop
-loop-less c = let e = (c .before .before .before .before .before .before .before .before .before .before .loop-test) .taken in omega arith
+loop-less c = let e = (c .before .before .before .before .before .before .before .before .before .before .before .before .before .before .before .before .before .loop-test) .taken in omega arith
 
 loop-again : tie.Need-loop-again Inv-loop μ-loop
-loop-again c = λ d k. counting-turn _ _ _ _ _ _ ((c .before .before .before .before .before .before .before .before .before .before .before .loop) .inv d k) ((c .before .before .before .before .before .before .before .before .before .before .loop-test) .taken)
+loop-again c = λ d k. counting-turn _ _ _ _ _ _ ((c .before .before .before .before .before .before .before .before .before .before .before .before .before .before .before .before .before .before .loop) .inv d k) ((c .before .before .before .before .before .before .before .before .before .before .before .before .before .before .before .before .before .loop-test) .taken) _ ((c .before .bucket) .ensures)
 
 returns : tie.Need-returns Inv-loop μ-loop
 returns c = λ d k. counting-end _ _ _ _ _ _ ((c .before .loop) .inv d k) ((c .loop-test) .left)
@@ -185,6 +240,24 @@ commit-spec =
     element-copy-out-times
     mul-times-2
     element-write-times
+    mul-t23
+    element-copy-out-t42
+    mul-t37
+    element-copy-out-t73
+    mul-t74
+    element-copy-out-t77
+    mul-t78
+    element-copy-out-t81
+    element-copy-out-bucket
+    bucket-requires
+    mul-links
+    element-copy-out-links
+    mul-links-2
+    element-write-links
+    add-heads
+    cast-heads
+    mul-heads
+    element-write-heads
     add-count
     add-i
     loop-less

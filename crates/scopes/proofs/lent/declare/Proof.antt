@@ -25,13 +25,13 @@ is-held-requires : tie.Need-is-held-requires
 is-held-requires c κs = search needs
 
 returns-4 : tie.Need-returns-4
-returns-4 c = add-held _ _ _ _ _ _ _ ((c .before .before .before .before .before .before .before .before .before .before .before .before .before .before .is-identifier) .ensures) ((c .before .before .before .before .before .before .before .before .before .before .before .before .before .if1) .taken) ((c .before .before .before .before .before .before .before .before .before .before .before .if2) .left) ((c .before .before .before .before .before .before .before .before .before .before .if3) .left) _ ((c .before .before .before .before .before .before .before .before .before .name-of) .ensures) _ ((c .before .before .before .before .before .before .before .before .current) .ensures) _ ((c .before .is-held) .ensures) ((c .if4) .taken)
+returns-4 c = add-held _ _ _ _ _ _ _ ((c .before .before .before .before .before .before .before .before .before .before .before .before .before .before .before .before .is-identifier) .ensures) ((c .before .before .before .before .before .before .before .before .before .before .before .before .before .before .before .if1) .taken) ((c .before .before .before .before .before .before .before .before .before .before .before .before .before .if2) .left) ((c .before .before .before .before .before .before .before .before .before .before .before .before .if3) .left) _ ((c .before .before .before .before .before .before .before .before .before .before .before .name-of) .ensures) _ ((c .before .before .before .before .before .before .before .before .before .before .current) .ensures) _ ((c .before .is-held) .ensures) ((c .if4) .taken)
 
 returns-5 : tie.Need-returns-5
-returns-5 c = add-full _ _ _ _ _ _ _ ((c .before .before .before .before .before .before .before .before .before .before .before .before .before .before .before .is-identifier) .ensures) ((c .before .before .before .before .before .before .before .before .before .before .before .before .before .before .if1) .taken) ((c .before .before .before .before .before .before .before .before .before .before .before .before .if2) .left) ((c .before .before .before .before .before .before .before .before .before .before .before .if3) .left) _ ((c .before .before .before .before .before .before .before .before .before .before .name-of) .ensures) _ ((c .before .before .before .before .before .before .before .before .before .current) .ensures) _ ((c .before .before .is-held) .ensures) ((c .before .if4) .left) ((c .if5) .taken)
+returns-5 c = add-full _ _ _ _ _ _ _ ((c .before .before .before .before .before .before .before .before .before .before .before .before .before .before .before .before .before .is-identifier) .ensures) ((c .before .before .before .before .before .before .before .before .before .before .before .before .before .before .before .before .if1) .taken) ((c .before .before .before .before .before .before .before .before .before .before .before .before .before .before .if2) .left) ((c .before .before .before .before .before .before .before .before .before .before .before .before .before .if3) .left) _ ((c .before .before .before .before .before .before .before .before .before .before .before .before .name-of) .ensures) _ ((c .before .before .before .before .before .before .before .before .before .before .before .current) .ensures) _ ((c .before .before .is-held) .ensures) ((c .before .if4) .left) ((c .if5) .taken)
 
 returns-6 : tie.Need-returns-6
-returns-6 c = add-open _ _ _ _ _ _ _ ((c .before .before .before .before .before .before .before .before .before .before .before .before .before .before .before .before .is-identifier) .ensures) ((c .before .before .before .before .before .before .before .before .before .before .before .before .before .before .before .if1) .taken) ((c .before .before .before .before .before .before .before .before .before .before .before .before .before .if2) .left) ((c .before .before .before .before .before .before .before .before .before .before .before .before .if3) .left) _ ((c .before .before .before .before .before .before .before .before .before .before .before .name-of) .ensures) _ ((c .before .before .before .before .before .before .before .before .before .before .current) .ensures) _ ((c .before .before .before .is-held) .ensures) ((c .before .before .if4) .left) ((c .before .if5) .left) ((c .if6) .taken)
+returns-6 c = add-open _ _ _ _ _ _ _ ((c .before .before .before .before .before .before .before .before .before .before .before .before .before .before .before .before .before .before .is-identifier) .ensures) ((c .before .before .before .before .before .before .before .before .before .before .before .before .before .before .before .before .before .if1) .taken) ((c .before .before .before .before .before .before .before .before .before .before .before .before .before .before .before .if2) .left) ((c .before .before .before .before .before .before .before .before .before .before .before .before .before .before .if3) .left) _ ((c .before .before .before .before .before .before .before .before .before .before .before .before .before .name-of) .ensures) _ ((c .before .before .before .before .before .before .before .before .before .before .before .before .current) .ensures) _ ((c .before .before .before .is-held) .ensures) ((c .before .before .if4) .left) ((c .before .if5) .left) ((c .if6) .taken)
 
 bit-requires : tie.Need-bit-requires
 bit-requires c κs = search needs
@@ -96,11 +96,38 @@ mul-times c = search needs
 element-write-times : tie.Need-element-write-times
 element-write-times c = search needs
 
+bucket-requires : tie.Need-bucket-requires
+bucket-requires c κs = search needs
+
+mul-links : tie.Need-mul-links
+mul-links c = search needs
+
+element-copy-out-links : tie.Need-element-copy-out-links
+element-copy-out-links c = search needs
+
+mul-links-2 : tie.Need-mul-links-2
+mul-links-2 c = search needs
+
+element-write-links : tie.Need-element-write-links
+element-write-links c = search needs
+
+add-heads : tie.Need-add-heads
+add-heads c = search needs
+
+cast-heads : tie.Need-cast-heads
+cast-heads c = search needs
+
+mul-heads : tie.Need-mul-heads
+mul-heads c = search needs
+
+element-write-heads : tie.Need-element-write-heads
+element-write-heads c = search needs
+
 add-count : tie.Need-add-count
 add-count c = search needs
 
 returns-7 : tie.Need-returns-7
-returns-7 c = add-made _ _ _ _ _ _ _ ((c .before .before .before .before .before .before .before .before .before .before .before .before .before .before .before .before .before .is-identifier) .ensures) ((c .before .before .before .before .before .before .before .before .before .before .before .before .before .before .before .before .if1) .taken) ((c .before .before .before .before .before .before .before .before .before .before .before .before .before .before .if2) .left) ((c .before .before .before .before .before .before .before .before .before .before .before .before .before .if3) .left) _ ((c .before .before .before .before .before .before .before .before .before .before .before .before .name-of) .ensures) _ ((c .before .before .before .before .before .before .before .before .before .before .before .current) .ensures) _ ((c .before .before .before .before .is-held) .ensures) ((c .before .before .before .if4) .left) ((c .before .before .if5) .left) ((c .before .if6) .left) _ ((c .bit) .ensures)
+returns-7 c = add-made _ _ _ _ _ _ _ ((c .before .before .before .before .before .before .before .before .before .before .before .before .before .before .before .before .before .before .before .before .before .is-identifier) .ensures) ((c .before .before .before .before .before .before .before .before .before .before .before .before .before .before .before .before .before .before .before .before .if1) .taken) ((c .before .before .before .before .before .before .before .before .before .before .before .before .before .before .before .before .before .before .if2) .left) ((c .before .before .before .before .before .before .before .before .before .before .before .before .before .before .before .before .before .if3) .left) _ ((c .before .before .before .before .before .before .before .before .before .before .before .before .before .before .before .before .name-of) .ensures) _ ((c .before .before .before .before .before .before .before .before .before .before .before .before .before .before .before .current) .ensures) _ ((c .before .before .before .before .before .before .is-held) .ensures) ((c .before .before .before .before .before .if4) .left) ((c .before .before .before .before .if5) .left) ((c .before .before .before .if6) .left) _ ((c .before .before .bit) .ensures) _ ((c .before .bucket) .ensures)
 
 pub declare-spec : {M : Type 1} → statement M
 declare-spec =
@@ -137,5 +164,14 @@ declare-spec =
     element-write-targets
     mul-times
     element-write-times
+    bucket-requires
+    mul-links
+    element-copy-out-links
+    mul-links-2
+    element-write-links
+    add-heads
+    cast-heads
+    mul-heads
+    element-write-heads
     add-count
     returns-7)

@@ -7,13 +7,19 @@ declare-requires : tie.Need-declare-requires
 declare-requires c κs = search needs
 
 returns : tie.Need-returns
-returns c = keeps-function _ _ _ _ _ _ _ ((c .declare) .ensures) ((c .before .before .before .before .before .before .before .before .before .before .before .before .before .if1) .taken)
+returns c = keeps-function _ _ _ _ _ _ _ ((c .declare) .ensures) ((c .before .before .before .before .before .before .before .before .before .before .before .before .before .before .before .if1) .taken)
 
 declare-requires-2 : tie.Need-declare-requires-2
 declare-requires-2 c κs = search needs
 
 returns-2 : tie.Need-returns-2
-returns-2 c = keeps-insert _ _ _ _ _ _ _ ((c .declare2) .ensures) ((c .before .before .before .before .before .before .before .before .before .before .before .before .before .if1) .left)
+returns-2 c = keeps-insert _ _ _ _ _ _ _ ((c .declare2) .ensures) ((c .before .before .before .before .before .before .before .before .before .before .before .before .before .before .before .if1) .left)
 
 pub insert-spec : {M : Type 1} → statement M
-insert-spec = tie.close (tie.spec declare-requires returns declare-requires-2 returns-2)
+insert-spec =
+    tie.close
+    (tie.spec
+    declare-requires
+    returns
+    declare-requires-2
+    returns-2)

@@ -1,71 +1,95 @@
-use Rattle.scopes.proofs.look.find_in.Statement.{statement}
-use Rattle.scopes.proofs.look.find_in.Tie as tie
 use borrow.Author.Needs.{needs}
 use native.Mathlib.Omega.{arith}
-use Prim.Native.Nat.{_-_, _≤_}
-use mathlib.Core.Path.{_≡_, refl, sym, _∙_}
-use Rattle.scopes.specs.Rows.{first-in, looked, first-end}
-use Rattle.scopes.specs.Blocks.{block-passed, block-hit, no-kind, no-scope, no-name}
+use Rattle.scopes.specs.Index.{Chasing, chasing-start, chasing-found, chasing-passed, chasing-end}
+use Rattle.scopes.proofs.look.find_in.Statement.{statement}
+use Rattle.scopes.proofs.look.find_in.Tie as tie
 
 abbrev Inv-loop : tie.InvT-loop
-Inv-loop scopes kinds n0 n1 n2 n3 scope time kind name i₀ i = first-in (looked scopes kinds n0 n1 n2 n3 scope kind name) scope time ≡ first-in (looked scopes kinds n0 n1 n2 n3 scope kind name) i time
+Inv-loop heads links scopes kinds n0 n1 n2 n3 scope time kind name b e₀ first₀ e first = Chasing heads links scopes kinds n0 n1 n2 n3 scope time kind name e first
 
 abbrev μ-loop : tie.MeasureT-loop
-μ-loop scopes kinds n0 n1 n2 n3 scope time kind name i₀ i = time - i
+μ-loop heads links scopes kinds n0 n1 n2 n3 scope time kind name b e₀ first₀ e first = e
+
+bucket-requires : tie.Need-bucket-requires Inv-loop μ-loop
+bucket-requires c κs = search needs
+
+mul-place-in : tie.Need-mul-place-in Inv-loop μ-loop
+mul-place-in c = search needs
+
+element-copy-out-place-in : tie.Need-element-copy-out-place-in Inv-loop μ-loop
+element-copy-out-place-in c = search needs
+
+place-in-requires : tie.Need-place-in-requires Inv-loop μ-loop
+place-in-requires c κs = search needs
 
 loop-holds : tie.Need-loop-holds Inv-loop μ-loop
-loop-holds c = refl
+loop-holds c = chasing-start _ _ _ _ _ _ _ _ _ _ _ _ _ ((c .before .before .bucket) .ensures .0) _ ((c .place-in) .ensures)
 
-block-end-requires : tie.Need-block-end-requires Inv-loop μ-loop
-block-end-requires c κs = ((c .loop-test) .taken, (c .before .before .pre))
+sub-i : tie.Need-sub-i Inv-loop μ-loop
+sub-i c = let t = (c .loop-test) .taken in let w = (c .before .loop) .inv .below in omega arith
 
-any-kind-requires : tie.Need-any-kind-requires Inv-loop μ-loop
-any-kind-requires c κs = let e = (c .block-end) .ensures in let p = (c .before .before .before .pre) in (e .1 .1, omega arith)
+mul-t24 : tie.Need-mul-t24 Inv-loop μ-loop
+mul-t24 c = let t = (c .loop-test) .taken in let w = (c .before .loop) .inv .below in omega arith
 
-any-in-requires : tie.Need-any-in-requires Inv-loop μ-loop
-any-in-requires c κs = let e = (c .before .before .block-end) .ensures in let p = (c .before .before .before .before .before .pre) in (e .1 .1, omega arith)
+element-copy-out-t27 : tie.Need-element-copy-out-t27 Inv-loop μ-loop
+element-copy-out-t27 c = let t = (c .loop-test) .taken in let w = (c .before .loop) .inv .below in omega arith
 
-any-named-requires : tie.Need-any-named-requires Inv-loop μ-loop
-any-named-requires c κs = let e = (c .before .before .before .before .block-end) .ensures in let p = (c .before .before .before .before .before .before .before .pre) in (e .1 .1, omega arith)
+mul-t28 : tie.Need-mul-t28 Inv-loop μ-loop
+mul-t28 c = let t = (c .before .loop-test) .taken in let w = (c .before .before .loop) .inv .below in omega arith
 
-find-between-requires : tie.Need-find-between-requires Inv-loop μ-loop
-find-between-requires c κs = let e = (c .before .before .before .before .before .before .block-end) .ensures in let p = (c .before .before .before .before .before .before .before .before .before .pre) in omega arith
+element-copy-out-t31 : tie.Need-element-copy-out-t31 Inv-loop μ-loop
+element-copy-out-t31 c = let t = (c .before .loop-test) .taken in let w = (c .before .before .loop) .inv .below in omega arith
 
-enum-known-found : tie.Need-enum-known-found Inv-loop μ-loop
-enum-known-found c = search needs
+mul-t32 : tie.Need-mul-t32 Inv-loop μ-loop
+mul-t32 c = let t = (c .before .before .loop-test) .taken in let w = (c .before .before .before .loop) .inv .below in omega arith
 
-returns : tie.Need-returns Inv-loop μ-loop
-returns c = sym ((c .before .before .before .before .before .before .before .before .before .before .before .before .loop) .inv ∙ block-hit _ _ _ _ ((c .before .before .before .before .before .before .before .before .before .before .block-end) .ensures .0) ((c .before .before .before .before .before .before .before .before .before .before .block-end) .ensures .1 .0) _ (sym ((c .before .before .before .find-between) .ensures) ∙ (c .before .found) .given .1))
+element-copy-out-t35 : tie.Need-element-copy-out-t35 Inv-loop μ-loop
+element-copy-out-t35 c = let t = (c .before .before .loop-test) .taken in let w = (c .before .before .before .loop) .inv .below in omega arith
 
-enum-told : tie.Need-enum-told Inv-loop μ-loop
-enum-told c = search needs
+mul-t36 : tie.Need-mul-t36 Inv-loop μ-loop
+mul-t36 c = let t = (c .before .before .before .loop-test) .taken in let w = (c .before .before .before .before .loop) .inv .below in omega arith
+
+element-copy-out-t39 : tie.Need-element-copy-out-t39 Inv-loop μ-loop
+element-copy-out-t39 c = let t = (c .before .before .before .loop-test) .taken in let w = (c .before .before .before .before .loop) .inv .below in omega arith
+
+mul-place-in-2 : tie.Need-mul-place-in-2 Inv-loop μ-loop
+mul-place-in-2 c = let t = (c .before .before .before .before .loop-test) .taken in let w = (c .before .before .before .before .before .loop) .inv .below in omega arith
+
+element-copy-out-place-in-2 : tie.Need-element-copy-out-place-in-2 Inv-loop μ-loop
+element-copy-out-place-in-2 c = let t = (c .before .before .before .before .loop-test) .taken in let w = (c .before .before .before .before .before .loop) .inv .below in omega arith
+
+place-in-requires-2 : tie.Need-place-in-requires-2 Inv-loop μ-loop
+place-in-requires-2 c κs = search needs
+
+mul-is-sought : tie.Need-mul-is-sought Inv-loop μ-loop
+mul-is-sought c = let t = (c .before .before .before .before .before .before .loop-test) .taken in let w = (c .before .before .before .before .before .before .before .loop) .inv .below in omega arith
+
+element-copy-out-is-sought : tie.Need-element-copy-out-is-sought Inv-loop μ-loop
+element-copy-out-is-sought c = let t = (c .before .before .before .before .before .before .loop-test) .taken in let w = (c .before .before .before .before .before .before .before .loop) .inv .below in omega arith
+
+element-copy-out-is-sought-2 : tie.Need-element-copy-out-is-sought-2 Inv-loop μ-loop
+element-copy-out-is-sought-2 c = let t = (c .before .before .before .before .before .before .before .loop-test) .taken in let w = (c .before .before .before .before .before .before .before .before .loop) .inv .below in omega arith
+
+is-sought-requires : tie.Need-is-sought-requires Inv-loop μ-loop
+is-sought-requires c κs = search needs
 
 loop-less : tie.Need-loop-less Inv-loop μ-loop
-loop-less c = let e = (c .before .before .before .before .before .before .before .before .before .block-end) .ensures in omega arith
+loop-less c = let t = (c .before .before .before .before .before .before .before .before .before .before .loop-test) .taken in let e = (c .before .before .before .before .place-in2) .ensures .1 in omega arith
 
 loop-again : tie.Need-loop-again Inv-loop μ-loop
-loop-again c = (c .before .before .before .before .before .before .before .before .before .before .before .loop) .inv ∙ block-passed (looked ((c .before .before .before .before .before .before .before .before .before .before .before .before .args) .scopes .now) ((c .before .before .before .before .before .before .before .before .before .before .before .before .args) .kinds .now) ((c .before .before .before .before .before .before .before .before .before .before .before .before .args) .n0 .now) ((c .before .before .before .before .before .before .before .before .before .before .before .before .args) .n1 .now) ((c .before .before .before .before .before .before .before .before .before .before .before .before .args) .n2 .now) ((c .before .before .before .before .before .before .before .before .before .before .before .before .args) .n3 .now) ((c .before .before .before .before .before .before .before .before .before .before .before .before .args) .scope) ((c .before .before .before .before .before .before .before .before .before .before .before .before .args) .kind) ((c .before .before .before .before .before .before .before .before .before .before .before .before .args) .name)) _ _ _ ((c .before .before .before .before .before .before .before .before .before .block-end) .ensures .0) ((c .before .before .before .before .before .before .before .before .before .block-end) .ensures .1 .0) (sym ((c .before .before .find-between) .ensures) ∙ (c .enum-told) .given .1)
+loop-again c = chasing-found _ _ _ _ _ _ _ _ _ _ _ _ _ _ ((c .before .before .before .before .before .before .before .before .before .before .before .loop) .inv) ((c .before .before .before .before .before .before .before .before .before .before .loop-test) .taken) _ ((c .before .before .before .before .place-in2) .ensures) _ ((c .before .is-sought) .ensures) ((c .if1) .taken)
 
 loop-less-2 : tie.Need-loop-less-2 Inv-loop μ-loop
-loop-less-2 c = let e = (c .before .before .before .before .before .before .block-end) .ensures in omega arith
+loop-less-2 c = let t = (c .before .before .before .before .before .before .before .before .before .before .loop-test) .taken in let e = (c .before .before .before .before .place-in2) .ensures .1 in omega arith
 
 loop-again-2 : tie.Need-loop-again-2 Inv-loop μ-loop
-loop-again-2 c = (c .before .before .before .before .before .before .before .before .loop) .inv ∙ block-passed (looked ((c .before .before .before .before .before .before .before .before .before .args) .scopes .now) ((c .before .before .before .before .before .before .before .before .before .args) .kinds .now) ((c .before .before .before .before .before .before .before .before .before .args) .n0 .now) ((c .before .before .before .before .before .before .before .before .before .args) .n1 .now) ((c .before .before .before .before .before .before .before .before .before .args) .n2 .now) ((c .before .before .before .before .before .before .before .before .before .args) .n3 .now) ((c .before .before .before .before .before .before .before .before .before .args) .scope) ((c .before .before .before .before .before .before .before .before .before .args) .kind) ((c .before .before .before .before .before .before .before .before .before .args) .name)) _ _ _ ((c .before .before .before .before .before .before .block-end) .ensures .0) ((c .before .before .before .before .before .before .block-end) .ensures .1 .0) (no-name ((c .before .before .before .before .before .before .before .before .before .args) .scopes .now) ((c .before .before .before .before .before .before .before .before .before .args) .kinds .now) ((c .before .before .before .before .before .before .before .before .before .args) .n0 .now) ((c .before .before .before .before .before .before .before .before .before .args) .n1 .now) ((c .before .before .before .before .before .before .before .before .before .args) .n2 .now) ((c .before .before .before .before .before .before .before .before .before .args) .n3 .now) ((c .before .before .before .before .before .before .before .before .before .args) .scope) ((c .before .before .before .before .before .before .before .before .before .args) .kind) ((c .before .before .before .before .before .before .before .before .before .args) .name) _ _ ((c .before .before .before .before .before .before .block-end) .ensures .0) _ ((c .before .any-named) .ensures) ((c .if3) .left))
+loop-again-2 c = chasing-passed _ _ _ _ _ _ _ _ _ _ _ _ _ _ ((c .before .before .before .before .before .before .before .before .before .before .before .loop) .inv) ((c .before .before .before .before .before .before .before .before .before .before .loop-test) .taken) _ ((c .before .before .before .before .place-in2) .ensures) _ ((c .before .is-sought) .ensures) ((c .if1) .left)
 
-loop-less-3 : tie.Need-loop-less-3 Inv-loop μ-loop
-loop-less-3 c = let e = (c .before .before .before .before .block-end) .ensures in omega arith
+spot-of-requires : tie.Need-spot-of-requires Inv-loop μ-loop
+spot-of-requires c κs = search needs
 
-loop-again-3 : tie.Need-loop-again-3 Inv-loop μ-loop
-loop-again-3 c = (c .before .before .before .before .before .before .loop) .inv ∙ block-passed (looked ((c .before .before .before .before .before .before .before .args) .scopes .now) ((c .before .before .before .before .before .before .before .args) .kinds .now) ((c .before .before .before .before .before .before .before .args) .n0 .now) ((c .before .before .before .before .before .before .before .args) .n1 .now) ((c .before .before .before .before .before .before .before .args) .n2 .now) ((c .before .before .before .before .before .before .before .args) .n3 .now) ((c .before .before .before .before .before .before .before .args) .scope) ((c .before .before .before .before .before .before .before .args) .kind) ((c .before .before .before .before .before .before .before .args) .name)) _ _ _ ((c .before .before .before .before .block-end) .ensures .0) ((c .before .before .before .before .block-end) .ensures .1 .0) (no-scope ((c .before .before .before .before .before .before .before .args) .scopes .now) ((c .before .before .before .before .before .before .before .args) .kinds .now) ((c .before .before .before .before .before .before .before .args) .n0 .now) ((c .before .before .before .before .before .before .before .args) .n1 .now) ((c .before .before .before .before .before .before .before .args) .n2 .now) ((c .before .before .before .before .before .before .before .args) .n3 .now) ((c .before .before .before .before .before .before .before .args) .scope) ((c .before .before .before .before .before .before .before .args) .kind) ((c .before .before .before .before .before .before .before .args) .name) _ _ ((c .before .before .before .before .block-end) .ensures .0) _ ((c .before .any-in) .ensures) ((c .if2) .left))
-
-loop-less-4 : tie.Need-loop-less-4 Inv-loop μ-loop
-loop-less-4 c = let e = (c .before .before .block-end) .ensures in omega arith
-
-loop-again-4 : tie.Need-loop-again-4 Inv-loop μ-loop
-loop-again-4 c = (c .before .before .before .before .loop) .inv ∙ block-passed (looked ((c .before .before .before .before .before .args) .scopes .now) ((c .before .before .before .before .before .args) .kinds .now) ((c .before .before .before .before .before .args) .n0 .now) ((c .before .before .before .before .before .args) .n1 .now) ((c .before .before .before .before .before .args) .n2 .now) ((c .before .before .before .before .before .args) .n3 .now) ((c .before .before .before .before .before .args) .scope) ((c .before .before .before .before .before .args) .kind) ((c .before .before .before .before .before .args) .name)) _ _ _ ((c .before .before .block-end) .ensures .0) ((c .before .before .block-end) .ensures .1 .0) (no-kind ((c .before .before .before .before .before .args) .scopes .now) ((c .before .before .before .before .before .args) .kinds .now) ((c .before .before .before .before .before .args) .n0 .now) ((c .before .before .before .before .before .args) .n1 .now) ((c .before .before .before .before .before .args) .n2 .now) ((c .before .before .before .before .before .args) .n3 .now) ((c .before .before .before .before .before .args) .scope) ((c .before .before .before .before .before .args) .kind) ((c .before .before .before .before .before .args) .name) _ _ ((c .before .before .block-end) .ensures .0) _ ((c .before .any-kind) .ensures) ((c .if1) .left))
-
-returns-2 : tie.Need-returns-2 Inv-loop μ-loop
-returns-2 c = sym ((c .before .loop) .inv ∙ first-end _ _ _ ((c .loop-test) .left))
+returns : tie.Need-returns Inv-loop μ-loop
+returns c = chasing-end _ _ _ _ _ _ _ _ _ _ _ _ _ _ ((c .before .before .loop) .inv) ((c .before .loop-test) .left) _ ((c .spot-of) .ensures)
 
 pub find-in-spec : {M : Type 1} → statement M
 find-in-spec =
@@ -73,21 +97,30 @@ find-in-spec =
     (tie.spec
     Inv-loop
     μ-loop
+    bucket-requires
+    mul-place-in
+    element-copy-out-place-in
+    place-in-requires
     loop-holds
-    block-end-requires
-    any-kind-requires
-    any-in-requires
-    any-named-requires
-    find-between-requires
-    enum-known-found
-    returns
-    enum-told
+    sub-i
+    mul-t24
+    element-copy-out-t27
+    mul-t28
+    element-copy-out-t31
+    mul-t32
+    element-copy-out-t35
+    mul-t36
+    element-copy-out-t39
+    mul-place-in-2
+    element-copy-out-place-in-2
+    place-in-requires-2
+    mul-is-sought
+    element-copy-out-is-sought
+    element-copy-out-is-sought-2
+    is-sought-requires
     loop-less
     loop-again
     loop-less-2
     loop-again-2
-    loop-less-3
-    loop-again-3
-    loop-less-4
-    loop-again-4
-    returns-2)
+    spot-of-requires
+    returns)

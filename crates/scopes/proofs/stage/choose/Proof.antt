@@ -3,7 +3,8 @@ use borrow.Author.Needs.{needs}
 use Rattle.scopes.proofs.stage.choose.Statement.{statement}
 use Rattle.scopes.proofs.stage.choose.Tie as tie
 use mathlib.Core.Path.{sym, _∙_}
-use Rattle.scopes.specs.Rows.{found-at, site-le}
+use Rattle.scopes.specs.Rows.{site-le}
+use Rattle.scopes.specs.Index.{spot-found}
 use Rattle.scopes.specs.Staging.{choice-missing, choice-private, choice-occupied, choice-made}
 
 find-in-requires : tie.Need-find-in-requires
@@ -22,7 +23,7 @@ returns : tie.Need-returns
 returns c = (c .no-choice) .ensures ∙ choice-missing _ _ _ _ _ _ _ _ _ ((c .before .before .before .find-in) .ensures) ((c .before .enum-told) .given .1)
 
 element-copy-out-if1 : tie.Need-element-copy-out-if1
-element-copy-out-if1 c = let b = found-at _ _ _ _ (sym ((c .before .before .before .find-in) .ensures) ∙ (c .before .found) .given .1) in let e = (c .before .before .before .before .pre) in omega arith
+element-copy-out-if1 c = let b = spot-found _ _ _ _ _ _ _ _ _ _ _ _ _ (sym ((c .before .before .before .find-in) .ensures) ∙ (c .before .found) .given .1) in let e = (c .before .before .before .before .pre) in omega arith
 
 no-choice-requires-2 : tie.Need-no-choice-requires-2
 no-choice-requires-2 c κs = search needs
@@ -40,43 +41,43 @@ returns-3 : tie.Need-returns-3
 returns-3 c = (c .no-choice3) .ensures ∙ choice-occupied _ _ _ _ _ _ _ _ _ (sym ((c .before .before .before .before .before .before .found) .given .1) ∙ (c .before .before .before .before .before .before .before .before .find-in) .ensures) ((c .before .before .before .if1) .left) _ ((c .before .before .is-held) .ensures) ((c .before .if2) .taken)
 
 element-copy-out-inside : tie.Need-element-copy-out-inside
-element-copy-out-inside c = let b = found-at _ _ _ _ (sym ((c .before .before .before .before .before .before .before .find-in) .ensures) ∙ (c .before .before .before .before .before .found) .given .1) in let e = (c .before .before .before .before .before .before .before .before .pre) in omega arith
+element-copy-out-inside c = let b = spot-found _ _ _ _ _ _ _ _ _ _ _ _ _ (sym ((c .before .before .before .before .before .before .before .find-in) .ensures) ∙ (c .before .before .before .before .before .found) .given .1) in let e = (c .before .before .before .before .before .before .before .before .pre) in omega arith
 
 mul-inside : tie.Need-mul-inside
-mul-inside c = let b = found-at _ _ _ _ (sym ((c .before .before .before .before .before .before .before .before .find-in) .ensures) ∙ (c .before .before .before .before .before .before .found) .given .1) in let e = (c .before .before .before .before .before .before .before .before .before .pre) in omega arith
+mul-inside c = let b = spot-found _ _ _ _ _ _ _ _ _ _ _ _ _ (sym ((c .before .before .before .before .before .before .before .before .find-in) .ensures) ∙ (c .before .before .before .before .before .before .found) .given .1) in let e = (c .before .before .before .before .before .before .before .before .before .pre) in omega arith
 
 element-copy-out-inside-2 : tie.Need-element-copy-out-inside-2
-element-copy-out-inside-2 c = let b = found-at _ _ _ _ (sym ((c .before .before .before .before .before .before .before .before .find-in) .ensures) ∙ (c .before .before .before .before .before .before .found) .given .1) in let e = (c .before .before .before .before .before .before .before .before .before .pre) in omega arith
+element-copy-out-inside-2 c = let b = spot-found _ _ _ _ _ _ _ _ _ _ _ _ _ (sym ((c .before .before .before .before .before .before .before .before .find-in) .ensures) ∙ (c .before .before .before .before .before .before .found) .given .1) in let e = (c .before .before .before .before .before .before .before .before .before .pre) in omega arith
 
 mul-inside-2 : tie.Need-mul-inside-2
-mul-inside-2 c = let b = found-at _ _ _ _ (sym ((c .before .before .before .before .before .before .before .before .before .find-in) .ensures) ∙ (c .before .before .before .before .before .before .before .found) .given .1) in let e = (c .before .before .before .before .before .before .before .before .before .before .pre) in omega arith
+mul-inside-2 c = let b = spot-found _ _ _ _ _ _ _ _ _ _ _ _ _ (sym ((c .before .before .before .before .before .before .before .before .before .find-in) .ensures) ∙ (c .before .before .before .before .before .before .before .found) .given .1) in let e = (c .before .before .before .before .before .before .before .before .before .before .pre) in omega arith
 
 element-copy-out-inside-3 : tie.Need-element-copy-out-inside-3
-element-copy-out-inside-3 c = let b = found-at _ _ _ _ (sym ((c .before .before .before .before .before .before .before .before .before .find-in) .ensures) ∙ (c .before .before .before .before .before .before .before .found) .given .1) in let e = (c .before .before .before .before .before .before .before .before .before .before .pre) in omega arith
+element-copy-out-inside-3 c = let b = spot-found _ _ _ _ _ _ _ _ _ _ _ _ _ (sym ((c .before .before .before .before .before .before .before .before .before .find-in) .ensures) ∙ (c .before .before .before .before .before .before .before .found) .given .1) in let e = (c .before .before .before .before .before .before .before .before .before .before .pre) in omega arith
 
 mul-inside-3 : tie.Need-mul-inside-3
-mul-inside-3 c = let b = found-at _ _ _ _ (sym ((c .before .before .before .before .before .before .before .before .before .before .find-in) .ensures) ∙ (c .before .before .before .before .before .before .before .before .found) .given .1) in let e = (c .before .before .before .before .before .before .before .before .before .before .before .pre) in omega arith
+mul-inside-3 c = let b = spot-found _ _ _ _ _ _ _ _ _ _ _ _ _ (sym ((c .before .before .before .before .before .before .before .before .before .before .find-in) .ensures) ∙ (c .before .before .before .before .before .before .before .before .found) .given .1) in let e = (c .before .before .before .before .before .before .before .before .before .before .before .pre) in omega arith
 
 element-copy-out-inside-4 : tie.Need-element-copy-out-inside-4
-element-copy-out-inside-4 c = let b = found-at _ _ _ _ (sym ((c .before .before .before .before .before .before .before .before .before .before .find-in) .ensures) ∙ (c .before .before .before .before .before .before .before .before .found) .given .1) in let e = (c .before .before .before .before .before .before .before .before .before .before .before .pre) in omega arith
+element-copy-out-inside-4 c = let b = spot-found _ _ _ _ _ _ _ _ _ _ _ _ _ (sym ((c .before .before .before .before .before .before .before .before .before .before .find-in) .ensures) ∙ (c .before .before .before .before .before .before .before .before .found) .given .1) in let e = (c .before .before .before .before .before .before .before .before .before .before .before .pre) in omega arith
 
 inside-requires : tie.Need-inside-requires
-inside-requires c κs = let b = found-at _ _ _ _ (sym ((c .before .before .before .before .before .before .before .before .before .before .before .find-in) .ensures) ∙ (c .before .before .before .before .before .before .before .before .before .found) .given .1) in let e = (c .before .before .before .before .before .before .before .before .before .before .before .before .pre) in omega arith
+inside-requires c κs = let b = spot-found _ _ _ _ _ _ _ _ _ _ _ _ _ (sym ((c .before .before .before .before .before .before .before .before .before .before .before .find-in) .ensures) ∙ (c .before .before .before .before .before .before .before .before .before .found) .given .1) in let e = (c .before .before .before .before .before .before .before .before .before .before .before .before .pre) in omega arith
 
-mul-t29 : tie.Need-mul-t29
-mul-t29 c = let b = found-at _ _ _ _ (sym ((c .before .before .before .before .before .before .before .before .before .before .before .before .find-in) .ensures) ∙ (c .before .before .before .before .before .before .before .before .before .before .found) .given .1) in let e = (c .before .before .before .before .before .before .before .before .before .before .before .before .before .pre) in omega arith
+mul-t31 : tie.Need-mul-t31
+mul-t31 c = let b = spot-found _ _ _ _ _ _ _ _ _ _ _ _ _ (sym ((c .before .before .before .before .before .before .before .before .before .before .before .before .find-in) .ensures) ∙ (c .before .before .before .before .before .before .before .before .before .before .found) .given .1) in let e = (c .before .before .before .before .before .before .before .before .before .before .before .before .before .pre) in omega arith
 
-element-copy-out-t40 : tie.Need-element-copy-out-t40
-element-copy-out-t40 c = let b = found-at _ _ _ _ (sym ((c .before .before .before .before .before .before .before .before .before .before .before .before .find-in) .ensures) ∙ (c .before .before .before .before .before .before .before .before .before .before .found) .given .1) in let e = (c .before .before .before .before .before .before .before .before .before .before .before .before .before .pre) in omega arith
+element-copy-out-t42 : tie.Need-element-copy-out-t42
+element-copy-out-t42 c = let b = spot-found _ _ _ _ _ _ _ _ _ _ _ _ _ (sym ((c .before .before .before .before .before .before .before .before .before .before .before .before .find-in) .ensures) ∙ (c .before .before .before .before .before .before .before .before .before .before .found) .given .1) in let e = (c .before .before .before .before .before .before .before .before .before .before .before .before .before .pre) in omega arith
 
-add-t37 : tie.Need-add-t37
-add-t37 c = let b = found-at _ _ _ _ (sym ((c .before .before .before .before .before .before .before .before .before .before .before .before .before .find-in) .ensures) ∙ (c .before .before .before .before .before .before .before .before .before .before .before .found) .given .1) in let e = (c .before .before .before .before .before .before .before .before .before .before .before .before .before .before .pre) in omega arith
+add-t39 : tie.Need-add-t39
+add-t39 c = let b = spot-found _ _ _ _ _ _ _ _ _ _ _ _ _ (sym ((c .before .before .before .before .before .before .before .before .before .before .before .before .before .find-in) .ensures) ∙ (c .before .before .before .before .before .before .before .before .before .before .before .found) .given .1) in let e = (c .before .before .before .before .before .before .before .before .before .before .before .before .before .before .pre) in omega arith
 
-cast-t36 : tie.Need-cast-t36
-cast-t36 c = let b = found-at _ _ _ _ (sym ((c .before .before .before .before .before .before .before .before .before .before .before .before .before .find-in) .ensures) ∙ (c .before .before .before .before .before .before .before .before .before .before .before .found) .given .1) in let e = (c .before .before .before .before .before .before .before .before .before .before .before .before .before .before .pre) in omega arith
+cast-t38 : tie.Need-cast-t38
+cast-t38 c = let b = spot-found _ _ _ _ _ _ _ _ _ _ _ _ _ (sym ((c .before .before .before .before .before .before .before .before .before .before .before .before .before .find-in) .ensures) ∙ (c .before .before .before .before .before .before .before .before .before .before .before .found) .given .1) in let e = (c .before .before .before .before .before .before .before .before .before .before .before .before .before .before .pre) in omega arith
 
-cast-t32 : tie.Need-cast-t32
-cast-t32 c = let e = (c .before .before .before .before .before .before .before .before .before .before .before .before .before .before .before .pre) in let t = site-le _ _ _ _ _ _ _ ((c .before .before .inside) .ensures) in omega arith
+cast-t34 : tie.Need-cast-t34
+cast-t34 c = let e = (c .before .before .before .before .before .before .before .before .before .before .before .before .before .before .before .pre) in let t = site-le _ _ _ _ _ _ _ ((c .before .before .inside) .ensures) in omega arith
 
 returns-4 : tie.Need-returns-4
 returns-4 c = choice-made _ _ _ _ _ _ _ _ _ (sym ((c .before .before .before .before .before .before .before .before .before .before .before .before .found) .given .1) ∙ (c .before .before .before .before .before .before .before .before .before .before .before .before .before .before .find-in) .ensures) ((c .before .before .before .before .before .before .before .before .before .if1) .left) _ ((c .before .before .before .before .before .before .before .before .is-held) .ensures) ((c .before .before .before .before .before .before .before .if2) .left) _ ((c .before .before .inside) .ensures)
@@ -104,9 +105,9 @@ choose-spec =
     mul-inside-3
     element-copy-out-inside-4
     inside-requires
-    mul-t29
-    element-copy-out-t40
-    add-t37
-    cast-t36
-    cast-t32
+    mul-t31
+    element-copy-out-t42
+    add-t39
+    cast-t38
+    cast-t34
     returns-4)

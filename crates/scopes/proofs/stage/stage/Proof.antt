@@ -7,16 +7,16 @@ use Rattle.scopes.specs.Rows.{arrays}
 use Rattle.scopes.specs.Staging.{Staging, staging-start, staging-turn, staging-stop, staging-end, Kinding, kinding-start, kinding-put, kinding-skip, kinding-end, kinding-done}
 
 abbrev Inv-loop2 : tie.InvT-loop2
-Inv-loop2 kinds visible scopes marks n0 n1 n2 n3 origins targets times total here scope time decl at count s₀ p i name local told₀ kind₀ s told kind = Kinding (arrays kinds visible scopes marks n0 n1 n2 n3 origins targets times) total here scope time name local s₀ kind told s
+Inv-loop2 kinds visible scopes marks n0 n1 n2 n3 origins targets times heads links total here scope time decl at count s₀ p i name local told₀ kind₀ s told kind = Kinding (arrays kinds visible scopes marks n0 n1 n2 n3 origins targets times heads links) total here scope time name local s₀ kind told s
 
 abbrev μ-loop2 : tie.MeasureT-loop2
-μ-loop2 kinds visible scopes marks n0 n1 n2 n3 origins targets times total here scope time decl at count s₀ p i name local told₀ kind₀ s told kind = 4 - kind
+μ-loop2 kinds visible scopes marks n0 n1 n2 n3 origins targets times heads links total here scope time decl at count s₀ p i name local told₀ kind₀ s told kind = 4 - kind
 
 abbrev Inv-loop : tie.InvT-loop
-Inv-loop kinds visible scopes marks n0 n1 n2 n3 origins targets times total here scope time decl at count s₀ p₀ i₀ s p i = Staging (arrays kinds visible scopes marks n0 n1 n2 n3 origins targets times) total here scope time decl at count p i s
+Inv-loop kinds visible scopes marks n0 n1 n2 n3 origins targets times heads links total here scope time decl at count s₀ p₀ i₀ s p i = Staging (arrays kinds visible scopes marks n0 n1 n2 n3 origins targets times heads links) total here scope time decl at count p i s
 
 abbrev μ-loop : tie.MeasureT-loop
-μ-loop kinds visible scopes marks n0 n1 n2 n3 origins targets times total here scope time decl at count s₀ p₀ i₀ s p i = count - i
+μ-loop kinds visible scopes marks n0 n1 n2 n3 origins targets times heads links total here scope time decl at count s₀ p₀ i₀ s p i = count - i
 
 refused-requires : tie.Need-refused-requires Inv-loop2 μ-loop2 Inv-loop μ-loop
 refused-requires c κs = search needs
