@@ -90,10 +90,22 @@ replay (suc k) x s p =
     (cond (ltb p 16777216) (shown (turn x (order-at s p) .1) ∷ replay k (turn x (order-at s p) .0) s (after-order s p)) [])
     []
 
+-- the tree that they leave
+unfoldable pub left : ℕ → Flat → List ℕ → ℕ → Flat
+left zero x s p = x
+left (suc k) x s p =
+    cond (ltb p (length s))
+    (cond (ltb p 16777216) (left k (turn x (order-at s p) .0) s (after-order s p)) x)
+    x
+
+-- a number at i, where there is place
+abbrev pub put-at : List ℕ → ℕ → ℕ → List ℕ
+put-at o i v = cond (ltb i (length o)) (set o i v) o
+
 -- numbers written one after another from i on, as far as there is place
 unfoldable pub written : List ℕ → ℕ → List ℕ → List ℕ
 written o i [] = o
-written o i (v ∷ vs) = written (cond (ltb i (length o)) (set o i v) o) (i + 1) vs
+written o i (v ∷ vs) = written (put-at o i v) (i + 1) vs
 
 -- a call on lent arrays
 pub record Turns (t : Tree) (o : Order) (n : ℕ) (u : Tree) : Type 0 where
@@ -348,10 +360,10 @@ module _ (op : ℕ) where
   item-alias y z = rw (ne-eqb op 5 y, ne-eqb op 4 z)
 
 module _ (o : List ℕ) (i v : ℕ) where
-  pub put-inside : i < length o → (set o i v ≡ cond (ltb i (length o)) (set o i v) o) × (length (set o i v) ≡ length o)
+  pub put-inside : i < length o → (set o i v ≡ put-at o i v) × (length (set o i v) ≡ length o)
   put-inside h = (rw (lt-ltb i (length o) h), lib.ListN.length-set o i v)
 
-  pub put-outside : length o ≤ i → (o ≡ cond (ltb i (length o)) (set o i v) o) × (length o ≡ length o)
+  pub put-outside : length o ≤ i → (o ≡ put-at o i v) × (length o ≡ length o)
   put-outside h = (rw (le-ltb i (length o) h), refl)
 
 pub after-mark : (p n x : ℕ) → p + 5 + n ≡ x → p + 2 + n + 3 ≡ x
@@ -396,6 +408,10 @@ module _ (s : List ℕ) (p op : ℕ) (oq : op ≡ getD s p 0) where
         unfolding after-order
         after-other z = rw (← oq, ne-eqb op 6 z6, ne-eqb op 7 z7, ne-eqb op 8 z8, ne-eqb op 1 z1, ← cq, z)
 
+-- the tree that all calls leave
+abbrev pub left-tree : List ℕ → Flat
+left-tree s = left 16000000 first-flat s 0
+
 -- THE LOOP: i answers are written, the arrays are those after i calls, and the next stands at p
 module _ (s : List ℕ) (o₀ : List ℕ) where
   abbrev pub all-answers : List ℕ
@@ -408,11 +424,18 @@ module _ (s : List ℕ) (o₀ : List ℕ) where
     pub good : Good t
     pub count : length all-answers ≡ i + length (replay (16000000 - i) (flat-of t) s p)
     pub out : written o₀ 0 all-answers ≡ written o i (replay (16000000 - i) (flat-of t) s p)
+    pub tree : left-tree s ≡ left (16000000 - i) (flat-of t) s p
 
   -- what the walk gives
   pub record Walked (r : ℕ) (o : List ℕ) : Type 0 where
     pub count : r ≡ length all-answers
     pub out : o ≡ written o₀ 0 all-answers
+
+  -- and leaves
+  pub record Replayed (r : ℕ) (o : List ℕ) (t : Tree) : Type 0 where
+    pub walked : Walked r o
+    pub good : Good t
+    pub tree : flat-of t ≡ left-tree s
 
   pub walking-start : Walking o₀ cleared 0 0
   walking-start =
@@ -423,48 +446,69 @@ module _ (s : List ℕ) (o₀ : List ℕ) where
         good = first-good;
         count = rw first-is (omega arith);
         out = rw first-is;
+        tree = rw first-is;
       }
 
   pub walking-begin : (t : Tree) → t ≡ cleared → Walking o₀ t 0 0
   walking-begin t q = subst (λ (x : Tree). Walking o₀ x 0 0) (sym q) walking-start
 
   module _ (o : List ℕ) (t : Tree) (p i : ℕ) (w : Walking o t p i) where
-    ended-here : replay (16000000 - i) (flat-of t) s p ≡ [] → Walked i o
+    ended-here : replay (16000000 - i) (flat-of t) s p ≡ [] → left (16000000 - i) (flat-of t) s p ≡ flat-of t → Replayed i o t
     unfolding written
-    ended-here e =
+    ended-here e f =
         record {
-          count = sym (w .count ∙ ap (λ (x : List ℕ). i + length x) e ∙ native.Mathlib.Nat.add-zero i);
-          out = sym (w .out ∙ ap (written o i) e);
+          walked =
+              record {
+                count = sym (w .count ∙ ap (λ (x : List ℕ). i + length x) e ∙ native.Mathlib.Nat.add-zero i);
+                out = sym (w .out ∙ ap (written o i) e);
+              };
+          good = w .good;
+          tree = sym (w .tree ∙ f);
         }
 
-    pub walking-past : length s ≤ p → Walked i o
-    unfolding replay
-    walking-past h = ended-here (go (16000000 - i))
+    pub walking-past : length s ≤ p → Replayed i o t
+    unfolding replay left
+    walking-past h = ended-here (go (16000000 - i)) (stays (16000000 - i))
       where
         go : (k : ℕ) → replay k (flat-of t) s p ≡ []
         go zero = refl
         go (suc k) = rw (le-ltb p (length s) h)
 
-    pub walking-far : p < length s → 16777216 ≤ p → Walked i o
-    unfolding replay
-    walking-far h f = ended-here (go (16000000 - i))
+        stays : (k : ℕ) → left k (flat-of t) s p ≡ flat-of t
+        stays zero = refl
+        stays (suc k) = rw (le-ltb p (length s) h)
+
+    pub walking-far : p < length s → 16777216 ≤ p → Replayed i o t
+    unfolding replay left
+    walking-far h f = ended-here (go (16000000 - i)) (stays (16000000 - i))
       where
         go : (k : ℕ) → replay k (flat-of t) s p ≡ []
         go zero = refl
         go (suc k) = rw (lt-ltb p (length s) h, le-ltb p 16777216 f)
 
-    pub walking-end : 16000000 ≤ i → Walked i o
-    unfolding replay
-    walking-end h = let e : 16000000 - i ≡ 0 = omega (arith, w .within) in ended-here (rw e)
+        stays : (k : ℕ) → left k (flat-of t) s p ≡ flat-of t
+        stays zero = refl
+        stays (suc k) = rw (lt-ltb p (length s) h, le-ltb p 16777216 f)
+
+    pub walking-end : 16000000 ≤ i → Replayed i o t
+    unfolding replay left
+    walking-end h = let e : 16000000 - i ≡ 0 = omega (arith, w .within) in ended-here (rw e) (rw e)
 
     module _ (l : i < 16000000) (h : p < length s) (f : p < 16777216) (a : ℕ) (u : Tree) (c : Turned t (order-at s p) a u)
-        (o′ : List ℕ) (oq : o′ ≡ cond (ltb i (length o)) (set o i a) o) (ol : length o′ ≡ length o) (q : ℕ) (qq : q ≡ after-order s p) (ql : q ≤ p + 65539) where
+        (o′ : List ℕ) (oq : o′ ≡ put-at o i a) (ol : length o′ ≡ length o) (q : ℕ) (qq : q ≡ after-order s p) (ql : q ≤ p + 65539) where
       stepped : replay (16000000 - i) (flat-of t) s p ≡ a ∷ replay (16000000 - (i + 1)) (flat-of u) s q
       unfolding replay
       stepped =
           let e : 16000000 - i ≡ suc (16000000 - (i + 1)) = omega arith in
           ap (λ (k : ℕ). replay k (flat-of t) s p) e
           ∙ rw (lt-ltb p (length s) h, lt-ltb p 16777216 f, ← c .said (w .good), ← c .tree (w .good), ← qq)
+
+      stays : left (16000000 - i) (flat-of t) s p ≡ left (16000000 - (i + 1)) (flat-of u) s q
+      unfolding left
+      stays =
+          let e : 16000000 - i ≡ suc (16000000 - (i + 1)) = omega arith in
+          ap (λ (k : ℕ). left k (flat-of t) s p) e
+          ∙ rw (lt-ltb p (length s) h, lt-ltb p 16777216 f, ← c .tree (w .good), ← qq)
 
       pub walking-turn : Walking o′ u q (i + 1)
       unfolding written
@@ -476,4 +520,5 @@ module _ (s : List ℕ) (o₀ : List ℕ) where
             good = c .good (w .good);
             count = w .count ∙ ap (λ (x : List ℕ). i + length x) stepped ∙ omega arith;
             out = w .out ∙ ap (written o i) stepped ∙ ap (λ (x : List ℕ). written x (i + 1) (replay (16000000 - (i + 1)) (flat-of u) s q)) (sym oq);
+            tree = w .tree ∙ stays;
           }

@@ -4,11 +4,12 @@
 ghost use mathlib.Core.Path.{_≡_};
 ghost use Prim.Native.Nat.{_+_, _*_, _<_, _≤_};
 ghost use mathlib.Core.Bool.{cond};
-ghost use lib.Dec.{ltb};
-ghost use lib.ListN.{length, getD, set};
+ghost use lib.ListN.{length, getD};
 ghost use Rattle.scopes.specs.Trees.{told};
 ghost use Rattle.scopes.specs.Lent.{lent};
-ghost use Rattle.scopes_c.specs.Lists.{pair-at, part-of, item-kind, is-declaring, order-at, after-order, shown, number-shown, Turns, Tells, Called, Walked};
+ghost use Rattle.scopes_c.specs.Lists.{pair-at, part-of, item-kind, is-declaring, order-at, after-order, shown, number-shown, Turns, Tells, Called, put-at, written, Walked, Replayed};
+ghost use Rattle.scopes.specs.Rows.{isOwn, row};
+ghost use Rattle.scopes_c.specs.TreeRows.{numbers, Listed};
 use names::Name;
 use scopes::Answer;
 use scopes::Outcome;
@@ -145,7 +146,7 @@ pub fn call_at(t: Tree, s: &[u8], p: usize) -> Step
 }
 
 fn put(out: &mut [u32], at: usize, v: u32)
-    ensures { λ _. ⌜ (now (out .exit) ≡ cond (ltb at (length (now (out .entry)))) (set (now (out .entry)) at v) (now (out .entry))) × (length (now (out .exit)) ≡ length (now (out .entry))) ⌝ }
+    ensures { λ _. ⌜ (now (out .exit) ≡ put-at (now (out .entry)) at v) × (length (now (out .exit)) ≡ length (now (out .entry))) ⌝ }
 {
     if at < out.len() {
         out[at] = v;
@@ -165,7 +166,7 @@ struct Replay {
 }
 
 fn replayed(s: &[u8], out: &mut [u32]) -> Replay
-    ensures { λ r. ⌜ Walked (now (s .entry)) (now (out .entry)) (r .count) (now (out .exit)) ⌝ }
+    ensures { λ r. ⌜ Replayed (now (s .entry)) (now (out .entry)) (r .count) (now (out .exit)) (r .tree) ⌝ }
 {
     let mut t = scopes::empty();
     let mut p: usize = 0;
@@ -466,21 +467,47 @@ pub extern "C" fn scopes_walk(s: &[u8], out: &mut [u32]) -> usize
     i
 }
 
-fn put_wide(out: &mut [u64], at: usize, v: u64) {
+fn put_wide(out: &mut [u64], at: usize, v: u64)
+    ensures { λ _. ⌜ (now (out .exit) ≡ put-at (now (out .entry)) at v) × (length (now (out .exit)) ≡ length (now (out .entry))) ⌝ }
+{
     if at < out.len() {
         out[at] = v;
     }
 }
 
-fn put_name(out: &mut [u64], at: usize, n: Name)
-    requires { ⌜ at < 131072 ⌝ }
+fn put_all(out: &mut [u64], at: usize, row: [u64; 11])
+    requires { ⌜ at < 65536 ⌝ }
+    ensures { λ _. ⌜ now (out .exit) ≡ written (now (out .entry)) at row ⌝ }
 {
-    put_wide(out, at, n.w0);
-    put_wide(out, at + 1, n.w1);
-    put_wide(out, at + 2, n.w2);
-    put_wide(out, at + 3, n.w3);
+    let mut i: usize = 0;
+    while i < 11 {
+        put_wide(out, at + i, row[i]);
+        i += 1;
+    }
 }
 
+fn one(b: bool) -> u64
+    ensures { λ r. ⌜ r ≡ cond b 1 0 ⌝ }
+{
+    if b { 1 } else { 0 }
+}
+
+fn is_own(kind: u8, origin: u16) -> bool
+    ensures { λ r. ⌜ r ≡ isOwn kind origin ⌝ }
+{
+    if kind != 3 {
+        return false;
+    }
+    origin == 0
+}
+
+fn unless(own: bool, x: u16) -> u64
+    ensures { λ r. ⌜ r ≡ cond own 0 x ⌝ }
+{
+    if own { 0 } else { x as u64 }
+}
+
+// An entry's eleven numbers.
 fn put_row(
     out: &mut [u64],
     at: usize,
@@ -494,29 +521,37 @@ fn put_row(
     n: Name,
 )
     requires { ⌜ at < 65536 ⌝ }
+    ensures { λ _. ⌜ now (out .exit) ≡ written (now (out .entry)) at (numbers (row kind visible scope mark n origin target time)) ⌝ }
 {
-    put_wide(out, at, kind as u64);
-    put_wide(out, at + 1, visible as u64);
-    put_wide(out, at + 2, scope as u64);
-    put_wide(out, at + 3, mark as u64);
-    put_wide(out, at + 4, origin as u64);
-    put_wide(out, at + 5, target as u64);
-    put_wide(out, at + 6, time as u64);
-    put_name(out, at + 7, n);
+    let own = is_own(kind, origin);
+    let numbers = [
+        kind as u64,
+        one(visible == 1),
+        scope as u64,
+        mark as u64,
+        origin as u64,
+        unless(own, target),
+        unless(own, time),
+        n.w0,
+        n.w1,
+        n.w2,
+        n.w3,
+    ];
+    put_all(out, at, numbers);
 }
 
 // The tree that the calls leave, eleven numbers an entry: kind, visibility, scope, mark, origin, what a copy shows (a scope and a
-// time), and the name's four words. Gives how many entries there are.
+// time), and the name's four words; as far as there is place. Gives how many entries there are. Ruled out: an entry of a refused
+// call; a copy that shows a later time.
 #[no_mangle]
-pub extern "C" fn scopes_rows(s: &[u8], out: &mut [u64]) -> usize {
+pub extern "C" fn scopes_rows(s: &[u8], out: &mut [u64]) -> usize
+    ensures { λ r. ⌜ Listed (now (s .entry)) (now (out .entry)) r (now (out .exit)) ⌝ }
+{
     let mut none = [0u32; 1];
     let r = replayed(s, &mut none);
     let t = r.tree;
     let mut i: usize = 0;
-    while i < 1024 {
-        if t.count <= i {
-            return i;
-        }
+    while i < t.count {
         let n = Name {
             w0: t.n0[i],
             w1: t.n1[i],

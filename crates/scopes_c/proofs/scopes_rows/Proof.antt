@@ -1,15 +1,15 @@
 use borrow.Author.Needs.{needs}
 use Prim.Native.Nat.{_-_}
-use mathlib.Core.Path.{_≡_}
-use lib.ListN.{length}
+use native.Mathlib.Omega.{arith}
+use Rattle.scopes_c.specs.TreeRows.{Listing, listing-start, listing-turn, listing-end}
 use Rattle.scopes_c.proofs.scopes_rows.Statement.{statement}
 use Rattle.scopes_c.proofs.scopes_rows.Tie as tie
 
 abbrev Inv-loop : tie.InvT-loop
-Inv-loop s out₀ t i₀ out i = length out ≡ length out₀
+Inv-loop s out₀ t i₀ out i = Listing out₀ t out i
 
 abbrev μ-loop : tie.MeasureT-loop
-μ-loop s out₀ t i₀ out i = 1024 - i
+μ-loop s out₀ t i₀ out i = t .count - i
 
 slice-aggregate-replayed : tie.Need-slice-aggregate-replayed Inv-loop μ-loop
 slice-aggregate-replayed c = search needs
@@ -18,94 +18,88 @@ replayed-requires : tie.Need-replayed-requires Inv-loop μ-loop
 replayed-requires c κs = search needs
 
 loop-holds : tie.Need-loop-holds Inv-loop μ-loop
-loop-holds c = search needs
+loop-holds c = listing-start _ _
 
-same-length : tie.Need-same-length Inv-loop μ-loop
-same-length c = search needs
-
-returns : tie.Need-returns Inv-loop μ-loop
-returns c = search needs
-
-mul-t11 : tie.Need-mul-t11 Inv-loop μ-loop
-mul-t11 c = search needs
+mul-t10 : tie.Need-mul-t10 Inv-loop μ-loop
+mul-t10 c = let t = (c .loop-test) .taken in let g = (c .before .before .before .before .replayed) .ensures .good .small in omega arith
 
 element-copy-out-t14 : tie.Need-element-copy-out-t14 Inv-loop μ-loop
-element-copy-out-t14 c = search needs
+element-copy-out-t14 c = let t = (c .loop-test) .taken in let g = (c .before .before .before .before .replayed) .ensures .good .small in omega arith
 
 mul-t15 : tie.Need-mul-t15 Inv-loop μ-loop
-mul-t15 c = search needs
+mul-t15 c = let t = (c .before .loop-test) .taken in let g = (c .before .before .before .before .before .replayed) .ensures .good .small in omega arith
 
 element-copy-out-t18 : tie.Need-element-copy-out-t18 Inv-loop μ-loop
-element-copy-out-t18 c = search needs
+element-copy-out-t18 c = let t = (c .before .loop-test) .taken in let g = (c .before .before .before .before .before .replayed) .ensures .good .small in omega arith
 
 mul-t19 : tie.Need-mul-t19 Inv-loop μ-loop
-mul-t19 c = search needs
+mul-t19 c = let t = (c .before .before .loop-test) .taken in let g = (c .before .before .before .before .before .before .replayed) .ensures .good .small in omega arith
 
 element-copy-out-t22 : tie.Need-element-copy-out-t22 Inv-loop μ-loop
-element-copy-out-t22 c = search needs
+element-copy-out-t22 c = let t = (c .before .before .loop-test) .taken in let g = (c .before .before .before .before .before .before .replayed) .ensures .good .small in omega arith
 
 mul-t23 : tie.Need-mul-t23 Inv-loop μ-loop
-mul-t23 c = search needs
+mul-t23 c = let t = (c .before .before .before .loop-test) .taken in let g = (c .before .before .before .before .before .before .before .replayed) .ensures .good .small in omega arith
 
 element-copy-out-t26 : tie.Need-element-copy-out-t26 Inv-loop μ-loop
-element-copy-out-t26 c = search needs
+element-copy-out-t26 c = let t = (c .before .before .before .loop-test) .taken in let g = (c .before .before .before .before .before .before .before .replayed) .ensures .good .small in omega arith
 
 mul-put-row : tie.Need-mul-put-row Inv-loop μ-loop
-mul-put-row c = search needs
+mul-put-row c = let t = (c .before .before .before .before .before .loop-test) .taken in let g = (c .before .before .before .before .before .before .before .before .before .replayed) .ensures .good .small in omega arith
 
 element-copy-out-put-row : tie.Need-element-copy-out-put-row Inv-loop μ-loop
-element-copy-out-put-row c = search needs
+element-copy-out-put-row c = let t = (c .before .before .before .before .before .loop-test) .taken in let g = (c .before .before .before .before .before .before .before .before .before .replayed) .ensures .good .small in omega arith
 
 element-copy-out-put-row-2 : tie.Need-element-copy-out-put-row-2 Inv-loop μ-loop
-element-copy-out-put-row-2 c = search needs
+element-copy-out-put-row-2 c = let t = (c .before .before .before .before .before .before .loop-test) .taken in let g = (c .before .before .before .before .before .before .before .before .before .before .replayed) .ensures .good .small in omega arith
 
 mul-put-row-2 : tie.Need-mul-put-row-2 Inv-loop μ-loop
-mul-put-row-2 c = search needs
+mul-put-row-2 c = let t = (c .before .before .before .before .before .before .before .loop-test) .taken in let g = (c .before .before .before .before .before .before .before .before .before .before .before .replayed) .ensures .good .small in omega arith
 
 element-copy-out-put-row-3 : tie.Need-element-copy-out-put-row-3 Inv-loop μ-loop
-element-copy-out-put-row-3 c = search needs
+element-copy-out-put-row-3 c = let t = (c .before .before .before .before .before .before .before .loop-test) .taken in let g = (c .before .before .before .before .before .before .before .before .before .before .before .replayed) .ensures .good .small in omega arith
 
 mul-put-row-3 : tie.Need-mul-put-row-3 Inv-loop μ-loop
-mul-put-row-3 c = search needs
+mul-put-row-3 c = let t = (c .before .before .before .before .before .before .before .before .loop-test) .taken in let g = (c .before .before .before .before .before .before .before .before .before .before .before .before .replayed) .ensures .good .small in omega arith
 
 element-copy-out-put-row-4 : tie.Need-element-copy-out-put-row-4 Inv-loop μ-loop
-element-copy-out-put-row-4 c = search needs
+element-copy-out-put-row-4 c = let t = (c .before .before .before .before .before .before .before .before .loop-test) .taken in let g = (c .before .before .before .before .before .before .before .before .before .before .before .before .replayed) .ensures .good .small in omega arith
 
 mul-put-row-4 : tie.Need-mul-put-row-4 Inv-loop μ-loop
-mul-put-row-4 c = search needs
+mul-put-row-4 c = let t = (c .before .before .before .before .before .before .before .before .before .loop-test) .taken in let g = (c .before .before .before .before .before .before .before .before .before .before .before .before .before .replayed) .ensures .good .small in omega arith
 
 element-copy-out-put-row-5 : tie.Need-element-copy-out-put-row-5 Inv-loop μ-loop
-element-copy-out-put-row-5 c = search needs
+element-copy-out-put-row-5 c = let t = (c .before .before .before .before .before .before .before .before .before .loop-test) .taken in let g = (c .before .before .before .before .before .before .before .before .before .before .before .before .before .replayed) .ensures .good .small in omega arith
 
 mul-put-row-5 : tie.Need-mul-put-row-5 Inv-loop μ-loop
-mul-put-row-5 c = search needs
+mul-put-row-5 c = let t = (c .before .before .before .before .before .before .before .before .before .before .loop-test) .taken in let g = (c .before .before .before .before .before .before .before .before .before .before .before .before .before .before .replayed) .ensures .good .small in omega arith
 
 element-copy-out-put-row-6 : tie.Need-element-copy-out-put-row-6 Inv-loop μ-loop
-element-copy-out-put-row-6 c = search needs
+element-copy-out-put-row-6 c = let t = (c .before .before .before .before .before .before .before .before .before .before .loop-test) .taken in let g = (c .before .before .before .before .before .before .before .before .before .before .before .before .before .before .replayed) .ensures .good .small in omega arith
 
 mul-put-row-6 : tie.Need-mul-put-row-6 Inv-loop μ-loop
-mul-put-row-6 c = search needs
+mul-put-row-6 c = let t = (c .before .before .before .before .before .before .before .before .before .before .before .loop-test) .taken in let g = (c .before .before .before .before .before .before .before .before .before .before .before .before .before .before .before .replayed) .ensures .good .small in omega arith
 
 element-copy-out-put-row-7 : tie.Need-element-copy-out-put-row-7 Inv-loop μ-loop
-element-copy-out-put-row-7 c = search needs
+element-copy-out-put-row-7 c = let t = (c .before .before .before .before .before .before .before .before .before .before .before .loop-test) .taken in let g = (c .before .before .before .before .before .before .before .before .before .before .before .before .before .before .before .replayed) .ensures .good .small in omega arith
 
 put-row-requires : tie.Need-put-row-requires Inv-loop μ-loop
-put-row-requires c κs = search needs
+put-row-requires c κs = let t = (c .before .before .before .before .before .before .before .before .before .before .before .before .loop-test) .taken in let g = (c .before .before .before .before .before .before .before .before .before .before .before .before .before .before .before .before .replayed) .ensures .good .small in omega arith
 
 add-i : tie.Need-add-i Inv-loop μ-loop
-add-i c = search needs
+add-i c = let t = (c .before .before .before .before .before .before .before .before .before .before .before .before .before .before .before .loop-test) .taken in let g = (c .before .before .before .before .before .before .before .before .before .before .before .before .before .before .before .before .before .before .before .replayed) .ensures .good .small in omega arith
 
 loop-less : tie.Need-loop-less Inv-loop μ-loop
-loop-less c = search needs
+loop-less c = let t = (c .before .before .before .before .before .before .before .before .before .before .before .before .before .before .before .loop-test) .taken in omega arith
 
 loop-again : tie.Need-loop-again Inv-loop μ-loop
-loop-again c = search needs
+loop-again c = listing-turn _ _ _ _ ((c .before .before .before .before .before .before .before .before .before .before .before .before .before .before .before .before .loop) .inv) ((c .before .before .before .before .before .before .before .before .before .before .before .before .before .before .before .loop-test) .taken) _ ((c .before .before .put-row) .ensures)
 
-same-length-2 : tie.Need-same-length-2 Inv-loop μ-loop
-same-length-2 c = search needs
+same-length : tie.Need-same-length Inv-loop μ-loop
+same-length c = (c .before .loop) .inv .long
 
-returns-2 : tie.Need-returns-2 Inv-loop μ-loop
-returns-2 c = search needs
+returns : tie.Need-returns Inv-loop μ-loop
+returns c = listing-end _ _ _ _ ((c .before .loop) .inv) ((c .loop-test) .left) _ ((c .before .before .before .before .replayed) .ensures .tree)
 
 pub scopes-rows-spec : {M : Type 1} → statement M
 scopes-rows-spec =
@@ -116,9 +110,7 @@ scopes-rows-spec =
     slice-aggregate-replayed
     replayed-requires
     loop-holds
-    same-length
-    returns
-    mul-t11
+    mul-t10
     element-copy-out-t14
     mul-t15
     element-copy-out-t18
@@ -143,5 +135,5 @@ scopes-rows-spec =
     add-i
     loop-less
     loop-again
-    same-length-2
-    returns-2)
+    same-length
+    returns)

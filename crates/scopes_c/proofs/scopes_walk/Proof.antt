@@ -21,13 +21,13 @@ same-length : tie.Need-same-length Inv-loop μ-loop
 same-length c = search needs
 
 returns : tie.Need-returns Inv-loop μ-loop
-returns c = walking-past _ _ _ _ _ _ ((c .before .before .loop) .inv .0) ((c .if1) .taken)
+returns c = (walking-past _ _ _ _ _ _ ((c .before .before .loop) .inv .0) ((c .if1) .taken)) .walked
 
 same-length-2 : tie.Need-same-length-2 Inv-loop μ-loop
 same-length-2 c = search needs
 
 returns-2 : tie.Need-returns-2 Inv-loop μ-loop
-returns-2 c = walking-far _ _ _ _ _ _ ((c .before .before .before .loop) .inv .0) ((c .before .if1) .left) ((c .if2) .taken)
+returns-2 c = (walking-far _ _ _ _ _ _ ((c .before .before .before .loop) .inv .0) ((c .before .if1) .left) ((c .if2) .taken)) .walked
 
 call-in-requires : tie.Need-call-in-requires Inv-loop μ-loop
 call-in-requires c κs = search needs
@@ -51,7 +51,7 @@ same-length-3 : tie.Need-same-length-3 Inv-loop μ-loop
 same-length-3 c = search needs
 
 returns-3 : tie.Need-returns-3 Inv-loop μ-loop
-returns-3 c = walking-end _ _ _ _ _ _ ((c .before .loop) .inv .0) ((c .loop-test) .left)
+returns-3 c = (walking-end _ _ _ _ _ _ ((c .before .loop) .inv .0) ((c .loop-test) .left)) .walked
 
 pub scopes-walk-spec : {M : Type 1} → statement M
 scopes-walk-spec =

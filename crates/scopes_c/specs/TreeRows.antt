@@ -1,0 +1,157 @@
+-- The tree that a list of calls leaves, entry by entry as eleven numbers. Assumes nothing.
+use Prim.Native.Nat.{ℕ, zero, suc, _+_, _*_, _≤_, _<_}
+use native.Mathlib.Omega.{arith}
+use native.Mathlib.Numerals.{add-one}
+use mathlib.Core.Path.{_≡_, refl, ap, sym, _∙_}
+use mathlib.Core.Bool.{Bool, true, false, cond}
+use mathlib.Core.List.{List, [], _∷_, _++_}
+use lib.Dec.{eqb, ltb}
+use lib.ListN.{length, drop, getD, set, drop-of-length-le, length-set}
+use lib.Seq.{drop-cons}
+use Rattle.names.specs.declared.Name.{Name}
+use Rattle.scopes.specs.declared.Tree.{Tree}
+use Rattle.scopes.specs.Step.{Came, declared, used}
+use Rattle.scopes.specs.Flat.{Body, own, copy, Entry, none}
+use Rattle.scopes.specs.Rows.{tab, length-tab, getD-tab, isOwn, row, row-at, came-of, body-of}
+use Rattle.scopes.specs.Trees.{Good, rows, entries-of, flat-of}
+use Rattle.scopes_c.specs.Lists.{put-at, written, left-tree}
+
+-- 0 for a declaration, else the number of the entry copied, plus one
+abbrev pub origin-of : Came → ℕ
+origin-of declared = 0
+origin-of (used i) = suc i
+
+-- what a copy shows: a scope, and among how many entries; 0 for a module's own
+abbrev pub scope-of : Body → ℕ
+scope-of own = 0
+scope-of (copy a u) = a
+
+abbrev pub time-of : Body → ℕ
+time-of own = 0
+time-of (copy a u) = u
+
+-- kind, visibility, scope, mark, origin, what a copy shows, and the name's words
+abbrev pub numbers : Entry → List ℕ
+numbers e =
+    e .shows .kind ∷ cond (e .shows .vis) 1 0 ∷ e .scope ∷ e .shows .mark ∷ origin-of (e .shows .came) ∷ scope-of (e .body) ∷ time-of (e .body)
+    ∷ e .shows .name .w0 ∷ e .shows .name .w1 ∷ e .shows .name .w2 ∷ e .shows .name .w3 ∷ []
+
+unfoldable pub all-numbers : List Entry → List ℕ
+all-numbers [] = []
+all-numbers (e ∷ es) = numbers e ++ all-numbers es
+
+-- of the bytes s and the lent numbers o₀: how many entries the tree has, and its numbers written from the start on, as far as there is place
+pub record Listed (s o₀ : List ℕ) (r : ℕ) (o : List ℕ) : Type 0 where
+  pub count : r ≡ length (left-tree s .entries)
+  pub out : o ≡ written o₀ 0 (all-numbers (left-tree s .entries))
+
+-- LAWS
+written-append : (o : List ℕ) (i : ℕ) (xs ys : List ℕ) → written o i (xs ++ ys) ≡ written (written o i xs) (i + length xs) ys
+unfolding written
+written-append o i [] ys = let e : i ≡ i + 0 = omega arith in ap (λ (j : ℕ). written o j ys) e
+written-append o i (x ∷ xs) ys =
+    let e : i + 1 + length xs ≡ i + suc (length xs) = omega arith in
+    written-append (put-at o i x) (i + 1) xs ys ∙ ap (λ (j : ℕ). written (written (put-at o i x) (i + 1) xs) j ys) e
+
+written-length : (o : List ℕ) (i : ℕ) (xs : List ℕ) → length (written o i xs) ≡ length o
+unfolding written
+written-length o i [] = refl
+written-length o i (x ∷ xs) = written-length (put-at o i x) (i + 1) xs ∙ go (ltb i (length o))
+  where
+    go : (b : Bool) → length (cond b (set o i x) o) ≡ length o
+    go true = length-set o i x
+    go false = refl
+
+-- the numbers of an entry of the arrays
+pub entry-numbers : (k v s m : ℕ) (n : Name) (o a u : ℕ)
+    → k ∷ cond (eqb v 1) 1 0 ∷ s ∷ m ∷ o ∷ cond (isOwn k o) 0 a ∷ cond (isOwn k o) 0 u ∷ n .w0 ∷ n .w1 ∷ n .w2 ∷ n .w3 ∷ [] ≡ numbers (row k v s m n o a u)
+entry-numbers k v s m n o a u = go (isOwn k o) o
+  where
+    go : (b : Bool) (x : ℕ)
+        → k ∷ cond (eqb v 1) 1 0 ∷ s ∷ m ∷ x ∷ cond b 0 a ∷ cond b 0 u ∷ n .w0 ∷ n .w1 ∷ n .w2 ∷ n .w3 ∷ []
+        ≡ k ∷ cond (eqb v 1) 1 0 ∷ s ∷ m ∷ origin-of (came-of x) ∷ scope-of (cond b own (copy a u)) ∷ time-of (cond b own (copy a u)) ∷ n .w0 ∷ n .w1 ∷ n .w2 ∷ n .w3 ∷ []
+    go true zero = refl
+    go true (suc x) = refl
+    go false zero = refl
+    go false (suc x) = refl
+
+-- AS THE CODE HAS IT
+pub row-put : (o′ o : List ℕ) (at k v s m : ℕ) (n : Name) (og a u : ℕ) (b : Bool) → b ≡ isOwn k og → (x : ℕ) → x ≡ cond (eqb v 1) 1 0 → (y : ℕ) → y ≡ cond b 0 a → (z : ℕ) → z ≡ cond b 0 u
+    → o′ ≡ written o at (k ∷ x ∷ s ∷ m ∷ og ∷ y ∷ z ∷ n .w0 ∷ n .w1 ∷ n .w2 ∷ n .w3 ∷ []) → o′ ≡ written o at (numbers (row k v s m n og a u))
+row-put o′ o at k v s m n og a u b bq x xq y yq z zq h =
+    let e : x ∷ s ∷ m ∷ og ∷ y ∷ z ∷ n .w0 ∷ n .w1 ∷ n .w2 ∷ n .w3 ∷ [] ≡ cond (eqb v 1) 1 0 ∷ s ∷ m ∷ og ∷ cond (isOwn k og) 0 a ∷ cond (isOwn k og) 0 u ∷ n .w0 ∷ n .w1 ∷ n .w2 ∷ n .w3 ∷ [] = rw (xq, yq, zq, bq) in
+    h ∙ ap (λ (l : List ℕ). written o at (k ∷ l)) e ∙ ap (written o at) (entry-numbers k v s m n og a u)
+
+-- THE LOOP over a row's numbers: those before i are written
+module _ (o₀ : List ℕ) (at : ℕ) (xs : List ℕ) where
+  pub record Putting (o : List ℕ) (i : ℕ) : Type 0 where
+    pub within : i ≤ 11
+    pub long : length o ≡ length o₀
+    pub same : written o₀ at xs ≡ written o (at + i) (drop i xs)
+
+  pub putting-start : Putting o₀ 0
+  putting-start =
+      let e : at ≡ at + 0 = omega arith in
+      record { within = omega arith; long = refl; same = ap (λ (j : ℕ). written o₀ j xs) e }
+
+  module _ (o : List ℕ) (i : ℕ) (w : Putting o i) where
+    pub putting-turn : length xs ≡ 11 → i < 11 → (o′ : List ℕ) → (o′ ≡ put-at o (at + i) (getD xs i 0)) × (length o′ ≡ length o) → Putting o′ (i + 1)
+    unfolding written
+    putting-turn z h o′ (q, l) =
+        let e : at + i + 1 ≡ at + (i + 1) = omega arith in
+        record {
+          within = omega arith;
+          long = l ∙ w .long;
+          same =
+              w .same ∙ ap (written o (at + i)) (drop-cons xs i 0 (omega arith))
+              ∙ ap (λ (x : List ℕ). written x (at + i + 1) (drop (suc i) xs)) (sym q)
+              ∙ ap (λ (j : ℕ). written o′ j (drop (suc i) xs)) e
+              ∙ ap (λ (j : ℕ). written o′ (at + (i + 1)) (drop j xs)) (sym (add-one i));
+        }
+
+    pub putting-end : length xs ≡ 11 → 11 ≤ i → o ≡ written o₀ at xs
+    unfolding written
+    putting-end z h =
+        let b : length xs ≤ i = omega arith in
+        sym (w .same ∙ ap (written o (at + i)) (drop-of-length-le xs b))
+
+-- THE LOOP over the entries: the rows before i are written
+module _ (o₀ : List ℕ) (t : Tree) where
+  pub record Listing (o : List ℕ) (i : ℕ) : Type 0 where
+    pub within : i ≤ t .count
+    pub long : length o ≡ length o₀
+    pub same : written o₀ 0 (all-numbers (entries-of t)) ≡ written o (i * 11) (all-numbers (drop i (entries-of t)))
+
+  pub listing-start : Listing o₀ 0
+  listing-start = record { within = omega arith; long = refl; same = refl }
+
+  module _ (o : List ℕ) (i : ℕ) (w : Listing o i) where
+    pub listing-turn : i < t .count → (o′ : List ℕ) → o′ ≡ written o (i * 11) (numbers (rows t i)) → Listing o′ (i + 1)
+    unfolding all-numbers
+    listing-turn h o′ q =
+        let b : i < length (entries-of t) = rw length-tab h in
+        let e : drop i (entries-of t) ≡ rows t i ∷ drop (suc i) (entries-of t) = drop-cons (entries-of t) i none b ∙ ap (λ (x : Entry). x ∷ drop (suc i) (entries-of t)) (getD-tab (rows t) (t .count) i none h) in
+        let n : i * 11 + 11 ≡ (i + 1) * 11 = omega arith in
+        record {
+          within = omega arith;
+          long = ap length q ∙ written-length o (i * 11) (numbers (rows t i)) ∙ w .long;
+          same =
+              w .same
+              ∙ ap (λ (x : List Entry). written o (i * 11) (all-numbers x)) e
+              ∙ written-append o (i * 11) (numbers (rows t i)) (all-numbers (drop (suc i) (entries-of t)))
+              ∙ ap (λ (x : List ℕ). written x (i * 11 + 11) (all-numbers (drop (suc i) (entries-of t)))) (sym q)
+              ∙ ap (λ (j : ℕ). written o′ j (all-numbers (drop (suc i) (entries-of t)))) n
+              ∙ ap (λ (j : ℕ). written o′ ((i + 1) * 11) (all-numbers (drop j (entries-of t)))) (sym (add-one i));
+        }
+
+    pub listing-end : t .count ≤ i → (s : List ℕ) → flat-of t ≡ left-tree s → Listed s o₀ i o
+    unfolding all-numbers written
+    listing-end h s g =
+        let e : i ≡ t .count = omega (arith, w .within) in
+        let b : length (entries-of t) ≤ i = rw length-tab h in
+        record {
+          count = e ∙ sym (length-tab (rows t) (t .count)) ∙ ap (λ (x : Rattle.scopes.specs.Flat.Flat). length (x .entries)) g;
+          out =
+              sym (w .same ∙ ap (λ (x : List Entry). written o (i * 11) (all-numbers x)) (drop-of-length-le (entries-of t) b))
+              ∙ ap (λ (x : Rattle.scopes.specs.Flat.Flat). written o₀ 0 (all-numbers (x .entries))) g;
+        }
