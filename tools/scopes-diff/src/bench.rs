@@ -1,10 +1,10 @@
 //! The cost of calls, of the port and of the original, in instructions, time and stack.
 //!
-//! A call is measured in a tree of so many entries, most of them in the current module, so that
-//! a search passes them all. The port's calls go through crates/scopes_c, which reads them from
-//! bytes: a call's cost is that of a list that ends with it less that of the list without it. The
-//! original's are counted inside `scopes_diff_measured`, over fresh trees, since the seeds of its
-//! hash maps differ from run to run.
+//! A call is measured in a tree of so many entries, most of them in the current module. The
+//! port's calls go through crates/scopes_c, which reads them from bytes: a call's cost is that of
+//! a list that ends with it less that of the list without it. The original's are counted inside
+//! `scopes_diff_measured`, over fresh trees, since the seeds of its hash maps differ from run to
+//! run.
 
 use std::hint::black_box;
 use std::process::{Command, Stdio};
@@ -26,6 +26,18 @@ const SIZES: [usize; 3] = [10, 100, 1000];
 struct Case {
     before: Vec<Call>,
     calls: Vec<Call>,
+}
+
+impl Case {
+    /// By how much a figure of the row is divided: 1 where it is measured as a whole; an enter has
+    /// its exit with it.
+    fn times(&self, row: &str) -> f64 {
+        match (row, whole(row)) {
+            (_, Some(_)) => 1.0,
+            ("enter", _) => self.calls.len() as f64 / 2.0,
+            _ => self.calls.len() as f64,
+        }
+    }
 }
 
 #[derive(Clone, Copy, PartialEq, Eq)]
@@ -203,17 +215,25 @@ fn case(row: &str, entries: usize) -> Option<Case> {
         _ => {}
     }
     let mut before = tree_of(entries);
-    // A second enter would search an empty module.
-    let times = if row == "enter" { 1 } else { 8 };
-    let calls = (0..times).map(|at| match row {
-        "enter" => enter(&format!("x{at}")),
-        "exit" => Call::Exit,
-        "insert_alias" => alias(&format!("x{at}")),
-        "insert_enum" => Call::Enum(format!("x{at}"), true, 1),
-        "insert_function" => function(&format!("x{at}")),
-        "resolve_use" => use_of("m", vec![("g".to_string(), format!("x{at}"))]),
-        "get_alias" => Call::GetAlias("q".to_string()),
-        _ => Call::GetFunction("q".to_string()),
+    // A get leaves the tree as it is, so that many are measured.
+    let times = match row {
+        "get_alias" | "get_function" => 64,
+        _ => 8,
+    };
+    let calls = (0..times).flat_map(|at| {
+        let call = match row {
+            "enter" => enter(&format!("x{at}")),
+            "exit" => Call::Exit,
+            "insert_alias" => alias(&format!("x{at}")),
+            "insert_enum" => Call::Enum(format!("x{at}"), true, 1),
+            "insert_function" => function(&format!("x{at}")),
+            "resolve_use" => use_of("m", vec![("g".to_string(), format!("x{at}"))]),
+            "get_alias" => Call::GetAlias("q".to_string()),
+            _ => Call::GetFunction("q".to_string()),
+        };
+        // A second enter would search an empty module.
+        let exit = (row == "enter").then_some(Call::Exit);
+        std::iter::once(call).chain(exit)
     });
     let calls: Vec<Call> = calls.collect();
     match row {
@@ -356,9 +376,10 @@ fn whole(row: &str) -> Option<&'static str> {
 }
 
 fn tell(row: &str, entries: usize, port: f64, walk: f64, original: f64) {
-    let title = match whole(row) {
-        Some(title) => format!("{title} | "),
-        None => format!("{row} | {entries}"),
+    let title = match (row, whole(row)) {
+        (_, Some(title)) => format!("{title} | "),
+        ("enter", _) => format!("enter, exit | {entries}"),
+        _ => format!("{row} | {entries}"),
     };
     println!(
         "| {title} | {port:.0} | {walk:.0} | {original:.0} | {:.0} | {:.1} |",
@@ -377,30 +398,27 @@ fn head() {
 pub fn instructions() {
     head();
     for (row, entries) in rows() {
-        let times = match whole(row) {
-            Some(_) => 1,
-            None => case(row, entries).expect("a row").calls.len(),
-        };
-        let spent = |who| spent(row, who, entries) as f64 / times as f64;
+        let times = case(row, entries).expect("a row").times(row);
+        let spent = |who| spent(row, who, entries) as f64 / times;
         let [port, walk, original] = Who::ALL.map(spent);
         tell(row, entries, port, walk, original);
     }
 }
 
-/// The least of many runs.
-fn least(runs: usize, mut run: impl FnMut() -> Duration) -> f64 {
-    let least = (0..runs).map(|_| run()).min().expect("a run");
-    least.as_nanos() as f64
+/// The middle one of many figures.
+fn middle(mut figures: Vec<f64>) -> f64 {
+    figures.sort_by(f64::total_cmp);
+    figures[figures.len() / 2]
 }
 
-/// By how much the least of many runs of the one exceeds that of the other, in turn.
+fn nanoseconds(time: Duration) -> f64 {
+    time.as_nanos() as f64
+}
+
+/// By how much a run of the one exceeds one of the other right after it, in the middle of many.
 fn excess(runs: usize, mut long: impl FnMut(), mut short: impl FnMut()) -> f64 {
-    let (mut longs, mut shorts) = (Duration::MAX, Duration::MAX);
-    for _ in 0..runs {
-        longs = longs.min(timed(&mut long));
-        shorts = shorts.min(timed(&mut short));
-    }
-    longs.as_nanos() as f64 - shorts.as_nanos() as f64
+    let more = |_| nanoseconds(timed(&mut long)) - nanoseconds(timed(&mut short));
+    middle((0..runs).map(more).collect())
 }
 
 fn timed(run: impl FnOnce()) -> Duration {
@@ -409,15 +427,13 @@ fn timed(run: impl FnOnce()) -> Duration {
     start.elapsed()
 }
 
-/// A table of nanoseconds a call, the least of many runs in this one process.
+/// A table of nanoseconds a call, the middle of many runs in this one process.
 pub fn time() {
     head();
     for (row, entries) in rows() {
         let case = case(row, entries).expect("a row");
-        let (runs, times) = match whole(row) {
-            Some(_) => (50, 1.0),
-            None => (500, case.calls.len() as f64),
-        };
+        let runs = 500;
+        let times = case.times(row);
         let mut list = bytes(&case.before);
         let end = list.len();
         list.extend(bytes(&case.calls));
@@ -425,8 +441,8 @@ pub fn time() {
         let mut others = numbers.clone();
         let [port, walk] = [Who::Port, Who::Walk].map(|who| {
             let more = excess(
-                // A short run is measured more often.
-                if who == Who::Walk { 8 * runs } else { runs },
+                // A short run is measured more often: what the calls take is a small part of it.
+                if who == Who::Walk { 40 * runs } else { runs },
                 || replay(who, &list, &mut numbers),
                 || replay(who, &list[..end], &mut others),
             );
@@ -434,11 +450,12 @@ pub fn time() {
         });
 
         let (before, calls) = (prepared(&case.before), prepared(&case.calls));
-        let original = least(runs, || {
+        let run = |_| {
             let mut tree = Bare::default();
             make(&mut tree, &before);
-            timed(|| make(&mut tree, &calls))
-        });
+            nanoseconds(timed(|| make(&mut tree, &calls)))
+        };
+        let original = middle((0..runs).map(run).collect());
         tell(row, entries, port, walk, original / times);
     }
 }
