@@ -8,3 +8,5 @@ pub mod Theorems
 pub mod ImageForm
 pub mod Unique
 pub mod Cases
+pub mod Call
+pub mod Parts
