@@ -10,3 +10,6 @@ pub mod Unique
 pub mod Cases
 pub mod Call
 pub mod Parts
+pub mod Strings
+pub mod Targets
+pub mod Walk

@@ -1,4 +1,11 @@
 // How many bytes the image has. A sum that passes LIMIT stays there: one more byte than an image may have.
+ghost use mathlib.Core.Path.{_≡_};
+ghost use Prim.Native.Nat.{_+_, _<_, _≤_, _^_, min};
+ghost use lib.ListN.{length};
+ghost use Rattle.bundle.specs.Encode.{string, counted, element};
+ghost use Rattle.discovery.specs.Walk.{UseMark, Small};
+ghost use Rattle.assembly.specs.Targets.{UnitOf, pathBy, Within};
+ghost use Rattle.assembly.specs.Walk.{segmentsAt, elementsAt, itemBytes, itemsBytes};
 use crate::Target;
 use crate::bytes::strings_end;
 use crate::bytes::strings_length;
@@ -11,12 +18,17 @@ use resolution::Layout;
 
 pub const LIMIT: usize = 65536;
 
-fn wide(x: u16) -> usize {
+fn wide(x: u16) -> usize
+    ensures { λ r. ⌜ r ≡ x ⌝ }
+{
     x as usize
 }
 
 // The sum, or LIMIT.
-fn capped(a: usize, b: usize) -> usize {
+fn capped(a: usize, b: usize) -> usize
+    requires { ⌜ (a < 2 ^ 32) × (b < 2 ^ 32) ⌝ }
+    ensures { λ r. ⌜ r ≡ min (a + b) 65536 ⌝ }
+{
     let n = a + b;
     if n > LIMIT {
         return LIMIT;
@@ -25,7 +37,10 @@ fn capped(a: usize, b: usize) -> usize {
 }
 
 // A use's new path: its count, and its segments.
-fn path_length(s: &[u8], mark: usize, target: Target) -> usize {
+fn path_length(s: &[u8], mark: usize, target: Target) -> usize
+    requires { ⌜ UseMark (now s) mark × Within (segmentsAt (now s) mark) target ⌝ }
+    ensures { λ r. ⌜ (r ≡ length (counted string (pathBy (segmentsAt (now (s .entry)) mark) target))) × (r < 2 ^ 20) ⌝ }
+{
     match target {
         Target::Nothing => 1,
         Target::Unit(id, left) => {
@@ -39,7 +54,10 @@ fn path_length(s: &[u8], mark: usize, target: Target) -> usize {
 }
 
 // A use's elements: their count, and a name and an alias for each.
-fn elements_length(s: &[u8], mark: usize) -> usize {
+fn elements_length(s: &[u8], mark: usize) -> usize
+    requires { ⌜ UseMark (now s) mark ⌝ }
+    ensures { λ r. ⌜ (r ≡ length (counted element (elementsAt (now (s .entry)) mark))) × (r < 2 ^ 20) ⌝ }
+{
     let elements = bundle::use_elements(s, mark);
     1 + strings_length(s, elements.first, 2 * elements.count)
 }
@@ -54,7 +72,10 @@ fn item_length(
     units: usize,
     place: usize,
     depth: usize,
-) -> usize {
+) -> usize
+    requires { ⌜ UnitOf (now s) at (now file) index (now files) units × Small place depth ⌝ }
+    ensures { λ r. ⌜ r ≡ min (length (itemBytes (now (s .entry)) (now (file .entry)) depth place)) 65536 ⌝ }
+{
     let kind = bundle::item_kind(s, place);
     if kind == IGNORED {
         return 0;
@@ -86,7 +107,10 @@ fn items_length(
     from: usize,
     end: usize,
     depth: usize,
-) -> usize {
+) -> usize
+    requires { ⌜ UnitOf (now s) at (now file) index (now files) units × Small end depth ⌝ }
+    ensures { λ r. ⌜ r ≡ min (length (itemsBytes (now (s .entry)) (now (file .entry)) depth end from)) 65536 ⌝ }
+{
     let mut sum = 0;
     let mut a = from;
     while a < end {

@@ -1,4 +1,16 @@
 // The image's items. Each function lends the later part of its buffer on to be filled, then sets the length ahead of it.
+ghost use mathlib.Core.Path.{_≡_};
+ghost use Prim.Native.Nat.{_≤_, _<_};
+ghost use lib.ListN.{length};
+ghost use Rattle.names.specs.Bytes.{ascii};
+ghost use Rattle.names.specs.Decimal.{unitName};
+ghost use Rattle.bundle.specs.Encode.{string, counted, element};
+ghost use Rattle.bundle.specs.Limits.{file-limit, segment-limit};
+ghost use Rattle.bundle.specs.Decode.{itemsAt};
+ghost use Rattle.discovery.specs.Walk.{UseMark, Small};
+ghost use Rattle.order.specs.Writing.{started};
+ghost use Rattle.assembly.specs.Targets.{UnitOf, pathBy, Within};
+ghost use Rattle.assembly.specs.Walk.{segmentsAt, elementsAt, useBytes, oneAt, itemBytes, itemsBytes, Brief};
 use crate::Target;
 use crate::bytes::put;
 use crate::bytes::put_head;
@@ -12,15 +24,23 @@ use bundle::limits::MODULE;
 use bundle::limits::USE;
 use resolution::Layout;
 
-fn wide(x: u16) -> usize {
+fn wide(x: u16) -> usize
+    ensures { λ r. ⌜ r ≡ x ⌝ }
+{
     x as usize
 }
 
-fn put_crate(out: &mut [u8]) -> usize {
+fn put_crate(out: &mut [u8]) -> usize
+    requires { ⌜ length (string (ascii "crate")) ≤ length (now out) ⌝ }
+    ensures { λ r. ⌜ (r ≡ length (string (ascii "crate"))) × (now (out .exit) ≡ started (string (ascii "crate")) (now (out .entry))) ⌝ }
+{
     put_string(out, b"crate")
 }
 
-fn put_unit(out: &mut [u8], id: usize) -> usize {
+fn put_unit(out: &mut [u8], id: usize) -> usize
+    requires { ⌜ length (string (unitName id)) ≤ length (now out) ⌝ }
+    ensures { λ r. ⌜ (r ≡ length (string (unitName id))) × (now (out .exit) ≡ started (string (unitName id)) (now (out .entry))) ⌝ }
+{
     let unit = names::unit_name(id as u64);
     let bytes = unit.bytes;
     let n = unit.len;
@@ -28,7 +48,10 @@ fn put_unit(out: &mut [u8], id: usize) -> usize {
 }
 
 // A use's new path: its count, and its segments.
-fn put_path(s: &[u8], mark: usize, target: Target, out: &mut [u8]) -> usize {
+fn put_path(s: &[u8], mark: usize, target: Target, out: &mut [u8]) -> usize
+    requires { ⌜ (UseMark (now s) mark × Within (segmentsAt (now s) mark) target) × ((length (segmentsAt (now s) mark) ≤ segment-limit) × (length (counted string (pathBy (segmentsAt (now s) mark) target)) ≤ length (now out))) ⌝ }
+    ensures { λ r. ⌜ (r ≡ length (counted string (pathBy (segmentsAt (now (s .entry)) mark) target))) × (now (out .exit) ≡ started (counted string (pathBy (segmentsAt (now (s .entry)) mark) target)) (now (out .entry))) ⌝ }
+{
     match target {
         Target::Nothing => {
             put(out, 0, 0);
@@ -47,7 +70,10 @@ fn put_path(s: &[u8], mark: usize, target: Target, out: &mut [u8]) -> usize {
 }
 
 // A use's elements: their count, and a name and an alias for each.
-fn put_elements(s: &[u8], mark: usize, out: &mut [u8]) -> usize {
+fn put_elements(s: &[u8], mark: usize, out: &mut [u8]) -> usize
+    requires { ⌜ UseMark (now s) mark × (length (counted element (elementsAt (now s) mark)) ≤ length (now out)) ⌝ }
+    ensures { λ r. ⌜ (r ≡ length (counted element (elementsAt (now (s .entry)) mark))) × (now (out .exit) ≡ started (counted element (elementsAt (now (s .entry)) mark)) (now (out .entry))) ⌝ }
+{
     let elements = bundle::use_elements(s, mark);
     put(out, 0, elements.count);
     1 + put_strings(s, elements.first, 2 * elements.count, &mut out[1..])
@@ -63,7 +89,10 @@ pub fn rewrite_use(
     units: usize,
     mark: usize,
     out: &mut [u8],
-) -> usize {
+) -> usize
+    requires { ⌜ (UnitOf (now s) at (now file) index (now files) units × UseMark (now s) mark) × ((length (segmentsAt (now s) mark) ≤ segment-limit) × (length (useBytes (now s) (now file) mark) ≤ length (now out))) ⌝ }
+    ensures { λ r. ⌜ (r ≡ length (useBytes (now (s .entry)) (now (file .entry)) mark)) × (now (out .exit) ≡ started (useBytes (now (s .entry)) (now (file .entry)) mark) (now (out .entry))) ⌝ }
+{
     let target = target_of(s, at, file, index, files, units, mark);
     let a = put_path(s, mark, target, out);
     a + put_elements(s, mark, &mut out[a..])
@@ -80,7 +109,10 @@ fn write_item(
     place: usize,
     depth: usize,
     out: &mut [u8],
-) -> usize {
+) -> usize
+    requires { ⌜ (UnitOf (now s) at (now file) index (now files) units × Small place depth) × (Brief (oneAt depth (now s) place) × ((length (itemBytes (now s) (now file) depth place) ≤ length (now out)) × (length (itemBytes (now s) (now file) depth place) < 65536))) ⌝ }
+    ensures { λ r. ⌜ (r ≡ length (itemBytes (now (s .entry)) (now (file .entry)) depth place)) × (now (out .exit) ≡ started (itemBytes (now (s .entry)) (now (file .entry)) depth place) (now (out .entry))) ⌝ }
+{
     let kind = bundle::item_kind(s, place);
     if kind == IGNORED {
         return 0;
@@ -128,7 +160,10 @@ fn write_items(
     end: usize,
     depth: usize,
     out: &mut [u8],
-) -> usize {
+) -> usize
+    requires { ⌜ (UnitOf (now s) at (now file) index (now files) units × Small end depth) × (Brief (itemsAt depth (now s) end from) × ((length (itemsBytes (now s) (now file) depth end from) ≤ length (now out)) × (length (itemsBytes (now s) (now file) depth end from) < 65536))) ⌝ }
+    ensures { λ r. ⌜ (r ≡ length (itemsBytes (now (s .entry)) (now (file .entry)) depth end from)) × (now (out .exit) ≡ started (itemsBytes (now (s .entry)) (now (file .entry)) depth end from) (now (out .entry))) ⌝ }
+{
     let mut sum = 0;
     let mut a = from;
     while a < end {
