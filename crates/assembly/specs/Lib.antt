@@ -13,3 +13,4 @@ pub mod Parts
 pub mod Strings
 pub mod Targets
 pub mod Walk
+pub mod Uses

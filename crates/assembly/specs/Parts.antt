@@ -161,3 +161,13 @@ set-three out o₁ o₂ a b c h e₁ e₂ = e₂ ∙ (ap (λ (l : List ℕ). set
     go (_ ∷ []) h = absurd (omega arith)
     go (_ ∷ _ ∷ []) h = absurd (omega arith)
     go (_ ∷ _ ∷ _ ∷ out) h = refl
+
+-- WHAT IS WRITTEN IN ALL: nothing, one number, or what a callee wrote
+pub none-filled : (x out : List ℕ) → x ≡ [] → (0 ≡ length x) × (out ≡ started x out)
+none-filled x out e = rw e (refl, refl)
+
+pub one-filled : (x out : List ℕ) (v : ℕ) → x ≡ v ∷ [] → 0 < length out → (1 ≡ length x) × (set out 0 v ≡ started x out)
+one-filled x out v e h = rw e (refl, put-one [] out 0 refl v h)
+
+pub same-filled : (x y out last : List ℕ) (r : ℕ) → x ≡ y → (r ≡ length y) × (last ≡ started y out) → (r ≡ length x) × (last ≡ started x out)
+same-filled x y out last r e h = rw e h

@@ -1,4 +1,12 @@
-use Prim.Native.Nat.{ℕ, _<_}
+use Rattle.bundle.specs.Decode.{afterLength}
+use Rattle.assembly.specs.Walk.{itemEnums, itemsEnums, enums-end, enums-step, next-enums, enum-here, enums-flat, enums-inside, enums-other}
+use Rattle.assembly.specs.Parts.{Filled, lent-length, filled-none, filled-length, filled-start, filled-room, filled-more, filled-all, none-filled, one-filled, same-filled}
+use denote.Ref.{now}
+use lib.ListN.{length}
+use mathlib.Core.Path.{_≡_, ap}
+use native.Mathlib.Omega.{arith}
+use borrow.Author.Needs.{needs}
+use Prim.Native.Nat.{ℕ, _+_, _-_, _*_, _<_, _≤_}
 use borrow.Fn.Kinds.{In}
 use borrow.Fn.PlainCycle.{Measures, is, falls, and}
 use Rattle.assembly.proofs.enums.enum_item.Reads as enum-item
@@ -14,10 +22,10 @@ use Rattle.assembly.proofs.enums.+enum_item+enum_items.{statement}
 use Rattle.assembly.proofs.enums.+enum_item+enum_items.Tie.{close}
 
 abbrev μ-enum-item : Measures 2 enum-item-kinds.ps ℕ
-μ-enum-item κs a = ?
+μ-enum-item κs a = 2 * a .1 .1 .0
 
 abbrev μ-enum-items : Measures 2 enum-items-kinds.ps ℕ
-μ-enum-items κs a = ?
+μ-enum-items κs a = 2 * a .1 .1 .1 .0 + 1
 
 abbrev enum-item-at : ℕ → In 2 enum-item-kinds.ps
 enum-item-at t = and 2 enum-item-kinds.ps (is 2 enum-item-kinds.ps μ-enum-item t) enum-item.Pre
@@ -43,7 +51,7 @@ enum-item-item-kind-requires : (t : ℕ) → enum-item-lts.Need-item-kind-requir
   enum-items-below t,
   enum-items.Post,
 ) (enum-item-at t) enum-item.Post
-enum-item-item-kind-requires t c κs = ?
+enum-item-item-kind-requires t c κs = search needs
 
 -- src/enums.rt:24:9
 enum-item-slice-write-marks : (t : ℕ) → enum-item-lts.Need-slice-write-marks (
@@ -54,7 +62,7 @@ enum-item-slice-write-marks : (t : ℕ) → enum-item-lts.Need-slice-write-marks
   enum-items-below t,
   enum-items.Post,
 ) (enum-item-at t) enum-item.Post
-enum-item-slice-write-marks t c = ?
+enum-item-slice-write-marks t c = let e = ap length (enum-here (c .before .before .before .before .args .s .now) (c .before .before .before .before .args .at) (c .before .item-kind .result) (c .before .item-kind .ensures) (c .before .before .before .before .args .depth) (c .if1 .taken)) in let r = c .before .before .before .before .pre .1 .1 in omega arith
 
 -- src/enums.rt:25:9
 enum-item-same-length : (t : ℕ) → enum-item-lts.Need-same-length (
@@ -65,7 +73,7 @@ enum-item-same-length : (t : ℕ) → enum-item-lts.Need-same-length (
   enum-items-below t,
   enum-items.Post,
 ) (enum-item-at t) enum-item.Post
-enum-item-same-length t c = ?
+enum-item-same-length t c = search needs
 
 -- src/enums.rt:25:9
 enum-item-returns : (t : ℕ) → enum-item-lts.Need-returns (
@@ -76,7 +84,7 @@ enum-item-returns : (t : ℕ) → enum-item-lts.Need-returns (
   enum-items-below t,
   enum-items.Post,
 ) (enum-item-at t) enum-item.Post
-enum-item-returns t c = ?
+enum-item-returns t c = let e = enum-here (c .before .before .before .before .args .s .now) (c .before .before .before .before .args .at) (c .before .item-kind .result) (c .before .item-kind .ensures) (c .before .before .before .before .args .depth) (c .if1 .taken) in let l = ap length e in let r = c .before .before .before .before .pre .1 .1 in one-filled _ (now (c .before .before .before .before .args .marks)) (c .before .before .before .before .args .at) e (omega arith)
 
 -- src/enums.rt:29:13
 enum-item-returns-2 : (t : ℕ) → enum-item-lts.Need-returns-2 (
@@ -87,7 +95,7 @@ enum-item-returns-2 : (t : ℕ) → enum-item-lts.Need-returns-2 (
   enum-items-below t,
   enum-items.Post,
 ) (enum-item-at t) enum-item.Post
-enum-item-returns-2 t c = ?
+enum-item-returns-2 t c = none-filled _ (now (c .before .before .before .before .before .before .args .marks)) (enums-flat (c .before .before .before .before .before .before .args .s .now) (c .before .before .before .before .before .before .args .at) (c .before .before .before .item-kind .result) (c .before .before .before .item-kind .ensures) (c .before .before .before .before .before .before .args .depth) (c .before .if2 .taken) (c .if3 .taken))
 
 -- src/enums.rt:31:13
 enum-item-module-items-requires : (t : ℕ) → enum-item-lts.Need-module-items-requires (
@@ -98,7 +106,7 @@ enum-item-module-items-requires : (t : ℕ) → enum-item-lts.Need-module-items-
   enum-items-below t,
   enum-items.Post,
 ) (enum-item-at t) enum-item.Post
-enum-item-module-items-requires t c κs = ?
+enum-item-module-items-requires t c κs = search needs
 
 -- src/enums.rt:32:51
 enum-item-sub-enum-items : (t : ℕ) → enum-item-lts.Need-sub-enum-items (
@@ -109,7 +117,7 @@ enum-item-sub-enum-items : (t : ℕ) → enum-item-lts.Need-sub-enum-items (
   enum-items-below t,
   enum-items.Post,
 ) (enum-item-at t) enum-item.Post
-enum-item-sub-enum-items t c = ?
+enum-item-sub-enum-items t c = search needs
 
 -- src/enums.rt:32:9
 enum-item-enum-items-requires : (t : ℕ) → enum-item-lts.Need-enum-items-requires (
@@ -120,7 +128,7 @@ enum-item-enum-items-requires : (t : ℕ) → enum-item-lts.Need-enum-items-requ
   enum-items-below t,
   enum-items.Post,
 ) (enum-item-at t) enum-item.Post
-enum-item-enum-items-requires t c κs = ?
+enum-item-enum-items-requires t c κs = let e = ap length (enums-inside (c .before .before .before .before .before .before .before .before .args .s .now) (c .before .before .before .before .before .before .before .before .args .at) (c .before .before .before .before .before .item-kind .result) (c .before .before .before .before .before .item-kind .ensures) (c .before .before .before .before .before .before .before .before .args .depth) (c .before .module-items .result .end) (c .before .module-items .result .at) (c .before .before .before .if2 .taken) (c .before .before .if3 .left) (c .before .module-items .ensures .0)) in let r = c .before .before .before .before .before .before .before .before .pre .1 .1 in let g : length (itemsEnums (c .before .before .before .before .before .before .before .before .args .s .now) (c .before .before .before .before .before .before .before .before .args .depth - 1) (c .before .module-items .result .end) (c .before .module-items .result .at)) ≤ length (c .before .before .before .before .before .before .before .before .args .marks .now) = omega arith in (search needs, (search needs, g))
 
 -- src/enums.rt:32:9
 enum-item-same-length-2 : (t : ℕ) → enum-item-lts.Need-same-length-2 (
@@ -131,7 +139,7 @@ enum-item-same-length-2 : (t : ℕ) → enum-item-lts.Need-same-length-2 (
   enum-items-below t,
   enum-items.Post,
 ) (enum-item-at t) enum-item.Post
-enum-item-same-length-2 t c = ?
+enum-item-same-length-2 t c = search needs
 
 -- src/enums.rt:32:9
 enum-item-returns-3 : (t : ℕ) → enum-item-lts.Need-returns-3 (
@@ -142,7 +150,7 @@ enum-item-returns-3 : (t : ℕ) → enum-item-lts.Need-returns-3 (
   enum-items-below t,
   enum-items.Post,
 ) (enum-item-at t) enum-item.Post
-enum-item-returns-3 t c = ?
+enum-item-returns-3 t c = same-filled _ _ (now (c .before .before .before .before .before .before .before .before .before .before .before .args .marks)) (c .before .before .enum-items .last .1 .1 .1 .1 .0) (c .before .before .enum-items .result) (enums-inside (c .before .before .before .before .before .before .before .before .before .before .before .args .s .now) (c .before .before .before .before .before .before .before .before .before .before .before .args .at) (c .before .before .before .before .before .before .before .before .item-kind .result) (c .before .before .before .before .before .before .before .before .item-kind .ensures) (c .before .before .before .before .before .before .before .before .before .before .before .args .depth) (c .before .before .before .before .module-items .result .end) (c .before .before .before .before .module-items .result .at) (c .before .before .before .before .before .before .if2 .taken) (c .before .before .before .before .before .if3 .left) (c .before .before .before .before .module-items .ensures .0)) (c .before .before .enum-items .ensures)
 
 -- src/enums.rt:18:1
 enum-item-returns-4 : (t : ℕ) → enum-item-lts.Need-returns-4 (
@@ -153,13 +161,13 @@ enum-item-returns-4 : (t : ℕ) → enum-item-lts.Need-returns-4 (
   enum-items-below t,
   enum-items.Post,
 ) (enum-item-at t) enum-item.Post
-enum-item-returns-4 t c = ?
+enum-item-returns-4 t c = none-filled _ (now (c .before .before .before .before .before .args .marks)) (enums-other (c .before .before .before .before .before .args .s .now) (c .before .before .before .before .before .args .at) (c .before .before .item-kind .result) (c .before .before .item-kind .ensures) (c .before .before .before .before .before .args .depth) (c .before .if1 .left) (c .if2 .left))
 
 abbrev enum-items-Inv-loop : enum-items-lts.InvT-loop
-enum-items-Inv-loop s at end depth marks₀ sum₀ a₀ marks sum a = ?
+enum-items-Inv-loop s at end depth marks₀ sum₀ a₀ marks sum a = Filled (itemsEnums s depth end at) (itemsEnums s depth end a) marks₀ marks sum × (length (itemsEnums s depth end at) ≤ length marks₀)
 
 abbrev enum-items-μ-loop : enum-items-lts.MeasureT-loop
-enum-items-μ-loop s at end depth marks₀ sum₀ a₀ marks sum a = ?
+enum-items-μ-loop s at end depth marks₀ sum₀ a₀ marks sum a = end - a
 
 -- src/enums.rt:50:5
 enum-items-loop-holds : (t : ℕ) → enum-items-lts.Need-loop-holds (
@@ -168,7 +176,7 @@ enum-items-loop-holds : (t : ℕ) → enum-items-lts.Need-loop-holds (
   next-item-reads.Asked,
   next-item-reads.Learnt,
 ) (enum-items-at t) enum-items.Post enum-items-Inv-loop enum-items-μ-loop
-enum-items-loop-holds t c = ?
+enum-items-loop-holds t c = (filled-none (itemsEnums (c .before .before .args .s .now) (c .before .before .args .depth) (c .before .before .args .end) (c .before .before .args .at)) (c .before .before .args .marks .now), c .before .before .pre .1 .1)
 
 -- src/enums.rt:51:40
 enum-items-mul-enum-item : (t : ℕ) → enum-items-lts.Need-mul-enum-item (
@@ -177,7 +185,7 @@ enum-items-mul-enum-item : (t : ℕ) → enum-items-lts.Need-mul-enum-item (
   next-item-reads.Asked,
   next-item-reads.Learnt,
 ) (enum-items-at t) enum-items.Post enum-items-Inv-loop enum-items-μ-loop
-enum-items-mul-enum-item t c = ?
+enum-items-mul-enum-item t c = let h = filled-start _ _ _ _ _ (c .before .loop .inv .0) (c .before .loop .inv .1) in let n = filled-length _ _ _ _ _ (c .before .loop .inv .0) (c .before .loop .inv .1) in search needs
 
 -- src/enums.rt:51:40
 enum-items-sub-enum-item : (t : ℕ) → enum-items-lts.Need-sub-enum-item (
@@ -186,7 +194,7 @@ enum-items-sub-enum-item : (t : ℕ) → enum-items-lts.Need-sub-enum-item (
   next-item-reads.Asked,
   next-item-reads.Learnt,
 ) (enum-items-at t) enum-items.Post enum-items-Inv-loop enum-items-μ-loop
-enum-items-sub-enum-item t c = ?
+enum-items-sub-enum-item t c = filled-start _ _ _ _ _ (c .before .loop .inv .0) (c .before .loop .inv .1)
 
 -- src/enums.rt:51:40
 enum-items-part-enum-item-start : (t : ℕ) → enum-items-lts.Need-part-enum-item-start (
@@ -195,7 +203,7 @@ enum-items-part-enum-item-start : (t : ℕ) → enum-items-lts.Need-part-enum-it
   next-item-reads.Asked,
   next-item-reads.Learnt,
 ) (enum-items-at t) enum-items.Post enum-items-Inv-loop enum-items-μ-loop
-enum-items-part-enum-item-start t c = ?
+enum-items-part-enum-item-start t c = let h = filled-start _ _ _ _ _ (c .before .loop .inv .0) (c .before .loop .inv .1) in search needs
 
 -- src/enums.rt:51:40
 enum-items-part-enum-item-end : (t : ℕ) → enum-items-lts.Need-part-enum-item-end (
@@ -204,7 +212,7 @@ enum-items-part-enum-item-end : (t : ℕ) → enum-items-lts.Need-part-enum-item
   next-item-reads.Asked,
   next-item-reads.Learnt,
 ) (enum-items-at t) enum-items.Post enum-items-Inv-loop enum-items-μ-loop
-enum-items-part-enum-item-end t c = ?
+enum-items-part-enum-item-end t c = let h = filled-start _ _ _ _ _ (c .before .loop .inv .0) (c .before .loop .inv .1) in search needs
 
 -- src/enums.rt:51:13
 enum-items-enum-item-requires : (t : ℕ) → enum-items-lts.Need-enum-item-requires (
@@ -213,7 +221,7 @@ enum-items-enum-item-requires : (t : ℕ) → enum-items-lts.Need-enum-item-requ
   next-item-reads.Asked,
   next-item-reads.Learnt,
 ) (enum-items-at t) enum-items.Post enum-items-Inv-loop enum-items-μ-loop
-enum-items-enum-item-requires t c κs = ?
+enum-items-enum-item-requires t c κs = (search needs, (search needs, filled-room _ _ _ _ _ (c .before .before .loop .inv .0) (c .before .before .loop .inv .1) (itemEnums (c .before .before .before .before .before .args .s .now) (c .before .before .before .before .before .args .depth) (c .before .before .loop .a)) (itemsEnums (c .before .before .before .before .before .args .s .now) (c .before .before .before .before .before .args .depth) (c .before .before .before .before .before .args .end) (afterLength (c .before .before .before .before .before .args .s .now) (c .before .before .loop .a))) (enums-step (c .before .before .before .before .before .args .s .now) (c .before .before .before .before .before .args .depth) (c .before .before .before .before .before .args .end) (c .before .before .loop .a) (c .before .loop-test .taken))))
 
 -- src/enums.rt:52:9
 enum-items-add-sum : (t : ℕ) → enum-items-lts.Need-add-sum (
@@ -222,7 +230,14 @@ enum-items-add-sum : (t : ℕ) → enum-items-lts.Need-add-sum (
   next-item-reads.Asked,
   next-item-reads.Learnt,
 ) (enum-items-at t) enum-items.Post enum-items-Inv-loop enum-items-μ-loop
-enum-items-add-sum t c = ?
+enum-items-add-sum t c = 
+    let r = filled-room _ _ _ _ _ (c .before .before .before .before .before .loop .inv .0) (c .before .before .before .before .before .loop .inv .1) (itemEnums (c .before .before .before .before .before .before .before .before .args .s .now) (c .before .before .before .before .before .before .before .before .args .depth) (c .before .before .before .before .before .loop .a)) (itemsEnums (c .before .before .before .before .before .before .before .before .args .s .now) (c .before .before .before .before .before .before .before .before .args .depth) (c .before .before .before .before .before .before .before .before .args .end) (afterLength (c .before .before .before .before .before .before .before .before .args .s .now) (c .before .before .before .before .before .loop .a))) (enums-step (c .before .before .before .before .before .before .before .before .args .s .now) (c .before .before .before .before .before .before .before .before .args .depth) (c .before .before .before .before .before .before .before .before .args .end) (c .before .before .before .before .before .loop .a) (c .before .before .before .before .loop-test .taken)) in
+    let h = filled-start _ _ _ _ _ (c .before .before .before .before .before .loop .inv .0) (c .before .before .before .before .before .loop .inv .1) in
+    let l = lent-length (c .before .before .before .before .before .loop .marks) (c .before .before .before .before .before .loop .sum) h in
+    let n = filled-length _ _ _ _ _ (c .before .before .before .before .before .loop .inv .0) (c .before .before .before .before .before .loop .inv .1) in
+    let e : c .before .before .enum-item .result ≡ length (itemEnums (c .before .before .before .before .before .before .before .before .args .s .now) (c .before .before .before .before .before .before .before .before .args .depth) (c .before .before .before .before .before .loop .a)) = c .before .before .enum-item .ensures .0 in
+    let g : c .before .before .before .before .before .loop .sum + c .before .before .enum-item .result ≤ length (c .before .before .before .before .before .before .before .before .args .marks .now) = omega arith in
+    omega arith
 
 -- src/enums.rt:53:9
 enum-items-next-item-requires : (t : ℕ) → enum-items-lts.Need-next-item-requires (
@@ -231,7 +246,7 @@ enum-items-next-item-requires : (t : ℕ) → enum-items-lts.Need-next-item-requ
   next-item-reads.Asked,
   next-item-reads.Learnt,
 ) (enum-items-at t) enum-items.Post enum-items-Inv-loop enum-items-μ-loop
-enum-items-next-item-requires t c κs = ?
+enum-items-next-item-requires t c κs = search needs
 
 -- src/enums.rt:50:5
 enum-items-loop-less : (t : ℕ) → enum-items-lts.Need-loop-less (
@@ -240,7 +255,7 @@ enum-items-loop-less : (t : ℕ) → enum-items-lts.Need-loop-less (
   next-item-reads.Asked,
   next-item-reads.Learnt,
 ) (enum-items-at t) enum-items.Post enum-items-Inv-loop enum-items-μ-loop
-enum-items-loop-less t c = ?
+enum-items-loop-less t c = search needs
 
 -- src/enums.rt:50:5
 enum-items-loop-again : (t : ℕ) → enum-items-lts.Need-loop-again (
@@ -249,7 +264,7 @@ enum-items-loop-again : (t : ℕ) → enum-items-lts.Need-loop-again (
   next-item-reads.Asked,
   next-item-reads.Learnt,
 ) (enum-items-at t) enum-items.Post enum-items-Inv-loop enum-items-μ-loop
-enum-items-loop-again t c = ?
+enum-items-loop-again t c = (filled-more _ _ _ _ _ (c .before .before .before .before .before .before .loop .inv .0) (c .before .before .before .before .before .before .loop .inv .1) (itemEnums (c .before .before .before .before .before .before .before .before .before .args .s .now) (c .before .before .before .before .before .before .before .before .before .args .depth) (c .before .before .before .before .before .before .loop .a)) (itemsEnums (c .before .before .before .before .before .before .before .before .before .args .s .now) (c .before .before .before .before .before .before .before .before .before .args .depth) (c .before .before .before .before .before .before .before .before .before .args .end) (c .next-item .result)) (c .before .before .before .enum-item .last .1 .1 .1 .0) (c .before .before .before .enum-item .result) (next-enums (c .before .before .before .before .before .before .before .before .before .args .s .now) (c .before .before .before .before .before .before .before .before .before .args .depth) (c .before .before .before .before .before .before .before .before .before .args .end) (c .before .before .before .before .before .before .loop .a) (c .next-item .result) (c .before .before .before .before .before .loop-test .taken) (c .next-item .ensures .0)) (c .before .before .before .enum-item .ensures .1) (c .before .before .before .enum-item .ensures .0), c .before .before .before .before .before .before .loop .inv .1)
 
 -- src/enums.rt:38:1
 enum-items-same-length : (t : ℕ) → enum-items-lts.Need-same-length (
@@ -258,7 +273,7 @@ enum-items-same-length : (t : ℕ) → enum-items-lts.Need-same-length (
   next-item-reads.Asked,
   next-item-reads.Learnt,
 ) (enum-items-at t) enum-items.Post enum-items-Inv-loop enum-items-μ-loop
-enum-items-same-length t c = ?
+enum-items-same-length t c = filled-length _ _ _ _ _ (c .before .loop .inv .0) (c .before .loop .inv .1)
 
 -- src/enums.rt:38:1
 enum-items-returns : (t : ℕ) → enum-items-lts.Need-returns (
@@ -267,7 +282,7 @@ enum-items-returns : (t : ℕ) → enum-items-lts.Need-returns (
   next-item-reads.Asked,
   next-item-reads.Learnt,
 ) (enum-items-at t) enum-items.Post enum-items-Inv-loop enum-items-μ-loop
-enum-items-returns t c = ?
+enum-items-returns t c = filled-all _ _ _ _ _ (c .before .loop .inv .0) (c .before .loop .inv .1) (enums-end (c .before .before .before .before .args .s .now) (c .before .before .before .before .args .depth) (c .before .before .before .before .args .end) (c .before .loop .a) (c .loop-test .left))
 
 pub +enum-item+enum-items-spec : {M : Type 1} → statement M
 +enum-item+enum-items-spec = close μ-enum-item μ-enum-items (λ t. enum-item-lts.spec (

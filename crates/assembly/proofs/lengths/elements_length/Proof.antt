@@ -1,3 +1,11 @@
+use Rattle.assembly.specs.Walk.{elements-read}
+use Rattle.assembly.specs.Uses.{elements-form}
+use denote.Ref.{now}
+use lib.ListN.{length, length-append}
+use mathlib.Core.List.{List, [], _∷_, _++_}
+use mathlib.Core.Path.{_≡_, refl, sym, ap, subst, _∙_}
+use native.Mathlib.Omega.{arith}
+use Prim.Native.Nat.{ℕ, suc, _+_, _-_, _*_, _≤_, _<_}
 use borrow.Author.Needs.{needs}
 use Rattle.assembly.proofs.lengths.elements_length.Statement.{statement}
 use Rattle.assembly.proofs.lengths.elements_length.Tie as tie
@@ -24,7 +32,10 @@ add-result c = search needs
 
 -- src/lengths.rt:57:1
 returns : tie.Need-returns
-returns c = ?
+returns c = 
+    let e = ap length (elements-form (c .before .before .before .before .args .s .now) (c .before .before .before .before .args .mark) (c .before .before .use-elements .result .first) (c .before .before .use-elements .result .count) (elements-read (c .before .before .before .before .args .s .now) (c .before .before .before .before .args .mark) (c .before .before .before .before .pre .kind) (c .before .before .use-elements .result .first) (c .before .before .use-elements .result .count) (c .before .before .use-elements .ensures .0))) in
+    let n = c .before .before .use-elements .ensures .1 .1 in
+    (omega arith, omega arith)
 
 pub elements-length-spec : {M : Type 1} → statement M
 elements-length-spec =
