@@ -112,15 +112,15 @@ next-enums s depth end at next h f =
     enums-step s depth end at h ∙ ap (λ (i : Items). itemEnums s depth at ++ enumDeclarations i) (sym (next-is s depth end at next h f))
 
 -- AN ITEM BY ITS KIND, as the code reads it
+pub visibility-at : (s : List ℕ) (at v : ℕ) → ((d e : ℕ) → at < e → v ≡ visibilityOf (itemsAt d s e at)) → v ≡ byte s (at + 3)
+visibility-at s at v f = f 0 (suc at) (omega arith) ∙ first-visibility 0 s (suc at) at (omega arith)
+
 module _ (s : List ℕ) (at k : ℕ) (kind : (d e : ℕ) → at < e → k ≡ kindOf (itemsAt d s e at)) where
   pub kind-byte : byte s (at + 2) ≡ k
   kind-byte = sym (kind 0 (suc at) (omega arith) ∙ first-kind 0 s (suc at) at (omega arith))
 
   pub kind-of : (d e : ℕ) → at < e → kindOf (itemsAt d s e at) ≡ k
   kind-of d e h = sym (kind d e h)
-
-  pub visibility-byte : (v : ℕ) → ((d e : ℕ) → at < e → v ≡ visibilityOf (itemsAt d s e at)) → v ≡ byte s (at + 3)
-  visibility-byte v f = f 0 (suc at) (omega arith) ∙ first-visibility 0 s (suc at) at (omega arith)
 
   pub name-text : (t : Text) → (k ≡ use-kind → ⊥) → (k ≡ ignored-kind → ⊥)
       → ((d e : ℕ) → at < e → (kindOf (itemsAt d s e at) ≡ use-kind → ⊥) → (kindOf (itemsAt d s e at) ≡ ignored-kind → ⊥) → t ≡ nameOf (itemsAt d s e at)) → t ≡ text s (at + 4)

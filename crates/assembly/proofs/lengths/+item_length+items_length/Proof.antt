@@ -1,4 +1,12 @@
-use Prim.Native.Nat.{ℕ, _<_}
+use Rattle.assembly.specs.Walk.{itemBytes, itemsBytes, useBytes, segmentsAt, elementsAt, bytes-end, next-bytes, ignored-bytes, use-bytes, named-bytes, flat-bytes, module-bytes, name-text}
+use Rattle.assembly.specs.Parts.{Counted, counted-none, counted-more, counted-all, headBytes}
+use denote.Ref.{now}
+use lib.ListN.{length, length-append}
+use mathlib.Core.List.{List, [], _∷_, _++_}
+use mathlib.Core.Path.{_≡_, refl, sym, ap, subst, _∙_}
+use native.Mathlib.Omega.{arith}
+use borrow.Author.Needs.{needs}
+use Prim.Native.Nat.{ℕ, suc, _+_, _-_, _*_, _<_, _≤_, min}
 use borrow.Fn.Kinds.{In}
 use borrow.Fn.PlainCycle.{Measures, is, falls, and}
 use Rattle.assembly.proofs.lengths.item_length.Reads as item-length
@@ -19,10 +27,10 @@ use Rattle.assembly.proofs.lengths.+item_length+items_length.{statement
 use Rattle.assembly.proofs.lengths.+item_length+items_length.Tie.{close}
 
 abbrev μ-item-length : Measures 3 item-length-kinds.ps ℕ
-μ-item-length κs a = ?
+μ-item-length κs a = 2 * a .1 .1 .1 .1 .1 .1 .1 .0
 
 abbrev μ-items-length : Measures 3 items-length-kinds.ps ℕ
-μ-items-length κs a = ?
+μ-items-length κs a = 2 * a .1 .1 .1 .1 .1 .1 .1 .1 .0 + 1
 
 abbrev item-length-at : ℕ → In 3 item-length-kinds.ps
 item-length-at t =
@@ -63,7 +71,7 @@ item-length-item-kind-requires : (t : ℕ) → item-length-lts.Need-item-kind-re
   items-length-below t,
   items-length.Post,
 ) (item-length-at t) item-length.Post
-item-length-item-kind-requires t c κs = ?
+item-length-item-kind-requires t c κs = search needs
 
 -- src/lengths.rt:81:9
 item-length-returns : (t : ℕ) → item-length-lts.Need-returns (
@@ -147,7 +155,7 @@ item-length-add-capped : (t : ℕ) → item-length-lts.Need-add-capped (
   items-length-below t,
   items-length.Post,
 ) (item-length-at t) item-length.Post
-item-length-add-capped t c = ?
+item-length-add-capped t c = search needs
 
 -- src/lengths.rt:85:58
 item-length-elements-length-requires : (t : ℕ) → item-length-lts.Need-elements-length-requires (
@@ -189,7 +197,7 @@ item-length-capped-requires : (t : ℕ) → item-length-lts.Need-capped-requires
   items-length-below t,
   items-length.Post,
 ) (item-length-at t) item-length.Post
-item-length-capped-requires t c κs = ?
+item-length-capped-requires t c κs = search needs
 
 -- src/lengths.rt:85:9
 item-length-returns-2 : (t : ℕ) → item-length-lts.Need-returns-2 (
@@ -231,7 +239,7 @@ item-length-item-name-requires : (t : ℕ) → item-length-lts.Need-item-name-re
   items-length-below t,
   items-length.Post,
 ) (item-length-at t) item-length.Post
-item-length-item-name-requires t c κs = ?
+item-length-item-name-requires t c κs = search needs
 
 -- src/lengths.rt:87:16
 item-length-add-head : (t : ℕ) → item-length-lts.Need-add-head (
@@ -252,7 +260,7 @@ item-length-add-head : (t : ℕ) → item-length-lts.Need-add-head (
   items-length-below t,
   items-length.Post,
 ) (item-length-at t) item-length.Post
-item-length-add-head t c = ?
+item-length-add-head t c = search needs
 
 -- src/lengths.rt:89:9
 item-length-returns-3 : (t : ℕ) → item-length-lts.Need-returns-3 (
@@ -315,7 +323,7 @@ item-length-module-items-requires : (t : ℕ) → item-length-lts.Need-module-it
   items-length-below t,
   items-length.Post,
 ) (item-length-at t) item-length.Post
-item-length-module-items-requires t c κs = ?
+item-length-module-items-requires t c κs = search needs
 
 -- src/lengths.rt:95:81
 item-length-sub-items-length : (t : ℕ) → item-length-lts.Need-sub-items-length (
@@ -336,7 +344,7 @@ item-length-sub-items-length : (t : ℕ) → item-length-lts.Need-sub-items-leng
   items-length-below t,
   items-length.Post,
 ) (item-length-at t) item-length.Post
-item-length-sub-items-length t c = ?
+item-length-sub-items-length t c = search needs
 
 -- src/lengths.rt:95:9
 item-length-items-length-requires : (t : ℕ) → item-length-lts.Need-items-length-requires (
@@ -402,10 +410,10 @@ item-length-returns-5 : (t : ℕ) → item-length-lts.Need-returns-5 (
 item-length-returns-5 t c = ?
 
 abbrev items-length-Inv-loop : items-length-lts.InvT-loop
-items-length-Inv-loop s at file index files units from end depth sum₀ a₀ sum a = ?
+items-length-Inv-loop s at file index files units from end depth sum₀ a₀ sum a = Counted (itemsBytes s file depth end from) (itemsBytes s file depth end a) 65536 sum
 
 abbrev items-length-μ-loop : items-length-lts.MeasureT-loop
-items-length-μ-loop s at file index files units from end depth sum₀ a₀ sum a = ?
+items-length-μ-loop s at file index files units from end depth sum₀ a₀ sum a = end - a
 
 -- src/lengths.rt:116:5
 items-length-loop-holds : (t : ℕ) → items-length-lts.Need-loop-holds (
@@ -427,7 +435,7 @@ items-length-item-length-requires : (t : ℕ) → items-length-lts.Need-item-len
   next-item-reads.Asked,
   next-item-reads.Learnt,
 ) (items-length-at t) items-length.Post items-length-Inv-loop items-length-μ-loop
-items-length-item-length-requires t c κs = ?
+items-length-item-length-requires t c κs = search needs
 
 -- src/lengths.rt:118:9
 items-length-capped-requires : (t : ℕ) → items-length-lts.Need-capped-requires (
@@ -438,7 +446,7 @@ items-length-capped-requires : (t : ℕ) → items-length-lts.Need-capped-requir
   next-item-reads.Asked,
   next-item-reads.Learnt,
 ) (items-length-at t) items-length.Post items-length-Inv-loop items-length-μ-loop
-items-length-capped-requires t c κs = ?
+items-length-capped-requires t c κs = search needs
 
 -- src/lengths.rt:119:9
 items-length-next-item-requires : (t : ℕ) → items-length-lts.Need-next-item-requires (
@@ -449,7 +457,7 @@ items-length-next-item-requires : (t : ℕ) → items-length-lts.Need-next-item-
   next-item-reads.Asked,
   next-item-reads.Learnt,
 ) (items-length-at t) items-length.Post items-length-Inv-loop items-length-μ-loop
-items-length-next-item-requires t c κs = ?
+items-length-next-item-requires t c κs = search needs
 
 -- src/lengths.rt:116:5
 items-length-loop-less : (t : ℕ) → items-length-lts.Need-loop-less (
@@ -460,7 +468,7 @@ items-length-loop-less : (t : ℕ) → items-length-lts.Need-loop-less (
   next-item-reads.Asked,
   next-item-reads.Learnt,
 ) (items-length-at t) items-length.Post items-length-Inv-loop items-length-μ-loop
-items-length-loop-less t c = ?
+items-length-loop-less t c = search needs
 
 -- src/lengths.rt:116:5
 items-length-loop-again : (t : ℕ) → items-length-lts.Need-loop-again (
