@@ -103,6 +103,10 @@ module _ (all rest out₀ out : List ℕ) (sum : ℕ) (f : Filled all rest out�
       let l = lent-length out sum filled-start in
       omega arith
 
+  -- it is a part of all
+  pub filled-part : (x rest' : List ℕ) → rest ≡ x ++ rest' → length x ≤ length all
+  filled-part x rest' e = let k = ap length e ∙ length-append x rest' in let a = all-length in omega arith
+
   pub filled-more : (x rest' last : List ℕ) (n : ℕ) → rest ≡ x ++ rest' → last ≡ started x (midOf sum (length out - sum) out) → n ≡ length x
       → Filled all rest' out₀ (putMid sum (length out - sum) out last) (sum + n)
   filled-more x rest' last n e l k = record {
