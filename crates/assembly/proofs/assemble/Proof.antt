@@ -1,3 +1,12 @@
+use Rattle.assembly.specs.Join.{no-units, units-linked, faults-told, image-told}
+use Rattle.order.specs.Writing.{faultRecords}
+use Rattle.order.specs.Report.{reporting, lentReport}
+use denote.Ref.{now}
+use lib.ListN.{length}
+use mathlib.Core.List.{List}
+use mathlib.Core.Path.{_≡_, refl, sym, ap, subst, _∙_}
+use native.Mathlib.Omega.{arith}
+use Prim.Native.Nat.{ℕ, suc, _+_, _-_, _*_, _≤_, _<_}
 use borrow.Author.Needs.{needs}
 use Rattle.assembly.proofs.assemble.Statement.{statement}
 use Rattle.assembly.proofs.assemble.Tie as tie
@@ -25,7 +34,7 @@ same-length c = search needs
 
 -- src/lib.rt:69:9
 returns : tie.Need-returns
-returns c = ?
+returns c = let d = no-units (now (c .before .before .before .before .before .before .before .before .before .args .s)) (now (c .before .before .before .before .before .before .before .before .before .args .report)) (now (c .before .before .before .before .before .before .before .before .before .args .image)) (c .before .before .before .before .order .result) (c .before .before .before .before .order .last .1 .0) (c .before .before .before .before .order .ensures .0) (c .before .before .before .before .order .ensures .1) (c .before .if1 .taken) in (c .told .ensures ∙ d .0, d .1)
 
 -- src/lib.rt:73:40
 slice-aggregate-assembly-faults : tie.Need-slice-aggregate-assembly-faults
@@ -37,7 +46,7 @@ slice-aggregate-assembly-faults-2 c = search needs
 
 -- src/lib.rt:73:13
 assembly-faults-requires : tie.Need-assembly-faults-requires
-assembly-faults-requires c κs = ?
+assembly-faults-requires c κs = units-linked (now (c .before .before .before .before .before .before .before .before .before .before .before .before .args .s)) (now (c .before .before .before .before .before .before .before .before .before .before .before .before .args .report)) (now (c .before .before .before .before .before .before .before .before .before .before .before .before .args .image)) (c .before .before .before .before .before .before .before .order .result) (c .before .before .before .before .before .before .before .order .last .1 .0) (c .before .before .before .before .before .before .before .order .ensures .0) (c .before .before .before .before .before .before .before .order .ensures .1) (c .before .before .before .before .if1 .left) .0
 
 -- src/lib.rt:76:34
 write-faults-requires : tie.Need-write-faults-requires
@@ -53,7 +62,15 @@ same-length-2 c = search needs
 
 -- src/lib.rt:76:9
 returns-2 : tie.Need-returns-2
-returns-2 c = ?
+returns-2 c = 
+    let l = units-linked (now (c .before .before .before .before .before .before .before .before .before .before .before .before .before .before .before .before .before .before .before .before .before .before .before .before .args .s)) (now (c .before .before .before .before .before .before .before .before .before .before .before .before .before .before .before .before .before .before .before .before .before .before .before .before .args .report)) (now (c .before .before .before .before .before .before .before .before .before .before .before .before .before .before .before .before .before .before .before .before .before .before .before .before .args .image)) (c .before .before .before .before .before .before .before .before .before .before .before .before .before .before .before .before .before .before .before .order .result) (c .before .before .before .before .before .before .before .before .before .before .before .before .before .before .before .before .before .before .before .order .last .1 .0) (c .before .before .before .before .before .before .before .before .before .before .before .before .before .before .before .before .before .before .before .order .ensures .0) (c .before .before .before .before .before .before .before .before .before .before .before .before .before .before .before .before .before .before .before .order .ensures .1) (c .before .before .before .before .before .before .before .before .before .before .before .before .before .before .before .before .if1 .left) in
+    let zn : length (c .before .before .before .before .before .before .before .before .before .before .before .assembly-faults .result .numbers) ≡ 1025 = search (needs, c .before .before .before .before .before .before .before .before .before .before .before .assembly-faults) in
+    let zp : length (c .before .before .before .before .before .before .before .before .before .before .before .assembly-faults .result .places) ≡ 1025 = search (needs, c .before .before .before .before .before .before .before .before .before .before .before .assembly-faults) in
+    let few = c .before .before .before .before .before .before .before .before .before .before .before .assembly-faults .ensures .1 in
+    faults-told (now (c .before .before .before .before .before .before .before .before .before .before .before .before .before .before .before .before .before .before .before .before .before .before .before .before .args .s)) (now (c .before .before .before .before .before .before .before .before .before .before .before .before .before .before .before .before .before .before .before .before .before .before .before .before .args .report)) (now (c .before .before .before .before .before .before .before .before .before .before .before .before .before .before .before .before .before .before .before .before .before .before .before .before .args .image)) (c .before .before .before .before .before .before .before .before .before .before .before .before .before .before .before .before .before .before .before .order .result) (c .before .before .before .before .before .before .before .before .before .before .before .before .before .before .before .before .before .before .before .order .last .1 .0) (c .before .before .before .before .before .before .before .before .before .before .before .before .before .before .before .before .before .before .before .order .ensures .0) (c .before .before .before .before .before .before .before .before .before .before .before .before .before .before .before .before .before .before .before .order .ensures .1) (l .0) (c .before .before .before .before .before .before .before .before .before .before .before .assembly-faults .result .numbers) (c .before .before .before .before .before .before .before .before .before .before .before .assembly-faults .result .places) (c .before .before .before .write-faults .last .1 .1 .1 .0) (c .before .before .before .before .before .before .before .before .before .before .before .assembly-faults .result .count) (c .before .before .before .write-faults .result) (c .reported .result)
+    (omega arith) (omega arith) (c .before .before .before .before .before .before .before .before .before .before .if2 .taken) (c .before .before .before .before .before .before .before .before .before .before .before .assembly-faults .ensures .0)
+    (c .before .before .before .write-faults .ensures .0 ∙ ap (λ (x : List ℕ). reporting (faultRecords (c .before .before .before .before .before .before .before .before .before .before .before .assembly-faults .result .numbers) (c .before .before .before .before .before .before .before .before .before .before .before .assembly-faults .result .places) (c .before .before .before .before .before .before .before .before .before .before .before .assembly-faults .result .count)) (length x)) (l .1)) (c .reported .ensures)
+    (c .before .before .before .write-faults .ensures .1 ∙ ap (lentReport (faultRecords (c .before .before .before .before .before .before .before .before .before .before .before .assembly-faults .result .numbers) (c .before .before .before .before .before .before .before .before .before .before .before .assembly-faults .result .places) (c .before .before .before .before .before .before .before .before .before .before .before .assembly-faults .result .count))) (l .1))
 
 -- src/lib.rt:78:41
 slice-aggregate-write-image : tie.Need-slice-aggregate-write-image
@@ -65,7 +82,7 @@ slice-aggregate-write-image-2 c = search needs
 
 -- src/lib.rt:78:9
 write-image-requires : tie.Need-write-image-requires
-write-image-requires c κs = ?
+write-image-requires c κs = units-linked (now (c .before .before .before .before .before .before .before .before .before .before .before .before .before .before .before .before .before .args .s)) (now (c .before .before .before .before .before .before .before .before .before .before .before .before .before .before .before .before .before .args .report)) (now (c .before .before .before .before .before .before .before .before .before .before .before .before .before .before .before .before .before .args .image)) (c .before .before .before .before .before .before .before .before .before .before .before .before .order .result) (c .before .before .before .before .before .before .before .before .before .before .before .before .order .last .1 .0) (c .before .before .before .before .before .before .before .before .before .before .before .before .order .ensures .0) (c .before .before .before .before .before .before .before .before .before .before .before .before .order .ensures .1) (c .before .before .before .before .before .before .before .before .before .if1 .left) .0
 
 -- src/lib.rt:79:5
 imaged-requires : tie.Need-imaged-requires
@@ -81,7 +98,11 @@ same-length-4 c = search needs
 
 -- src/lib.rt:61:1
 returns-3 : tie.Need-returns-3
-returns-3 c = ?
+returns-3 c = 
+    let l = units-linked (now (c .before .before .before .before .before .before .before .before .before .before .before .before .before .before .before .before .before .before .before .before .before .args .s)) (now (c .before .before .before .before .before .before .before .before .before .before .before .before .before .before .before .before .before .before .before .before .before .args .report)) (now (c .before .before .before .before .before .before .before .before .before .before .before .before .before .before .before .before .before .before .before .before .before .args .image)) (c .before .before .before .before .before .before .before .before .before .before .before .before .before .before .before .before .order .result) (c .before .before .before .before .before .before .before .before .before .before .before .before .before .before .before .before .order .last .1 .0) (c .before .before .before .before .before .before .before .before .before .before .before .before .before .before .before .before .order .ensures .0) (c .before .before .before .before .before .before .before .before .before .before .before .before .before .before .before .before .order .ensures .1) (c .before .before .before .before .before .before .before .before .before .before .before .before .before .if1 .left) in
+    let z : c .before .before .before .before .before .before .before .before .assembly-faults .result .count ≡ 0 = omega (arith, c .before .before .before .before .before .before .before .if2 .left) in
+    image-told (now (c .before .before .before .before .before .before .before .before .before .before .before .before .before .before .before .before .before .before .before .before .before .args .s)) (now (c .before .before .before .before .before .before .before .before .before .before .before .before .before .before .before .before .before .before .before .before .before .args .report)) (now (c .before .before .before .before .before .before .before .before .before .before .before .before .before .before .before .before .before .before .before .before .before .args .image)) (c .before .before .before .before .before .before .before .before .before .before .before .before .before .before .before .before .order .result) (c .before .before .before .before .before .before .before .before .before .before .before .before .before .before .before .before .order .last .1 .0) (c .before .before .before .before .before .before .before .before .before .before .before .before .before .before .before .before .order .ensures .0) (c .before .before .before .before .before .before .before .before .before .before .before .before .before .before .before .before .order .ensures .1) (l .0) (c .before .before .before .before .before .before .before .before .assembly-faults .result .numbers) (c .before .before .before .before .before .before .before .before .assembly-faults .result .places) (c .before .before .before .write-image .last .1 .1 .1 .1 .0) (c .before .before .before .before .before .before .before .before .assembly-faults .result .count) (c .before .before .before .write-image .result) (c .imaged .result) z
+    (c .before .before .before .before .before .before .before .before .assembly-faults .ensures .0) (c .before .before .before .write-image .ensures .0) (c .imaged .ensures) (c .before .before .before .write-image .ensures .1) (l .1)
 
 pub assemble-spec : {M : Type 1} → statement M
 assemble-spec =
