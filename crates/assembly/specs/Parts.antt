@@ -1,16 +1,14 @@
 -- Buffers that are filled from their start, and parts of them that are lent on. Assumes nothing.
-use Prim.Native.Nat.{ℕ, suc, _+_, _-_, _/_, _%_, _≤_, _<_, min}
-use native.Mathlib.Numerals.{add-one}
+-- w stands at the start, and the buffer is as long as it was
+use Prim.Native.Nat.{ℕ, _+_, _-_, _/_, _%_, _≤_, _<_, min}
 use native.Mathlib.Omega.{arith}
-use mathlib.Core.Path.{_≡_, refl, sym, ap, subst, _∙_}
+use mathlib.Core.Path.{_≡_, refl, sym, ap, _∙_}
 use mathlib.Core.List.{List, [], _∷_, _++_, append-assoc, append-nil}
-use lib.ListN.{length, getD, set, take, drop, length-append, length-drop}
-use lib.Seq.{take-at, drop-at, drop-drop, drop-length, take-all, length-take-le, drop-set-lt, take-suc}
+use lib.ListN.{length, set, take, drop, length-append, length-drop}
+use lib.Seq.{take-at, drop-at, drop-drop, drop-length, take-all, length-take-le}
 use borrow.Rule.Slice.PartMut.{midOf, putMid, post-is}
-use Rattle.bundle.specs.Encode.{two}
 use Rattle.order.specs.Writing.{started, put-one}
 
--- w stands at the start, and the buffer is as long as it was
 pub started-length : (w out : List ℕ) → length w ≤ length out → length (started w out) ≡ length out
 started-length w out h = omega (arith, length-append w (drop (length w) out), length-drop (length w) out)
 

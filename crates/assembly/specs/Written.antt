@@ -1,7 +1,8 @@
 -- An item that is written start first, then what is inside, and its length at last. Assumes nothing.
+-- the item, by the name and the visibility that the code reads
 use Prim.Native.Nat.{ℕ, _+_, _-_, _/_, _%_, _≤_, _<_}
 use native.Mathlib.Omega.{arith}
-use mathlib.Core.Path.{_≡_, refl, sym, ap, _∙_}
+use mathlib.Core.Path.{_≡_, sym, ap, _∙_}
 use mathlib.Core.List.{List, [], _∷_, _++_, append-assoc}
 use lib.ListN.{length, set, take, length-append}
 use lib.Seq.{length-take-le}
@@ -10,7 +11,6 @@ use Rattle.bundle.specs.Encode.{string}
 use Rattle.order.specs.Writing.{started}
 use Rattle.assembly.specs.Parts.{headBytes, put-length, front-long, front-start, front-room, front-fits, front-all}
 
--- the item, by the name and the visibility that the code reads
 pub by-name : (item name t : List ℕ) (k v b : ℕ) → name ≡ t → v ≡ b → item ≡ headBytes (2 + length (string t)) k b ++ string t → item ≡ headBytes (2 + length (string name)) k v ++ string name
 by-name item name t k v b e f h = rw (e, f) h
 
@@ -44,7 +44,7 @@ module _ (out cur name : List ℕ) (k v a : ℕ) (start : cur ≡ started (take 
           let z : a - 2 ≡ 2 + length (string name) = omega arith in (
             sym l,
             put-length (string name) out cur final (a - 2) k v (omega arith) start f
-            ∙ (ap (λ (n : ℕ). started (headBytes n k v ++ string name) out) z ∙ ap (λ (i : List ℕ). started i out) (sym form)),
+                ∙ (ap (λ (n : ℕ). started (headBytes n k v ++ string name) out) z ∙ ap (λ (i : List ℕ). started i out) (sym form)),
           )
 
     -- x is inside
@@ -91,5 +91,5 @@ module _ (out cur name : List ℕ) (k v a : ℕ) (start : cur ≡ started (take 
             let z : a + m - 2 ≡ 2 + length (string name ++ x) = omega (arith, length-append (string name) x) in (
               omega arith,
               put-length (string name ++ x) out (putMid a (length cur - a) cur last) final (a + m - 2) k v (omega arith) both f
-              ∙ (ap (λ (n : ℕ). started (headBytes n k v ++ (string name ++ x)) out) z ∙ ap (λ (i : List ℕ). started i out) (sym form)),
+                  ∙ (ap (λ (n : ℕ). started (headBytes n k v ++ (string name ++ x)) out) z ∙ ap (λ (i : List ℕ). started i out) (sym form)),
             )
