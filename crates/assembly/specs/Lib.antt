@@ -8,3 +8,14 @@ pub mod Theorems
 pub mod ImageForm
 pub mod Unique
 pub mod Cases
+pub mod Call
+pub mod Parts
+pub mod Strings
+pub mod Targets
+pub mod Walk
+pub mod Uses
+pub mod Written
+pub mod Linked
+pub mod EnumRoom
+pub mod WholeImage
+pub mod Join
