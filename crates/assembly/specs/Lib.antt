@@ -19,3 +19,4 @@ pub mod Linked
 pub mod EnumRoom
 pub mod WholeImage
 pub mod Join
+pub mod Demand

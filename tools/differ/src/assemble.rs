@@ -119,9 +119,7 @@ impl Original {
                 let lines = other.print(false);
                 let number = lines.split(' ').nth(1).and_then(|word| word.parse().ok());
                 match number {
-                    Some(40..=51) => {
-                        !matches!(model, Told::Linked(..) | Told::Refused(15, 0))
-                    }
+                    Some(40..=51) => !matches!(model, Told::Linked(..) | Told::Refused(15, 0)),
                     _ => told(&lines) != *model,
                 }
             }
