@@ -26,8 +26,9 @@ use Rattle.graph.specs.Linearize.{linearize, visit, memb, from}
 use Rattle.graph.specs.Linearize as graph
 use Rattle.order.specs.Run.{ordered}
 use Rattle.assembly.specs.Assemble.{rewriteUse, rewriteItems, localItems, assembled, enumDeclarations, forbidEnumDecInDeps, hasMain, mainFaults, assemblyFaults, Outcome, faulty, closed, program, linearizeAndAssemble}
-use Rattle.assembly.specs.Image.{imageBytes, itemsLength, Imaged, imaging, lentImage}
-use Rattle.assembly.specs.Image as imaged
+use Rattle.assembly.specs.Image.{imageBytes, itemsLength, imaging, lentImage}
+use Rattle.assembly.specs.declared.Imaged.{Imaged}
+use Rattle.assembly.specs.declared.Imaged.the-variants as imaged
 
 -- what is told of bytes: the outcome, and the image of its program
 pub data Told : Type 0 where
@@ -166,19 +167,19 @@ filled rest = 7 ∷ 7 ∷ 7 ∷ 7 ∷ 7 ∷ 7 ∷ 7 ∷ 7 ∷ 7 ∷ 7 ∷ 7 ∷ 
 unfoldable pub lents : List Lent
 lents =
     -- one byte too few: 14 at place 0, and the buffer is as it was
-    record { items = small-program; buffer = filled []; answer = imaged.refused 14 0; after = filled [] }
+    record { items = small-program; buffer = filled []; answer = imaged.Refused 14 0; after = filled [] }
     -- just enough
     ∷ record {
       items = small-program;
       buffer = filled (7 ∷ []);
-      answer = imaged.image 23;
+      answer = imaged.Image 23;
       after = 1 ∷ 0 ∷ 20 ∷ 0 ∷ 18 ∷ 5 ∷ 0 ∷ 6 ∷ 117 ∷ 110 ∷ 105 ∷ 116 ∷ 95 ∷ 48 ∷ 0 ∷ 7 ∷ 2 ∷ 0 ∷ 4 ∷ 109 ∷ 97 ∷ 105 ∷ 110 ∷ [];
     }
     -- the rest is as it was
     ∷ record {
       items = small-program;
       buffer = filled (7 ∷ 8 ∷ 9 ∷ []);
-      answer = imaged.image 23;
+      answer = imaged.Image 23;
       after = 1 ∷ 0 ∷ 20 ∷ 0 ∷ 18 ∷ 5 ∷ 0 ∷ 6 ∷ 117 ∷ 110 ∷ 105 ∷ 116 ∷ 95 ∷ 48 ∷ 0 ∷ 7 ∷ 2 ∷ 0 ∷ 4 ∷ 109 ∷ 97 ∷ 105 ∷ 110 ∷ 8 ∷ 9 ∷ [];
     }
     ∷ []

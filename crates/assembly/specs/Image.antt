@@ -12,6 +12,8 @@ use borrow.Author.Tests.{leb-true, leb-false, le-leb, lt-leb}
 use Rattle.bundle.specs.Bundle.{Text, Element, Items, none, named, use-of, module-of, ignored}
 use Rattle.bundle.specs.Encode.{two, string, joined, counted, sized, element, items}
 use Rattle.bundle.specs.Limits.{version, header, use-kind, module-kind, ignored-kind}
+use Rattle.assembly.specs.declared.Imaged.{Imaged}
+use Rattle.assembly.specs.declared.Imaged.the-variants as imaged
 
 -- document 01's numbers
 abbrev pub small-buffer : ℕ
@@ -49,17 +51,12 @@ abbrev pub imageLength : Items → ℕ
 imageLength p = header + itemsLength p
 
 -- THE LENT BUFFER
--- the image's length, or a number and a place
-pub data Imaged : Type 0 where
-  image : ℕ → Imaged
-  refused : ℕ → ℕ → Imaged
-
 -- the answer for a buffer of n bytes: 15 comes before 14
 unfoldable pub imaging : Items → ℕ → Imaged
 imaging p n =
     cond (leb (itemsLength p) image-limit)
-    (cond (leb (imageLength p) n) (image (imageLength p)) (refused small-buffer 0))
-    (refused long-image 0)
+    (cond (leb (imageLength p) n) (imaged.Image (imageLength p)) (imaged.Refused small-buffer 0))
+    (imaged.Refused long-image 0)
 
 -- what it holds afterwards: the image at its start and the rest as it was where all of it fits, and otherwise what it held
 unfoldable pub lentImage : Items → List ℕ → List ℕ
@@ -105,13 +102,13 @@ image-length p = omega (arith, items-length p, sized-length (items p))
 
 -- where it fits: the image's bytes, then the bytes that were there; the answer is the length
 pub record Fits (p : Items) (out : List ℕ) : Type 0 where
-  pub answered : imaging p (length out) ≡ image (imageLength p)
+  pub answered : imaging p (length out) ≡ imaged.Image (imageLength p)
   pub written : take (imageLength p) (lentImage p out) ≡ imageBytes p
   pub rest : drop (imageLength p) (lentImage p out) ≡ drop (imageLength p) out
 
 -- where it doesn't: the number at place 0, and not a byte is changed
 pub record Exceeds (p : Items) (out : List ℕ) (number : ℕ) : Type 0 where
-  pub answered : imaging p (length out) ≡ refused number 0
+  pub answered : imaging p (length out) ≡ imaged.Refused number 0
   pub untouched : lentImage p out ≡ out
 
 module _ (p : Items) (out : List ℕ) where
@@ -140,22 +137,22 @@ module _ (p : Items) (out : List ℕ) where
   }
 
   -- the numbers are answered only there
-  pub long-only : imaging p (length out) ≡ refused long-image 0 → image-limit < itemsLength p
+  pub long-only : imaging p (length out) ≡ imaged.Refused long-image 0 → image-limit < itemsLength p
   unfolding imaging
   long-only e = go (leb (itemsLength p) image-limit) (leb (imageLength p) (length out)) refl e
     where
       go : (t u : Bool) → leb (itemsLength p) image-limit ≡ t
-          → cond t (cond u (image (imageLength p)) (refused small-buffer 0)) (refused long-image 0) ≡ refused long-image 0 → image-limit < itemsLength p
+          → cond t (cond u (imaged.Image (imageLength p)) (imaged.Refused small-buffer 0)) (imaged.Refused long-image 0) ≡ imaged.Refused long-image 0 → image-limit < itemsLength p
       go true true h k = let z : _≡_ {A = ℕ} 0 1 = cc in absurd (omega arith)
       go true false h k = let z : _≡_ {A = ℕ} 14 15 = cc in absurd (omega arith)
       go false u h k = leb-false (itemsLength p) image-limit h
 
-  pub small-only : imaging p (length out) ≡ refused small-buffer 0 → length out < imageLength p
+  pub small-only : imaging p (length out) ≡ imaged.Refused small-buffer 0 → length out < imageLength p
   unfolding imaging
   small-only e = go (leb (itemsLength p) image-limit) (leb (imageLength p) (length out)) refl e
     where
       go : (t u : Bool) → leb (imageLength p) (length out) ≡ u
-          → cond t (cond u (image (imageLength p)) (refused small-buffer 0)) (refused long-image 0) ≡ refused small-buffer 0 → length out < imageLength p
+          → cond t (cond u (imaged.Image (imageLength p)) (imaged.Refused small-buffer 0)) (imaged.Refused long-image 0) ≡ imaged.Refused small-buffer 0 → length out < imageLength p
       go true true h k = let z : _≡_ {A = ℕ} 0 1 = cc in absurd (omega arith)
       go true false h k = leb-false (imageLength p) (length out) h
       go false u h k = let z : _≡_ {A = ℕ} 14 15 = cc in absurd (omega arith)

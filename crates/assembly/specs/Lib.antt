@@ -8,3 +8,9 @@ pub mod Theorems
 pub mod ImageForm
 pub mod Unique
 pub mod Cases
+pub mod Call
+pub mod Parts
+pub mod Strings
+pub mod Targets
+pub mod Walk
+pub mod Uses

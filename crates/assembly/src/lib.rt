@@ -1,1 +1,75 @@
-// Step 5 of document 01, `assemble_program`, and the image: specs/Assemble.antt, specs/Image.antt. There is no code here.
+// Step 5 of document 01, `assemble_program`, and the image. The functions have the names of resolve_order.rs.
+mod answers;
+mod bytes;
+mod checks;
+mod enums;
+mod image;
+mod lengths;
+mod targets;
+mod writing;
+
+pub use checks::assembly_faults;
+pub use image::write_image;
+pub use writing::rewrite_use;
+
+// The most units of a bundle: the limit of the reader.
+pub const UNITS: usize = bundle::limits::FILES;
+
+// The most faults of step 5: every item an enum, and no main.
+pub const FAULTS: usize = bundle::limits::ITEMS + 1;
+
+// The faults of step 5: the first `count` numbers and places, in the order of the pushes.
+pub struct Faults {
+    pub numbers: [u8; FAULTS],
+    pub places: [usize; FAULTS],
+    pub count: usize,
+}
+
+// What a use's path becomes: `crate`, the name of a unit, and the last so many segments; or no segment, where it fails.
+pub enum Target {
+    Unit(usize, usize),
+    Nothing,
+}
+
+// What becomes of an image that is written to a lent buffer.
+pub enum Imaged {
+    // How many bytes at the start of the buffer are the image.
+    Image(usize),
+    // A number and a place: 15 or 14 at 0.
+    Refused(u8, usize),
+}
+
+// What steps 1 to 5 answer: a refusal's number, 1 to 15, and its place; or how many bytes at the start of the report buffer are
+// the report; or, where there is neither, the units and how many bytes at the start of the image buffer are the image. Unit u,
+// below `units`, is the file files[u] of the bundle, and the first `units` of ids are the linked order. What is not told is 0.
+pub struct Answer {
+    pub number: u8,
+    pub place: usize,
+    pub report: usize,
+    pub units: usize,
+    pub files: [usize; UNITS],
+    pub ids: [u16; UNITS],
+    pub image: usize,
+}
+
+// From any bytes to an image: 1 to 13 of the bundle; the report of discovery's faults, of a ring, or of step 5's faults; or the
+// units, their order and the image.
+pub fn assemble(s: &[u8], report: &mut [u8], image: &mut [u8]) -> Answer {
+    let a = order::order(s, report);
+    if a.number != 0 {
+        return answers::refuse(a.number, a.place);
+    }
+    if a.report != 0 {
+        return answers::report(a.report);
+    }
+    let files = a.files;
+    let ids = a.ids;
+    let units = a.units;
+    let f = checks::assembly_faults(s, &files, &ids, units);
+    let count = f.count;
+    if count > 0 {
+        return answers::reported(order::write_faults(&f.numbers, &f.places, count, report));
+    }
+    let written = image::write_image(s, &files, &ids, units, image);
+    answers::imaged(written, files, ids, units)
+}

@@ -2,6 +2,7 @@
 mod report;
 mod steps;
 
+pub use report::write_faults;
 ghost use mathlib.Core.Path.{_≡_};
 ghost use Rattle.order.specs.Call.{orderAnswer, orderReport};
 

@@ -1,8 +1,8 @@
 // The report in a lent buffer: it is written only where all of it fits.
 ghost use mathlib.Core.Path.{_≡_};
-ghost use Prim.Native.Nat.{_+_, _/_, _<_, _≤_};
+ghost use Prim.Native.Nat.{_+_, _/_, _<_, _≤_, _^_};
 ghost use lib.ListN.{length, set};
-ghost use Rattle.bundle.specs.Limits.{file-limit, use-limit};
+ghost use Rattle.bundle.specs.Limits.{file-limit};
 ghost use Rattle.order.specs.Report.{low as Report·low, lentReport, reporting};
 ghost use Rattle.order.specs.Writing.{faultRecords, ringRecords, written3};
 use crate::Reported;
@@ -50,7 +50,7 @@ pub fn write_faults<'a>(
     count: usize,
     out: &mut [u8],
 ) -> Reported
-    requires { ⌜ (count ≤ use-limit) × (count ≤ length (now numbers)) × (count ≤ length (now places)) ⌝ }
+    requires { ⌜ (count < 2 ^ 32) × (count ≤ length (now numbers)) × (count ≤ length (now places)) ⌝ }
     ensures { λ r. ⌜ r ≡ reporting (faultRecords (now (numbers .entry)) (now (places .entry)) count) (length (now (out .entry))) ⌝ }
     ensures { λ r. ⌜ now (out .exit) ≡ lentReport (faultRecords (now (numbers .entry)) (now (places .entry)) count) (now (out .entry)) ⌝ }
 {

@@ -1,0 +1,543 @@
+use Prim.Native.Nat.{ℕ, _<_}
+use borrow.Fn.Kinds.{In}
+use borrow.Fn.PlainCycle.{Measures, is, falls, and}
+use Rattle.assembly.proofs.lengths.item_length.Reads as item-length
+use Rattle.assembly.proofs.lengths.item_length.Kinds as item-length-kinds
+use Rattle.assembly.proofs.lengths.+item_length+items_length.Lts-item_length as item-length-lts
+use Rattle.assembly.proofs.lengths.items_length.Reads as items-length
+use Rattle.assembly.proofs.lengths.items_length.Kinds as items-length-kinds
+use Rattle.assembly.proofs.lengths.+item_length+items_length.Lts-items_length as items-length-lts
+use Rattle.assembly.proofs.lengths.capped.Reads as capped-reads
+use Rattle.assembly.proofs.lengths.elements_length.Reads as elements-length-reads
+use Rattle.assembly.proofs.lengths.path_length.Reads as path-length-reads
+use Rattle.assembly.proofs.targets.target_of.Reads as target-of-reads
+use Rattle.bundle.proofs.item_kind.Reads as item-kind-reads
+use Rattle.bundle.proofs.item_name.Reads as item-name-reads
+use Rattle.bundle.proofs.module_items.Reads as module-items-reads
+use Rattle.bundle.proofs.next_item.Reads as next-item-reads
+use Rattle.assembly.proofs.lengths.+item_length+items_length.{statement}
+use Rattle.assembly.proofs.lengths.+item_length+items_length.Tie.{close}
+
+abbrev μ-item-length : Measures 3 item-length-kinds.ps ℕ
+μ-item-length κs a = ?
+
+abbrev μ-items-length : Measures 3 items-length-kinds.ps ℕ
+μ-items-length κs a = ?
+
+abbrev item-length-at : ℕ → In 3 item-length-kinds.ps
+item-length-at t =
+    and 3 item-length-kinds.ps (is 3 item-length-kinds.ps μ-item-length t) item-length.Pre
+
+abbrev item-length-below : ℕ → In 3 item-length-kinds.ps
+item-length-below t =
+    and 3 item-length-kinds.ps (falls 3 item-length-kinds.ps _<_ μ-item-length t) item-length.Pre
+
+abbrev items-length-at : ℕ → In 3 items-length-kinds.ps
+items-length-at t =
+    and 3 items-length-kinds.ps (is 3 items-length-kinds.ps μ-items-length t) items-length.Pre
+
+abbrev items-length-below : ℕ → In 3 items-length-kinds.ps
+items-length-below t =
+    and
+    3
+    items-length-kinds.ps
+    (falls 3 items-length-kinds.ps _<_ μ-items-length t)
+    items-length.Pre
+
+-- src/lengths.rt:79:9
+item-length-item-kind-requires : (t : ℕ) → item-length-lts.Need-item-kind-requires (
+  item-kind-reads.Asked,
+  item-kind-reads.Learnt,
+  target-of-reads.Asked,
+  target-of-reads.Learnt,
+  path-length-reads.Asked,
+  path-length-reads.Learnt,
+  elements-length-reads.Asked,
+  elements-length-reads.Learnt,
+  capped-reads.Asked,
+  capped-reads.Learnt,
+  item-name-reads.Asked,
+  item-name-reads.Learnt,
+  module-items-reads.Asked,
+  module-items-reads.Learnt,
+  items-length-below t,
+  items-length.Post,
+) (item-length-at t) item-length.Post
+item-length-item-kind-requires t c κs = ?
+
+-- src/lengths.rt:81:9
+item-length-returns : (t : ℕ) → item-length-lts.Need-returns (
+  item-kind-reads.Asked,
+  item-kind-reads.Learnt,
+  target-of-reads.Asked,
+  target-of-reads.Learnt,
+  path-length-reads.Asked,
+  path-length-reads.Learnt,
+  elements-length-reads.Asked,
+  elements-length-reads.Learnt,
+  capped-reads.Asked,
+  capped-reads.Learnt,
+  item-name-reads.Asked,
+  item-name-reads.Learnt,
+  module-items-reads.Asked,
+  module-items-reads.Learnt,
+  items-length-below t,
+  items-length.Post,
+) (item-length-at t) item-length.Post
+item-length-returns t c = ?
+
+-- src/lengths.rt:84:13
+item-length-target-of-requires : (t : ℕ) → item-length-lts.Need-target-of-requires (
+  item-kind-reads.Asked,
+  item-kind-reads.Learnt,
+  target-of-reads.Asked,
+  target-of-reads.Learnt,
+  path-length-reads.Asked,
+  path-length-reads.Learnt,
+  elements-length-reads.Asked,
+  elements-length-reads.Learnt,
+  capped-reads.Asked,
+  capped-reads.Learnt,
+  item-name-reads.Asked,
+  item-name-reads.Learnt,
+  module-items-reads.Asked,
+  module-items-reads.Learnt,
+  items-length-below t,
+  items-length.Post,
+) (item-length-at t) item-length.Post
+item-length-target-of-requires t c κs = ?
+
+-- src/lengths.rt:85:27
+item-length-path-length-requires : (t : ℕ) → item-length-lts.Need-path-length-requires (
+  item-kind-reads.Asked,
+  item-kind-reads.Learnt,
+  target-of-reads.Asked,
+  target-of-reads.Learnt,
+  path-length-reads.Asked,
+  path-length-reads.Learnt,
+  elements-length-reads.Asked,
+  elements-length-reads.Learnt,
+  capped-reads.Asked,
+  capped-reads.Learnt,
+  item-name-reads.Asked,
+  item-name-reads.Learnt,
+  module-items-reads.Asked,
+  module-items-reads.Learnt,
+  items-length-below t,
+  items-length.Post,
+) (item-length-at t) item-length.Post
+item-length-path-length-requires t c κs = ?
+
+-- src/lengths.rt:85:23
+item-length-add-capped : (t : ℕ) → item-length-lts.Need-add-capped (
+  item-kind-reads.Asked,
+  item-kind-reads.Learnt,
+  target-of-reads.Asked,
+  target-of-reads.Learnt,
+  path-length-reads.Asked,
+  path-length-reads.Learnt,
+  elements-length-reads.Asked,
+  elements-length-reads.Learnt,
+  capped-reads.Asked,
+  capped-reads.Learnt,
+  item-name-reads.Asked,
+  item-name-reads.Learnt,
+  module-items-reads.Asked,
+  module-items-reads.Learnt,
+  items-length-below t,
+  items-length.Post,
+) (item-length-at t) item-length.Post
+item-length-add-capped t c = ?
+
+-- src/lengths.rt:85:58
+item-length-elements-length-requires : (t : ℕ) → item-length-lts.Need-elements-length-requires (
+  item-kind-reads.Asked,
+  item-kind-reads.Learnt,
+  target-of-reads.Asked,
+  target-of-reads.Learnt,
+  path-length-reads.Asked,
+  path-length-reads.Learnt,
+  elements-length-reads.Asked,
+  elements-length-reads.Learnt,
+  capped-reads.Asked,
+  capped-reads.Learnt,
+  item-name-reads.Asked,
+  item-name-reads.Learnt,
+  module-items-reads.Asked,
+  module-items-reads.Learnt,
+  items-length-below t,
+  items-length.Post,
+) (item-length-at t) item-length.Post
+item-length-elements-length-requires t c κs = ?
+
+-- src/lengths.rt:85:9
+item-length-capped-requires : (t : ℕ) → item-length-lts.Need-capped-requires (
+  item-kind-reads.Asked,
+  item-kind-reads.Learnt,
+  target-of-reads.Asked,
+  target-of-reads.Learnt,
+  path-length-reads.Asked,
+  path-length-reads.Learnt,
+  elements-length-reads.Asked,
+  elements-length-reads.Learnt,
+  capped-reads.Asked,
+  capped-reads.Learnt,
+  item-name-reads.Asked,
+  item-name-reads.Learnt,
+  module-items-reads.Asked,
+  module-items-reads.Learnt,
+  items-length-below t,
+  items-length.Post,
+) (item-length-at t) item-length.Post
+item-length-capped-requires t c κs = ?
+
+-- src/lengths.rt:85:9
+item-length-returns-2 : (t : ℕ) → item-length-lts.Need-returns-2 (
+  item-kind-reads.Asked,
+  item-kind-reads.Learnt,
+  target-of-reads.Asked,
+  target-of-reads.Learnt,
+  path-length-reads.Asked,
+  path-length-reads.Learnt,
+  elements-length-reads.Asked,
+  elements-length-reads.Learnt,
+  capped-reads.Asked,
+  capped-reads.Learnt,
+  item-name-reads.Asked,
+  item-name-reads.Learnt,
+  module-items-reads.Asked,
+  module-items-reads.Learnt,
+  items-length-below t,
+  items-length.Post,
+) (item-length-at t) item-length.Post
+item-length-returns-2 t c = ?
+
+-- src/lengths.rt:87:20
+item-length-item-name-requires : (t : ℕ) → item-length-lts.Need-item-name-requires (
+  item-kind-reads.Asked,
+  item-kind-reads.Learnt,
+  target-of-reads.Asked,
+  target-of-reads.Learnt,
+  path-length-reads.Asked,
+  path-length-reads.Learnt,
+  elements-length-reads.Asked,
+  elements-length-reads.Learnt,
+  capped-reads.Asked,
+  capped-reads.Learnt,
+  item-name-reads.Asked,
+  item-name-reads.Learnt,
+  module-items-reads.Asked,
+  module-items-reads.Learnt,
+  items-length-below t,
+  items-length.Post,
+) (item-length-at t) item-length.Post
+item-length-item-name-requires t c κs = ?
+
+-- src/lengths.rt:87:16
+item-length-add-head : (t : ℕ) → item-length-lts.Need-add-head (
+  item-kind-reads.Asked,
+  item-kind-reads.Learnt,
+  target-of-reads.Asked,
+  target-of-reads.Learnt,
+  path-length-reads.Asked,
+  path-length-reads.Learnt,
+  elements-length-reads.Asked,
+  elements-length-reads.Learnt,
+  capped-reads.Asked,
+  capped-reads.Learnt,
+  item-name-reads.Asked,
+  item-name-reads.Learnt,
+  module-items-reads.Asked,
+  module-items-reads.Learnt,
+  items-length-below t,
+  items-length.Post,
+) (item-length-at t) item-length.Post
+item-length-add-head t c = ?
+
+-- src/lengths.rt:89:9
+item-length-returns-3 : (t : ℕ) → item-length-lts.Need-returns-3 (
+  item-kind-reads.Asked,
+  item-kind-reads.Learnt,
+  target-of-reads.Asked,
+  target-of-reads.Learnt,
+  path-length-reads.Asked,
+  path-length-reads.Learnt,
+  elements-length-reads.Asked,
+  elements-length-reads.Learnt,
+  capped-reads.Asked,
+  capped-reads.Learnt,
+  item-name-reads.Asked,
+  item-name-reads.Learnt,
+  module-items-reads.Asked,
+  module-items-reads.Learnt,
+  items-length-below t,
+  items-length.Post,
+) (item-length-at t) item-length.Post
+item-length-returns-3 t c = ?
+
+-- src/lengths.rt:92:9
+item-length-returns-4 : (t : ℕ) → item-length-lts.Need-returns-4 (
+  item-kind-reads.Asked,
+  item-kind-reads.Learnt,
+  target-of-reads.Asked,
+  target-of-reads.Learnt,
+  path-length-reads.Asked,
+  path-length-reads.Learnt,
+  elements-length-reads.Asked,
+  elements-length-reads.Learnt,
+  capped-reads.Asked,
+  capped-reads.Learnt,
+  item-name-reads.Asked,
+  item-name-reads.Learnt,
+  module-items-reads.Asked,
+  module-items-reads.Learnt,
+  items-length-below t,
+  items-length.Post,
+) (item-length-at t) item-length.Post
+item-length-returns-4 t c = ?
+
+-- src/lengths.rt:94:9
+item-length-module-items-requires : (t : ℕ) → item-length-lts.Need-module-items-requires (
+  item-kind-reads.Asked,
+  item-kind-reads.Learnt,
+  target-of-reads.Asked,
+  target-of-reads.Learnt,
+  path-length-reads.Asked,
+  path-length-reads.Learnt,
+  elements-length-reads.Asked,
+  elements-length-reads.Learnt,
+  capped-reads.Asked,
+  capped-reads.Learnt,
+  item-name-reads.Asked,
+  item-name-reads.Learnt,
+  module-items-reads.Asked,
+  module-items-reads.Learnt,
+  items-length-below t,
+  items-length.Post,
+) (item-length-at t) item-length.Post
+item-length-module-items-requires t c κs = ?
+
+-- src/lengths.rt:95:81
+item-length-sub-items-length : (t : ℕ) → item-length-lts.Need-sub-items-length (
+  item-kind-reads.Asked,
+  item-kind-reads.Learnt,
+  target-of-reads.Asked,
+  target-of-reads.Learnt,
+  path-length-reads.Asked,
+  path-length-reads.Learnt,
+  elements-length-reads.Asked,
+  elements-length-reads.Learnt,
+  capped-reads.Asked,
+  capped-reads.Learnt,
+  item-name-reads.Asked,
+  item-name-reads.Learnt,
+  module-items-reads.Asked,
+  module-items-reads.Learnt,
+  items-length-below t,
+  items-length.Post,
+) (item-length-at t) item-length.Post
+item-length-sub-items-length t c = ?
+
+-- src/lengths.rt:95:9
+item-length-items-length-requires : (t : ℕ) → item-length-lts.Need-items-length-requires (
+  item-kind-reads.Asked,
+  item-kind-reads.Learnt,
+  target-of-reads.Asked,
+  target-of-reads.Learnt,
+  path-length-reads.Asked,
+  path-length-reads.Learnt,
+  elements-length-reads.Asked,
+  elements-length-reads.Learnt,
+  capped-reads.Asked,
+  capped-reads.Learnt,
+  item-name-reads.Asked,
+  item-name-reads.Learnt,
+  module-items-reads.Asked,
+  module-items-reads.Learnt,
+  items-length-below t,
+  items-length.Post,
+) (item-length-at t) item-length.Post
+item-length-items-length-requires t c κs = ?
+
+-- src/lengths.rt:96:5
+item-length-capped-requires-2 : (t : ℕ) → item-length-lts.Need-capped-requires-2 (
+  item-kind-reads.Asked,
+  item-kind-reads.Learnt,
+  target-of-reads.Asked,
+  target-of-reads.Learnt,
+  path-length-reads.Asked,
+  path-length-reads.Learnt,
+  elements-length-reads.Asked,
+  elements-length-reads.Learnt,
+  capped-reads.Asked,
+  capped-reads.Learnt,
+  item-name-reads.Asked,
+  item-name-reads.Learnt,
+  module-items-reads.Asked,
+  module-items-reads.Learnt,
+  items-length-below t,
+  items-length.Post,
+) (item-length-at t) item-length.Post
+item-length-capped-requires-2 t c κs = ?
+
+-- src/lengths.rt:66:1
+item-length-returns-5 : (t : ℕ) → item-length-lts.Need-returns-5 (
+  item-kind-reads.Asked,
+  item-kind-reads.Learnt,
+  target-of-reads.Asked,
+  target-of-reads.Learnt,
+  path-length-reads.Asked,
+  path-length-reads.Learnt,
+  elements-length-reads.Asked,
+  elements-length-reads.Learnt,
+  capped-reads.Asked,
+  capped-reads.Learnt,
+  item-name-reads.Asked,
+  item-name-reads.Learnt,
+  module-items-reads.Asked,
+  module-items-reads.Learnt,
+  items-length-below t,
+  items-length.Post,
+) (item-length-at t) item-length.Post
+item-length-returns-5 t c = ?
+
+abbrev items-length-Inv-loop : items-length-lts.InvT-loop
+items-length-Inv-loop s at file index files units from end depth sum₀ a₀ sum a = ?
+
+abbrev items-length-μ-loop : items-length-lts.MeasureT-loop
+items-length-μ-loop s at file index files units from end depth sum₀ a₀ sum a = ?
+
+-- src/lengths.rt:116:5
+items-length-loop-holds : (t : ℕ) → items-length-lts.Need-loop-holds (
+  item-length-below t,
+  item-length.Post,
+  capped-reads.Asked,
+  capped-reads.Learnt,
+  next-item-reads.Asked,
+  next-item-reads.Learnt,
+) (items-length-at t) items-length.Post items-length-Inv-loop items-length-μ-loop
+items-length-loop-holds t c = ?
+
+-- src/lengths.rt:117:13
+items-length-item-length-requires : (t : ℕ) → items-length-lts.Need-item-length-requires (
+  item-length-below t,
+  item-length.Post,
+  capped-reads.Asked,
+  capped-reads.Learnt,
+  next-item-reads.Asked,
+  next-item-reads.Learnt,
+) (items-length-at t) items-length.Post items-length-Inv-loop items-length-μ-loop
+items-length-item-length-requires t c κs = ?
+
+-- src/lengths.rt:118:9
+items-length-capped-requires : (t : ℕ) → items-length-lts.Need-capped-requires (
+  item-length-below t,
+  item-length.Post,
+  capped-reads.Asked,
+  capped-reads.Learnt,
+  next-item-reads.Asked,
+  next-item-reads.Learnt,
+) (items-length-at t) items-length.Post items-length-Inv-loop items-length-μ-loop
+items-length-capped-requires t c κs = ?
+
+-- src/lengths.rt:119:9
+items-length-next-item-requires : (t : ℕ) → items-length-lts.Need-next-item-requires (
+  item-length-below t,
+  item-length.Post,
+  capped-reads.Asked,
+  capped-reads.Learnt,
+  next-item-reads.Asked,
+  next-item-reads.Learnt,
+) (items-length-at t) items-length.Post items-length-Inv-loop items-length-μ-loop
+items-length-next-item-requires t c κs = ?
+
+-- src/lengths.rt:116:5
+items-length-loop-less : (t : ℕ) → items-length-lts.Need-loop-less (
+  item-length-below t,
+  item-length.Post,
+  capped-reads.Asked,
+  capped-reads.Learnt,
+  next-item-reads.Asked,
+  next-item-reads.Learnt,
+) (items-length-at t) items-length.Post items-length-Inv-loop items-length-μ-loop
+items-length-loop-less t c = ?
+
+-- src/lengths.rt:116:5
+items-length-loop-again : (t : ℕ) → items-length-lts.Need-loop-again (
+  item-length-below t,
+  item-length.Post,
+  capped-reads.Asked,
+  capped-reads.Learnt,
+  next-item-reads.Asked,
+  next-item-reads.Learnt,
+) (items-length-at t) items-length.Post items-length-Inv-loop items-length-μ-loop
+items-length-loop-again t c = ?
+
+-- src/lengths.rt:100:1
+items-length-returns : (t : ℕ) → items-length-lts.Need-returns (
+  item-length-below t,
+  item-length.Post,
+  capped-reads.Asked,
+  capped-reads.Learnt,
+  next-item-reads.Asked,
+  next-item-reads.Learnt,
+) (items-length-at t) items-length.Post items-length-Inv-loop items-length-μ-loop
+items-length-returns t c = ?
+
+pub +item-length+items-length-spec : {M : Type 1} → statement M
++item-length+items-length-spec = close μ-item-length μ-items-length (λ t. item-length-lts.spec (
+  item-kind-reads.Asked,
+  item-kind-reads.Learnt,
+  target-of-reads.Asked,
+  target-of-reads.Learnt,
+  path-length-reads.Asked,
+  path-length-reads.Learnt,
+  elements-length-reads.Asked,
+  elements-length-reads.Learnt,
+  capped-reads.Asked,
+  capped-reads.Learnt,
+  item-name-reads.Asked,
+  item-name-reads.Learnt,
+  module-items-reads.Asked,
+  module-items-reads.Learnt,
+  items-length-below t,
+  items-length.Post,
+)
+    (item-length-at t)
+    item-length.Post
+    (item-length-item-kind-requires t)
+    (item-length-returns t)
+    (item-length-target-of-requires t)
+    (item-length-path-length-requires t)
+    (item-length-add-capped t)
+    (item-length-elements-length-requires t)
+    (item-length-capped-requires t)
+    (item-length-returns-2 t)
+    (item-length-item-name-requires t)
+    (item-length-add-head t)
+    (item-length-returns-3 t)
+    (item-length-returns-4 t)
+    (item-length-module-items-requires t)
+    (item-length-sub-items-length t)
+    (item-length-items-length-requires t)
+    (item-length-capped-requires-2 t)
+    (item-length-returns-5 t))
+    λ t. items-length-lts.spec (
+      item-length-below t,
+      item-length.Post,
+      capped-reads.Asked,
+      capped-reads.Learnt,
+      next-item-reads.Asked,
+      next-item-reads.Learnt,
+    )
+    (items-length-at t)
+    items-length.Post
+    items-length-Inv-loop
+    items-length-μ-loop
+    (items-length-loop-holds t)
+    (items-length-item-length-requires t)
+    (items-length-capped-requires t)
+    (items-length-next-item-requires t)
+    (items-length-loop-less t)
+    (items-length-loop-again t)
+    (items-length-returns t)

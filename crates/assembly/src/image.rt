@@ -1,0 +1,36 @@
+// The image in a lent buffer: it is written only where all of it fits.
+use crate::Imaged;
+use crate::bytes::put;
+use crate::bytes::put_two;
+use crate::lengths::LIMIT;
+use crate::lengths::program_length;
+use crate::writing::write_program;
+use bundle::limits::HEADER;
+use bundle::limits::VERSION;
+
+// Document 01's numbers.
+const SMALL_BUFFER: u8 = 14;
+
+const LONG_IMAGE: u8 = 15;
+
+// The image of the program of a linked order: version, 2-byte length, and the units.
+pub fn write_image<'a>(
+    s: &[u8],
+    files: &'a [usize],
+    ids: &'a [u16],
+    units: usize,
+    out: &mut [u8],
+) -> Imaged {
+    let at = resolution::layout_of(s);
+    let length = program_length(s, at, files, ids, units);
+    if length == LIMIT {
+        return Imaged::Refused(LONG_IMAGE, 0);
+    }
+    if HEADER + length > out.len() {
+        return Imaged::Refused(SMALL_BUFFER, 0);
+    }
+    let n = write_program(s, at, files, ids, units, &mut out[HEADER..]);
+    put(out, 0, VERSION);
+    put_two(out, 1, n);
+    Imaged::Image(HEADER + n)
+}

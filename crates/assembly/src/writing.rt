@@ -1,0 +1,224 @@
+// The image's items. Each function lends the later part of its buffer on to be filled, then sets the length ahead of it.
+ghost use mathlib.Core.Path.{_≡_};
+ghost use Prim.Native.Nat.{_≤_, _<_};
+ghost use lib.ListN.{length};
+ghost use Rattle.names.specs.Bytes.{ascii};
+ghost use Rattle.names.specs.Decimal.{unitName};
+ghost use Rattle.bundle.specs.Encode.{string, counted, element};
+ghost use Rattle.bundle.specs.Limits.{file-limit, segment-limit};
+ghost use Rattle.bundle.specs.Decode.{itemsAt};
+ghost use Rattle.discovery.specs.Walk.{UseMark, Small};
+ghost use Rattle.order.specs.Writing.{started};
+ghost use Rattle.assembly.specs.Targets.{UnitOf, pathBy, Within};
+ghost use Rattle.assembly.specs.Walk.{segmentsAt, elementsAt, useBytes, oneAt, itemBytes, itemsBytes, Brief};
+use crate::Target;
+use crate::bytes::put;
+use crate::bytes::put_head;
+use crate::bytes::put_string;
+use crate::bytes::put_strings;
+use crate::bytes::strings_end;
+use crate::targets::target_of;
+use bundle::limits::DEPTH;
+use bundle::limits::IGNORED;
+use bundle::limits::MODULE;
+use bundle::limits::USE;
+use resolution::Layout;
+
+fn wide(x: u16) -> usize
+    ensures { λ r. ⌜ r ≡ x ⌝ }
+{
+    x as usize
+}
+
+fn put_crate(out: &mut [u8]) -> usize
+    requires { ⌜ length (string (ascii "crate")) ≤ length (now out) ⌝ }
+    ensures { λ r. ⌜ (r ≡ length (string (ascii "crate"))) × (now (out .exit) ≡ started (string (ascii "crate")) (now (out .entry))) ⌝ }
+{
+    put_string(out, b"crate")
+}
+
+fn put_unit(out: &mut [u8], id: usize) -> usize
+    requires { ⌜ length (string (unitName id)) ≤ length (now out) ⌝ }
+    ensures { λ r. ⌜ (r ≡ length (string (unitName id))) × (now (out .exit) ≡ started (string (unitName id)) (now (out .entry))) ⌝ }
+{
+    let unit = names::unit_name(id as u64);
+    let bytes = unit.bytes;
+    let n = unit.len;
+    put_string(out, &bytes[..n])
+}
+
+// A use's new path: its count, and its segments.
+fn put_path(s: &[u8], mark: usize, target: Target, out: &mut [u8]) -> usize
+    requires { ⌜ (UseMark (now s) mark × Within (segmentsAt (now s) mark) target) × ((length (segmentsAt (now s) mark) ≤ segment-limit) × (length (counted string (pathBy (segmentsAt (now s) mark) target)) ≤ length (now out))) ⌝ }
+    ensures { λ r. ⌜ (r ≡ length (counted string (pathBy (segmentsAt (now (s .entry)) mark) target))) × (now (out .exit) ≡ started (counted string (pathBy (segmentsAt (now (s .entry)) mark) target)) (now (out .entry))) ⌝ }
+{
+    match target {
+        Target::Nothing => {
+            put(out, 0, 0);
+            1
+        }
+        Target::Unit(id, left) => {
+            let segments = bundle::use_segments(s, mark);
+            let skipped = segments.count - left;
+            let rest = strings_end(s, segments.first, skipped);
+            put(out, 0, left + 2);
+            let a = 1 + put_crate(&mut out[1..]);
+            let b = a + put_unit(&mut out[a..], id);
+            b + put_strings(s, rest, left, &mut out[b..])
+        }
+    }
+}
+
+// A use's elements: their count, and a name and an alias for each.
+fn put_elements(s: &[u8], mark: usize, out: &mut [u8]) -> usize
+    requires { ⌜ UseMark (now s) mark × (length (counted element (elementsAt (now s) mark)) ≤ length (now out)) ⌝ }
+    ensures { λ r. ⌜ (r ≡ length (counted element (elementsAt (now (s .entry)) mark))) × (now (out .exit) ≡ started (counted element (elementsAt (now (s .entry)) mark)) (now (out .entry))) ⌝ }
+{
+    let elements = bundle::use_elements(s, mark);
+    put(out, 0, elements.count);
+    1 + put_strings(s, elements.first, 2 * elements.count, &mut out[1..])
+}
+
+// The use at `mark` in the file of this index, with its path rewritten: segment count, segments, element count, elements.
+pub fn rewrite_use(
+    s: &[u8],
+    at: Layout,
+    file: &[u8],
+    index: usize,
+    files: &[usize],
+    units: usize,
+    mark: usize,
+    out: &mut [u8],
+) -> usize
+    requires { ⌜ (UnitOf (now s) at (now file) index (now files) units × UseMark (now s) mark) × ((length (segmentsAt (now s) mark) ≤ segment-limit) × (length (useBytes (now s) (now file) mark) ≤ length (now out))) ⌝ }
+    ensures { λ r. ⌜ (r ≡ length (useBytes (now (s .entry)) (now (file .entry)) mark)) × (now (out .exit) ≡ started (useBytes (now (s .entry)) (now (file .entry)) mark) (now (out .entry))) ⌝ }
+{
+    let target = target_of(s, at, file, index, files, units, mark);
+    let a = put_path(s, mark, target, out);
+    a + put_elements(s, mark, &mut out[a..])
+}
+
+// An item; an ignored one goes.
+fn write_item(
+    s: &[u8],
+    at: Layout,
+    file: &[u8],
+    index: usize,
+    files: &[usize],
+    units: usize,
+    place: usize,
+    depth: usize,
+    out: &mut [u8],
+) -> usize
+    requires { ⌜ (UnitOf (now s) at (now file) index (now files) units × Small place depth) × (Brief (oneAt depth (now s) place) × ((length (itemBytes (now s) (now file) depth place) ≤ length (now out)) × (length (itemBytes (now s) (now file) depth place) < 65536))) ⌝ }
+    ensures { λ r. ⌜ (r ≡ length (itemBytes (now (s .entry)) (now (file .entry)) depth place)) × (now (out .exit) ≡ started (itemBytes (now (s .entry)) (now (file .entry)) depth place) (now (out .entry))) ⌝ }
+{
+    let kind = bundle::item_kind(s, place);
+    if kind == IGNORED {
+        return 0;
+    }
+    let visibility = bundle::item_visibility(s, place);
+    if kind == USE {
+        let n = rewrite_use(s, at, file, index, files, units, place, &mut out[4..]);
+        put_head(out, 2 + n, kind, visibility);
+        return 4 + n;
+    }
+    let n = put_string(&mut out[4..], bundle::item_name(s, place));
+    if kind == MODULE {
+        if depth > 0 {
+            let inner = bundle::module_items(s, place);
+            let a = 4 + n;
+            let m = write_items(
+                s,
+                at,
+                file,
+                index,
+                files,
+                units,
+                inner.at,
+                inner.end,
+                depth - 1,
+                &mut out[a..],
+            );
+            put_head(out, 2 + n + m, kind, visibility);
+            return a + m;
+        }
+    }
+    put_head(out, 2 + n, kind, visibility);
+    4 + n
+}
+
+// The items from `from` to `end`, with modules at most `depth` deep.
+fn write_items(
+    s: &[u8],
+    at: Layout,
+    file: &[u8],
+    index: usize,
+    files: &[usize],
+    units: usize,
+    from: usize,
+    end: usize,
+    depth: usize,
+    out: &mut [u8],
+) -> usize
+    requires { ⌜ (UnitOf (now s) at (now file) index (now files) units × Small end depth) × (Brief (itemsAt depth (now s) end from) × ((length (itemsBytes (now s) (now file) depth end from) ≤ length (now out)) × (length (itemsBytes (now s) (now file) depth end from) < 65536))) ⌝ }
+    ensures { λ r. ⌜ (r ≡ length (itemsBytes (now (s .entry)) (now (file .entry)) depth end from)) × (now (out .exit) ≡ started (itemsBytes (now (s .entry)) (now (file .entry)) depth end from) (now (out .entry))) ⌝ }
+{
+    let mut sum = 0;
+    let mut a = from;
+    while a < end {
+        let n = write_item(s, at, file, index, files, units, a, depth, &mut out[sum..]);
+        sum += n;
+        a = bundle::next_item(s, a);
+    }
+    sum
+}
+
+// The unit u: a private module.
+fn write_unit(
+    s: &[u8],
+    at: Layout,
+    files: &[usize],
+    units: usize,
+    u: usize,
+    out: &mut [u8],
+) -> usize {
+    let index = files[u];
+    let place = bundle::file_at(s, index);
+    let items = bundle::file_items(s, place);
+    let n = put_unit(&mut out[4..], u);
+    let a = 4 + n;
+    let m = write_items(
+        s,
+        at,
+        bundle::file_path(s, place),
+        index,
+        files,
+        units,
+        items.at,
+        items.end,
+        DEPTH,
+        &mut out[a..],
+    );
+    put_head(out, 2 + n + m, MODULE, 0);
+    a + m
+}
+
+// The program: the units in their order.
+pub fn write_program<'a>(
+    s: &[u8],
+    at: Layout,
+    files: &'a [usize],
+    ids: &'a [u16],
+    units: usize,
+    out: &mut [u8],
+) -> usize {
+    let mut sum = 0;
+    let mut i = 0;
+    while i < units {
+        let n = write_unit(s, at, files, units, wide(ids[i]), &mut out[sum..]);
+        sum += n;
+        i += 1;
+    }
+    sum
+}
