@@ -48,12 +48,7 @@ fn main_there(s: &[u8], index: usize) -> bool {
 }
 
 // The faults of a linked order, in the order of the pushes: unit 0, which alone has a main, is linked last.
-pub fn assembly_faults<'a>(
-    s: &[u8],
-    files: &'a [usize],
-    ids: &'a [u16],
-    units: usize,
-) -> Faults {
+pub fn assembly_faults<'a>(s: &[u8], files: &'a [usize], ids: &'a [u16], units: usize) -> Faults {
     let mut numbers = [FOREIGN_ENUM; FAULTS];
     let mut places = [0usize; FAULTS];
     let n = all_enums(s, files, ids, units, &mut places);
