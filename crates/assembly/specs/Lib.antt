@@ -14,3 +14,4 @@ pub mod Strings
 pub mod Targets
 pub mod Walk
 pub mod Uses
+pub mod Written

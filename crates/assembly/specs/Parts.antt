@@ -103,6 +103,10 @@ module _ (all rest out₀ out : List ℕ) (sum : ℕ) (f : Filled all rest out�
       let l = lent-length out sum filled-start in
       omega arith
 
+  -- it is a part of all
+  pub filled-part : (x rest' : List ℕ) → rest ≡ x ++ rest' → length x ≤ length all
+  filled-part x rest' e = let k = ap length e ∙ length-append x rest' in let a = all-length in omega arith
+
   pub filled-more : (x rest' last : List ℕ) (n : ℕ) → rest ≡ x ++ rest' → last ≡ started x (midOf sum (length out - sum) out) → n ≡ length x
       → Filled all rest' out₀ (putMid sum (length out - sum) out last) (sum + n)
   filled-more x rest' last n e l k = record {
@@ -171,3 +175,62 @@ one-filled x out v e h = rw e (refl, put-one [] out 0 refl v h)
 
 pub same-filled : (x y out last : List ℕ) (r : ℕ) → x ≡ y → (r ≡ length y) × (last ≡ started y out) → (r ≡ length x) × (last ≡ started x out)
 same-filled x y out last r e h = rw e h
+
+-- A FRONT w AND WHAT COMES BEHIND IT: the buffer cur has w at its start, and x goes into the part that is lent from there on
+module _ (w x out cur : List ℕ) (a : ℕ) (e : cur ≡ started w out) (is : a ≡ length w) (room : length (w ++ x) ≤ length out) where
+  front-few : length w ≤ length out
+  front-few = omega (arith, length-append w x)
+
+  pub front-long : length cur ≡ length out
+  front-long = ap length e ∙ started-length w out front-few
+
+  pub front-start : a ≤ length cur
+  front-start = let l = front-long in let f = front-few in omega arith
+
+  pub front-room : length x ≤ length (midOf a (length cur - a) cur)
+  front-room = let l = front-long in let n = lent-length cur a front-start in omega (arith, length-append w x)
+
+  pub front-fits : (r : ℕ) → r ≡ length x → a + r ≤ length out
+  front-fits r h = omega (arith, length-append w x)
+
+  pub front-sum : (r : ℕ) → r ≡ length x → a + r ≡ length (w ++ x)
+  front-sum r h = omega (arith, length-append w x)
+
+  pub front-all : (last : List ℕ) → last ≡ started x (midOf a (length cur - a) cur) → putMid a (length cur - a) cur last ≡ started (w ++ x) out
+  front-all last l = then-filled w out front-few x cur last a e is l
+
+-- one number at the start
+pub put-first : (out cur : List ℕ) (v : ℕ) → 0 < length out → cur ≡ set out 0 v → cur ≡ started (v ∷ []) out
+put-first out cur v h e = e ∙ put-one [] out 0 refl v h
+
+-- two numbers behind the first two
+pub put-kind : (out o₁ o₂ : List ℕ) (k v : ℕ) → 4 ≤ length out → o₁ ≡ set out 2 k → o₂ ≡ set o₁ 3 v → o₂ ≡ started (take 2 out ++ (k ∷ v ∷ [])) out
+put-kind out o₁ o₂ k v h e₁ e₂ = e₂ ∙ (ap (λ (l : List ℕ). set l 3 v) e₁ ∙ go out h)
+  where
+    go : (out : List ℕ) → 4 ≤ length out → set (set out 2 k) 3 v ≡ started (take 2 out ++ (k ∷ v ∷ [])) out
+    go [] h = absurd (omega arith)
+    go (_ ∷ []) h = absurd (omega arith)
+    go (_ ∷ _ ∷ []) h = absurd (omega arith)
+    go (_ ∷ _ ∷ _ ∷ []) h = absurd (omega arith)
+    go (_ ∷ _ ∷ _ ∷ _ ∷ out) h = refl
+
+-- the 2-byte length set at last, ahead of a body
+pub put-length : (body out cur final : List ℕ) (n k v : ℕ) → 2 ≤ length out → cur ≡ started (take 2 out ++ (k ∷ v ∷ body)) out → final ≡ set (set cur 0 (n / 256)) 1 (n % 256)
+    → final ≡ started (headBytes n k v ++ body) out
+put-length body out cur final n k v h e f = headed ((n / 256) ∷ (n % 256) ∷ []) (k ∷ v ∷ body) out 2 refl h cur final e (f ∙ go cur long)
+  where
+    long : 2 ≤ length cur
+    long = let l = length-take-le 2 out h in omega (arith, ap length e, length-append (take 2 out ++ (k ∷ v ∷ body)) (drop (length (take 2 out ++ (k ∷ v ∷ body))) out), length-append (take 2 out) (k ∷ v ∷ body))
+
+    go : (cur : List ℕ) → 2 ≤ length cur → set (set cur 0 (n / 256)) 1 (n % 256) ≡ ((n / 256) ∷ (n % 256) ∷ []) ++ drop 2 cur
+    go [] h = absurd (omega arith)
+    go (_ ∷ []) h = absurd (omega arith)
+    go (_ ∷ _ ∷ cur) h = refl
+
+-- the whole head set at last
+pub put-whole : (body out cur final : List ℕ) (n k v : ℕ) → 4 ≤ length out → cur ≡ started (take 4 out ++ body) out → final ≡ headBytes n k v ++ drop 4 cur → final ≡ started (headBytes n k v ++ body) out
+put-whole body out cur final n k v h e f = headed (headBytes n k v) body out 4 refl h cur final e f
+
+-- how long the start of an item is
+pub start-four : (out : List ℕ) (k v : ℕ) → 4 ≤ length out → 4 ≡ length (take 2 out ++ (k ∷ v ∷ []))
+start-four out k v h = let l = length-take-le 2 out (omega arith) in omega (arith, length-append (take 2 out) (k ∷ v ∷ []))

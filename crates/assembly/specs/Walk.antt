@@ -7,7 +7,7 @@ use mathlib.Core.Path.{_≡_, refl, sym, ap, subst, _∙_}
 use mathlib.Core.List.{List, [], _∷_, _++_, append-nil, append-assoc}
 use lib.Dec.{eqb}
 use lib.ListN.{length, length-append}
-use borrow.Author.Tests.{eq-eqb, ne-eqb, eqb-true}
+use borrow.Author.Tests.{eq-eqb, ne-eqb, eqb-true, eqb-false}
 use Rattle.names.specs.Bytes.{ascii, same}
 use Rattle.bundle.specs.Bundle.{Text, Element, Items, none, named, use-of, module-of, ignored}
 use Rattle.bundle.specs.Encode.{two, string, counted, sized, element, items}
@@ -112,15 +112,15 @@ next-enums s depth end at next h f =
     enums-step s depth end at h ∙ ap (λ (i : Items). itemEnums s depth at ++ enumDeclarations i) (sym (next-is s depth end at next h f))
 
 -- AN ITEM BY ITS KIND, as the code reads it
+pub visibility-at : (s : List ℕ) (at v : ℕ) → ((d e : ℕ) → at < e → v ≡ visibilityOf (itemsAt d s e at)) → v ≡ byte s (at + 3)
+visibility-at s at v f = f 0 (suc at) (omega arith) ∙ first-visibility 0 s (suc at) at (omega arith)
+
 module _ (s : List ℕ) (at k : ℕ) (kind : (d e : ℕ) → at < e → k ≡ kindOf (itemsAt d s e at)) where
   pub kind-byte : byte s (at + 2) ≡ k
   kind-byte = sym (kind 0 (suc at) (omega arith) ∙ first-kind 0 s (suc at) at (omega arith))
 
   pub kind-of : (d e : ℕ) → at < e → kindOf (itemsAt d s e at) ≡ k
   kind-of d e h = sym (kind d e h)
-
-  pub visibility-byte : (v : ℕ) → ((d e : ℕ) → at < e → v ≡ visibilityOf (itemsAt d s e at)) → v ≡ byte s (at + 3)
-  visibility-byte v f = f 0 (suc at) (omega arith) ∙ first-visibility 0 s (suc at) at (omega arith)
 
   pub name-text : (t : Text) → (k ≡ use-kind → ⊥) → (k ≡ ignored-kind → ⊥)
       → ((d e : ℕ) → at < e → (kindOf (itemsAt d s e at) ≡ use-kind → ⊥) → (kindOf (itemsAt d s e at) ≡ ignored-kind → ⊥) → t ≡ nameOf (itemsAt d s e at)) → t ≡ text s (at + 4)
@@ -168,6 +168,16 @@ module _ (s : List ℕ) (at k : ℕ) (kind : (d e : ℕ) → at < e → k ≡ ki
     module-form inner e i =
         let b : byte s (at + 2) ≡ module-kind = kind-byte ∙ e in
         rw (item-module (insideOf depth s) s at none b, i, e) (item-form module-kind (byte s (at + 3)) (string (text s (at + 4)) ++ items (rewriteItems (rewriteUse (decode s) file) inner)))
+
+    -- whatever is inside, the start is there
+    pub start-room : (k ≡ use-kind → ⊥) → (k ≡ ignored-kind → ⊥) → 4 + length (string (text s (at + 4))) ≤ length (itemBytes s file depth at)
+    start-room n3 n6 = go (eqb k module-kind) refl
+      where
+        go : (t : Bool) → eqb k module-kind ≡ t → 4 + length (string (text s (at + 4))) ≤ length (itemBytes s file depth at)
+        go true e =
+            let q = ap length (module-form (insideOf depth s (afterLength s at) (after s (at + 4))) (eqb-true _ _ e) refl) in
+            omega (arith, length-append (string (text s (at + 4))) (items (rewriteItems (rewriteUse (decode s) file) (insideOf depth s (afterLength s at) (after s (at + 4))))))
+        go false e = let q = ap length (named-bytes (eqb-false _ _ e) n3 n6) in omega arith
 
     pub flat-bytes : k ≡ module-kind → depth ≡ 0 → itemBytes s file depth at ≡ headBytes (2 + length (string (text s (at + 4)))) k (byte s (at + 3)) ++ string (text s (at + 4))
     unfolding items rewriteItems
@@ -237,6 +247,9 @@ pub brief-next : (s : List ℕ) (depth end at next : ℕ) → at < end → ((d e
 brief-next s depth end at next h f b =
     let t = brief-item (insideOf depth s) s at (itemsAt depth s end (afterLength s at)) (subst Brief (items-step depth s end at h) b) in
     (t .0, subst Brief (sym (next-is s depth end at next h f)) (t .1))
+
+pub brief-here : (s : List ℕ) (depth end at : ℕ) → at < end → Brief (itemsAt depth s end at) → Brief (oneAt depth s at)
+brief-here s depth end at h b = brief-item (insideOf depth s) s at (itemsAt depth s end (afterLength s at)) (subst Brief (items-step depth s end at h) b) .0
 
 module _ (s : List ℕ) (at k : ℕ) (kind : (d e : ℕ) → at < e → k ≡ kindOf (itemsAt d s e at)) (depth : ℕ) (b : Brief (oneAt depth s at)) where
   pub brief-use : k ≡ use-kind → length (segmentsAt s at) ≤ segment-limit

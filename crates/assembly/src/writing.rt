@@ -1,14 +1,18 @@
 // The image's items. Each function lends the later part of its buffer on to be filled, then sets the length ahead of it.
 ghost use mathlib.Core.Path.{_≡_};
-ghost use Prim.Native.Nat.{_≤_, _<_};
-ghost use lib.ListN.{length};
+ghost use Prim.Native.Nat.{_+_, _≤_, _<_, _^_};
+ghost use mathlib.Core.List.{_∷_, _++_};
+ghost use lib.ListN.{length, take};
 ghost use Rattle.names.specs.Bytes.{ascii};
 ghost use Rattle.names.specs.Decimal.{unitName};
 ghost use Rattle.bundle.specs.Encode.{string, counted, element};
-ghost use Rattle.bundle.specs.Limits.{file-limit, segment-limit};
+ghost use Rattle.bundle.specs.Limits.{segment-limit, use-kind, module-kind};
+ghost use Rattle.bundle.specs.Scan.{byte};
 ghost use Rattle.bundle.specs.Decode.{itemsAt};
 ghost use Rattle.discovery.specs.Walk.{UseMark, Small};
 ghost use Rattle.order.specs.Writing.{started};
+ghost use Rattle.assembly.specs.Parts.{headBytes};
+ghost use Rattle.assembly.specs.Strings.{stringBytes};
 ghost use Rattle.assembly.specs.Targets.{UnitOf, pathBy, Within};
 ghost use Rattle.assembly.specs.Walk.{segmentsAt, elementsAt, useBytes, oneAt, itemBytes, itemsBytes, Brief};
 use crate::Target;
@@ -16,6 +20,7 @@ use crate::bytes::put;
 use crate::bytes::put_head;
 use crate::bytes::put_string;
 use crate::bytes::put_strings;
+use crate::bytes::put_two;
 use crate::bytes::strings_end;
 use crate::targets::target_of;
 use bundle::limits::DEPTH;
@@ -47,6 +52,24 @@ fn put_unit(out: &mut [u8], id: usize) -> usize
     put_string(out, &bytes[..n])
 }
 
+// The name of the unit, and the `left` strings of s from `rest` on.
+fn put_rest(s: &[u8], id: usize, rest: usize, left: usize, out: &mut [u8]) -> usize
+    requires { ⌜ ((rest < 2 ^ 60) × (left < 1024)) × (length (string (unitName id) ++ stringBytes (now s) left rest) ≤ length (now out)) ⌝ }
+    ensures { λ r. ⌜ (r ≡ length (string (unitName id) ++ stringBytes (now (s .entry)) left rest)) × (now (out .exit) ≡ started (string (unitName id) ++ stringBytes (now (s .entry)) left rest) (now (out .entry))) ⌝ }
+{
+    let a = put_unit(out, id);
+    a + put_strings(s, rest, left, &mut out[a..])
+}
+
+// The same after `crate`.
+fn put_segments(s: &[u8], id: usize, rest: usize, left: usize, out: &mut [u8]) -> usize
+    requires { ⌜ ((rest < 2 ^ 60) × (left < 1024)) × (length (string (ascii "crate") ++ (string (unitName id) ++ stringBytes (now s) left rest)) ≤ length (now out)) ⌝ }
+    ensures { λ r. ⌜ (r ≡ length (string (ascii "crate") ++ (string (unitName id) ++ stringBytes (now (s .entry)) left rest))) × (now (out .exit) ≡ started (string (ascii "crate") ++ (string (unitName id) ++ stringBytes (now (s .entry)) left rest)) (now (out .entry))) ⌝ }
+{
+    let a = put_crate(out);
+    a + put_rest(s, id, rest, left, &mut out[a..])
+}
+
 // A use's new path: its count, and its segments.
 fn put_path(s: &[u8], mark: usize, target: Target, out: &mut [u8]) -> usize
     requires { ⌜ (UseMark (now s) mark × Within (segmentsAt (now s) mark) target) × ((length (segmentsAt (now s) mark) ≤ segment-limit) × (length (counted string (pathBy (segmentsAt (now s) mark) target)) ≤ length (now out))) ⌝ }
@@ -62,9 +85,7 @@ fn put_path(s: &[u8], mark: usize, target: Target, out: &mut [u8]) -> usize
             let skipped = segments.count - left;
             let rest = strings_end(s, segments.first, skipped);
             put(out, 0, left + 2);
-            let a = 1 + put_crate(&mut out[1..]);
-            let b = a + put_unit(&mut out[a..], id);
-            b + put_strings(s, rest, left, &mut out[b..])
+            1 + put_segments(s, id, rest, left, &mut out[1..])
         }
     }
 }
@@ -98,7 +119,36 @@ pub fn rewrite_use(
     a + put_elements(s, mark, &mut out[a..])
 }
 
-// An item; an ignored one goes.
+// The start of an item but for its length: the kind, the visibility and the name.
+fn put_start(out: &mut [u8], kind: usize, visibility: usize, name: &[u8]) -> usize
+    requires { ⌜ ((kind < 256) × (visibility < 256)) × ((length (now name) < 256) × (4 + length (string (now name)) ≤ length (now out))) ⌝ }
+    ensures { λ r. ⌜ (r ≡ 4 + length (string (now (name .entry)))) × (now (out .exit) ≡ started (take 2 (now (out .entry)) ++ (kind ∷ visibility ∷ string (now (name .entry)))) (now (out .entry))) ⌝ }
+{
+    put(out, 2, kind);
+    put(out, 3, visibility);
+    4 + put_string(&mut out[4..], name)
+}
+
+// A use: its rewritten form, then its head.
+fn write_use(
+    s: &[u8],
+    at: Layout,
+    file: &[u8],
+    index: usize,
+    files: &[usize],
+    units: usize,
+    place: usize,
+    out: &mut [u8],
+) -> usize
+    requires { ⌜ (UnitOf (now s) at (now file) index (now files) units × UseMark (now s) place) × ((length (segmentsAt (now s) place) ≤ segment-limit) × ((4 + length (useBytes (now s) (now file) place) ≤ length (now out)) × (4 + length (useBytes (now s) (now file) place) < 65536))) ⌝ }
+    ensures { λ r. ⌜ (r ≡ 4 + length (useBytes (now (s .entry)) (now (file .entry)) place)) × (now (out .exit) ≡ started (headBytes (2 + length (useBytes (now (s .entry)) (now (file .entry)) place)) use-kind (byte (now (s .entry)) (place + 3)) ++ useBytes (now (s .entry)) (now (file .entry)) place) (now (out .entry))) ⌝ }
+{
+    let n = rewrite_use(s, at, file, index, files, units, place, &mut out[4..]);
+    put_head(out, 2 + n, USE, bundle::item_visibility(s, place));
+    4 + n
+}
+
+// An item; an ignored one goes. A module's items are written behind its start, then its length ahead of them.
 fn write_item(
     s: &[u8],
     at: Layout,
@@ -117,35 +167,34 @@ fn write_item(
     if kind == IGNORED {
         return 0;
     }
-    let visibility = bundle::item_visibility(s, place);
     if kind == USE {
-        let n = rewrite_use(s, at, file, index, files, units, place, &mut out[4..]);
-        put_head(out, 2 + n, kind, visibility);
-        return 4 + n;
+        return write_use(s, at, file, index, files, units, place, out);
     }
-    let n = put_string(&mut out[4..], bundle::item_name(s, place));
-    if kind == MODULE {
-        if depth > 0 {
-            let inner = bundle::module_items(s, place);
-            let a = 4 + n;
-            let m = write_items(
-                s,
-                at,
-                file,
-                index,
-                files,
-                units,
-                inner.at,
-                inner.end,
-                depth - 1,
-                &mut out[a..],
-            );
-            put_head(out, 2 + n + m, kind, visibility);
-            return a + m;
-        }
+    let visibility = bundle::item_visibility(s, place);
+    let a = put_start(out, kind, visibility, bundle::item_name(s, place));
+    if kind != MODULE {
+        put_two(out, 0, a - 2);
+        return a;
     }
-    put_head(out, 2 + n, kind, visibility);
-    4 + n
+    if depth == 0 {
+        put_two(out, 0, a - 2);
+        return a;
+    }
+    let inner = bundle::module_items(s, place);
+    let m = write_items(
+        s,
+        at,
+        file,
+        index,
+        files,
+        units,
+        inner.at,
+        inner.end,
+        depth - 1,
+        &mut out[a..],
+    );
+    put_two(out, 0, a + m - 2);
+    a + m
 }
 
 // The items from `from` to `end`, with modules at most `depth` deep.
@@ -174,6 +223,17 @@ fn write_items(
     sum
 }
 
+// The start of a unit's item but for its length.
+fn put_unit_start(out: &mut [u8], u: usize) -> usize
+    requires { ⌜ 4 + length (string (unitName u)) ≤ length (now out) ⌝ }
+    ensures { λ r. ⌜ (r ≡ 4 + length (string (unitName u))) × (now (out .exit) ≡ started (take 2 (now (out .entry)) ++ (module-kind ∷ 0 ∷ string (unitName u))) (now (out .entry))) ⌝ }
+{
+    let unit = names::unit_name(u as u64);
+    let bytes = unit.bytes;
+    let n = unit.len;
+    put_start(out, MODULE, 0, &bytes[..n])
+}
+
 // The unit u: a private module.
 fn write_unit(
     s: &[u8],
@@ -186,8 +246,7 @@ fn write_unit(
     let index = files[u];
     let place = bundle::file_at(s, index);
     let items = bundle::file_items(s, place);
-    let n = put_unit(&mut out[4..], u);
-    let a = 4 + n;
+    let a = put_unit_start(out, u);
     let m = write_items(
         s,
         at,
@@ -200,7 +259,7 @@ fn write_unit(
         DEPTH,
         &mut out[a..],
     );
-    put_head(out, 2 + n + m, MODULE, 0);
+    put_two(out, 0, a + m - 2);
     a + m
 }
 

@@ -1,4 +1,18 @@
-use Prim.Native.Nat.{ℕ, _<_}
+use Rattle.assembly.specs.Uses.{use-form}
+use Rattle.assembly.specs.Targets.{pathBy}
+use Rattle.assembly.specs.Strings.{text-short, string-length}
+use Rattle.discovery.specs.Walk.{use-mark}
+use Rattle.bundle.specs.Scan.{text}
+use Rattle.bundle.specs.Encode.{string, counted, element}
+use Rattle.assembly.specs.Walk.{itemBytes, itemsBytes, useBytes, segmentsAt, elementsAt, bytes-end, next-bytes, ignored-bytes, use-bytes, named-bytes, flat-bytes, module-bytes, name-text}
+use Rattle.assembly.specs.Parts.{Counted, counted-none, counted-more, counted-all, headBytes}
+use denote.Ref.{now}
+use lib.ListN.{length, length-append}
+use mathlib.Core.List.{List, [], _∷_, _++_}
+use mathlib.Core.Path.{_≡_, refl, sym, ap, subst, _∙_}
+use native.Mathlib.Omega.{arith}
+use borrow.Author.Needs.{needs}
+use Prim.Native.Nat.{ℕ, suc, _+_, _-_, _*_, _<_, _≤_, min}
 use borrow.Fn.Kinds.{In}
 use borrow.Fn.PlainCycle.{Measures, is, falls, and}
 use Rattle.assembly.proofs.lengths.item_length.Reads as item-length
@@ -19,10 +33,10 @@ use Rattle.assembly.proofs.lengths.+item_length+items_length.{statement
 use Rattle.assembly.proofs.lengths.+item_length+items_length.Tie.{close}
 
 abbrev μ-item-length : Measures 3 item-length-kinds.ps ℕ
-μ-item-length κs a = ?
+μ-item-length κs a = 2 * a .1 .1 .1 .1 .1 .1 .1 .0
 
 abbrev μ-items-length : Measures 3 items-length-kinds.ps ℕ
-μ-items-length κs a = ?
+μ-items-length κs a = 2 * a .1 .1 .1 .1 .1 .1 .1 .1 .0 + 1
 
 abbrev item-length-at : ℕ → In 3 item-length-kinds.ps
 item-length-at t =
@@ -63,7 +77,7 @@ item-length-item-kind-requires : (t : ℕ) → item-length-lts.Need-item-kind-re
   items-length-below t,
   items-length.Post,
 ) (item-length-at t) item-length.Post
-item-length-item-kind-requires t c κs = ?
+item-length-item-kind-requires t c κs = search needs
 
 -- src/lengths.rt:81:9
 item-length-returns : (t : ℕ) → item-length-lts.Need-returns (
@@ -84,7 +98,7 @@ item-length-returns : (t : ℕ) → item-length-lts.Need-returns (
   items-length-below t,
   items-length.Post,
 ) (item-length-at t) item-length.Post
-item-length-returns t c = ?
+item-length-returns t c = let e = ap length (ignored-bytes (c .before .before .before .before .before .args .s .now) (c .before .before .before .before .before .args .place) (c .before .item-kind .result) (c .before .item-kind .ensures) (c .before .before .before .before .before .args .file .now) (c .before .before .before .before .before .args .depth) (c .if1 .taken)) in omega arith
 
 -- src/lengths.rt:84:13
 item-length-target-of-requires : (t : ℕ) → item-length-lts.Need-target-of-requires (
@@ -105,7 +119,7 @@ item-length-target-of-requires : (t : ℕ) → item-length-lts.Need-target-of-re
   items-length-below t,
   items-length.Post,
 ) (item-length-at t) item-length.Post
-item-length-target-of-requires t c κs = ?
+item-length-target-of-requires t c κs = (c .before .before .before .before .before .before .pre .1 .0, use-mark (c .before .before .before .before .before .before .args .depth) (c .before .before .before .before .before .before .args .s .now) (c .before .before .before .before .before .before .args .place) (c .before .before .item-kind .result) (c .before .before .item-kind .ensures) (c .if2 .taken) (let q = c .before .before .before .before .before .before .pre .1 .1 in omega arith))
 
 -- src/lengths.rt:85:27
 item-length-path-length-requires : (t : ℕ) → item-length-lts.Need-path-length-requires (
@@ -126,7 +140,7 @@ item-length-path-length-requires : (t : ℕ) → item-length-lts.Need-path-lengt
   items-length-below t,
   items-length.Post,
 ) (item-length-at t) item-length.Post
-item-length-path-length-requires t c κs = ?
+item-length-path-length-requires t c κs = (use-mark (c .before .before .before .before .before .before .before .args .depth) (c .before .before .before .before .before .before .before .args .s .now) (c .before .before .before .before .before .before .before .args .place) (c .before .before .before .item-kind .result) (c .before .before .before .item-kind .ensures) (c .before .if2 .taken) (let q = c .before .before .before .before .before .before .before .pre .1 .1 in omega arith), c .target-of .ensures .1)
 
 -- src/lengths.rt:85:23
 item-length-add-capped : (t : ℕ) → item-length-lts.Need-add-capped (
@@ -147,7 +161,7 @@ item-length-add-capped : (t : ℕ) → item-length-lts.Need-add-capped (
   items-length-below t,
   items-length.Post,
 ) (item-length-at t) item-length.Post
-item-length-add-capped t c = ?
+item-length-add-capped t c = search needs
 
 -- src/lengths.rt:85:58
 item-length-elements-length-requires : (t : ℕ) → item-length-lts.Need-elements-length-requires (
@@ -168,7 +182,7 @@ item-length-elements-length-requires : (t : ℕ) → item-length-lts.Need-elemen
   items-length-below t,
   items-length.Post,
 ) (item-length-at t) item-length.Post
-item-length-elements-length-requires t c κs = ?
+item-length-elements-length-requires t c κs = use-mark (c .before .before .before .before .before .before .before .before .args .depth) (c .before .before .before .before .before .before .before .before .args .s .now) (c .before .before .before .before .before .before .before .before .args .place) (c .before .before .before .before .item-kind .result) (c .before .before .before .before .item-kind .ensures) (c .before .before .if2 .taken) (let q = c .before .before .before .before .before .before .before .before .pre .1 .1 in omega arith)
 
 -- src/lengths.rt:85:9
 item-length-capped-requires : (t : ℕ) → item-length-lts.Need-capped-requires (
@@ -189,7 +203,7 @@ item-length-capped-requires : (t : ℕ) → item-length-lts.Need-capped-requires
   items-length-below t,
   items-length.Post,
 ) (item-length-at t) item-length.Post
-item-length-capped-requires t c κs = ?
+item-length-capped-requires t c κs = search needs
 
 -- src/lengths.rt:85:9
 item-length-returns-2 : (t : ℕ) → item-length-lts.Need-returns-2 (
@@ -210,7 +224,13 @@ item-length-returns-2 : (t : ℕ) → item-length-lts.Need-returns-2 (
   items-length-below t,
   items-length.Post,
 ) (item-length-at t) item-length.Post
-item-length-returns-2 t c = ?
+item-length-returns-2 t c = 
+    let e = ap length (use-bytes (c .before .before .before .before .before .before .before .before .before .before .args .s .now) (c .before .before .before .before .before .before .before .before .before .before .args .place) (c .before .before .before .before .before .before .item-kind .result) (c .before .before .before .before .before .before .item-kind .ensures) (c .before .before .before .before .before .before .before .before .before .before .args .file .now) (c .before .before .before .before .before .before .before .before .before .before .args .depth) (c .before .before .before .before .if2 .taken)) in
+    let u = ap length (use-form (c .before .before .before .before .before .before .before .before .before .before .args .s .now) (c .before .before .before .before .before .before .before .before .before .before .args .place) (c .before .before .before .before .before .before .before .before .before .before .args .file .now) (c .before .before .before .target-of .result) (c .before .before .before .target-of .ensures .0)) in
+    let p : c .before .before .path-length .result ≡ length (counted string (pathBy (segmentsAt (c .before .before .before .before .before .before .before .before .before .before .args .s .now) (c .before .before .before .before .before .before .before .before .before .before .args .place)) (c .before .before .before .target-of .result))) = c .before .before .path-length .ensures .0 in
+    let q : c .before .elements-length .result ≡ length (counted element (elementsAt (c .before .before .before .before .before .before .before .before .before .before .args .s .now) (c .before .before .before .before .before .before .before .before .before .before .args .place))) = c .before .elements-length .ensures .0 in
+    let r = c .capped .ensures in
+    omega (arith, length-append (counted string (pathBy (segmentsAt (c .before .before .before .before .before .before .before .before .before .before .args .s .now) (c .before .before .before .before .before .before .before .before .before .before .args .place)) (c .before .before .before .target-of .result))) (counted element (elementsAt (c .before .before .before .before .before .before .before .before .before .before .args .s .now) (c .before .before .before .before .before .before .before .before .before .before .args .place))))
 
 -- src/lengths.rt:87:20
 item-length-item-name-requires : (t : ℕ) → item-length-lts.Need-item-name-requires (
@@ -231,7 +251,7 @@ item-length-item-name-requires : (t : ℕ) → item-length-lts.Need-item-name-re
   items-length-below t,
   items-length.Post,
 ) (item-length-at t) item-length.Post
-item-length-item-name-requires t c κs = ?
+item-length-item-name-requires t c κs = search needs
 
 -- src/lengths.rt:87:16
 item-length-add-head : (t : ℕ) → item-length-lts.Need-add-head (
@@ -252,7 +272,7 @@ item-length-add-head : (t : ℕ) → item-length-lts.Need-add-head (
   items-length-below t,
   items-length.Post,
 ) (item-length-at t) item-length.Post
-item-length-add-head t c = ?
+item-length-add-head t c = search needs
 
 -- src/lengths.rt:89:9
 item-length-returns-3 : (t : ℕ) → item-length-lts.Need-returns-3 (
@@ -273,7 +293,11 @@ item-length-returns-3 : (t : ℕ) → item-length-lts.Need-returns-3 (
   items-length-below t,
   items-length.Post,
 ) (item-length-at t) item-length.Post
-item-length-returns-3 t c = ?
+item-length-returns-3 t c = 
+    let e = ap length (named-bytes (c .before .before .before .before .before .before .before .before .args .s .now) (c .before .before .before .before .before .before .before .before .args .place) (c .before .before .before .before .item-kind .result) (c .before .before .before .before .item-kind .ensures) (c .before .before .before .before .before .before .before .before .args .file .now) (c .before .before .before .before .before .before .before .before .args .depth) (c .if3 .taken) (c .before .before .if2 .left) (c .before .before .before .if1 .left)) in
+    let n = ap length (name-text (c .before .before .before .before .before .before .before .before .args .s .now) (c .before .before .before .before .before .before .before .before .args .place) (c .before .before .before .before .item-kind .result) (c .before .before .before .before .item-kind .ensures) (now (c .before .item-name .result)) (c .before .before .if2 .left) (c .before .before .before .if1 .left) (c .before .item-name .ensures)) in
+    let b = text-short (c .before .before .before .before .before .before .before .before .args .s .now) (λ i. omega (arith, c .before .before .before .before .before .before .before .shared-slice-known .given i)) (c .before .before .before .before .before .before .before .before .args .place + 4) in
+    omega (arith, string-length (text (c .before .before .before .before .before .before .before .before .args .s .now) (c .before .before .before .before .before .before .before .before .args .place + 4)))
 
 -- src/lengths.rt:92:9
 item-length-returns-4 : (t : ℕ) → item-length-lts.Need-returns-4 (
@@ -294,7 +318,11 @@ item-length-returns-4 : (t : ℕ) → item-length-lts.Need-returns-4 (
   items-length-below t,
   items-length.Post,
 ) (item-length-at t) item-length.Post
-item-length-returns-4 t c = ?
+item-length-returns-4 t c = 
+    let e = ap length (flat-bytes (c .before .before .before .before .before .before .before .before .before .args .s .now) (c .before .before .before .before .before .before .before .before .before .args .place) (c .before .before .before .before .before .item-kind .result) (c .before .before .before .before .before .item-kind .ensures) (c .before .before .before .before .before .before .before .before .before .args .file .now) (c .before .before .before .before .before .before .before .before .before .args .depth) (c .before .if3 .left) (c .if4 .taken)) in
+    let n = ap length (name-text (c .before .before .before .before .before .before .before .before .before .args .s .now) (c .before .before .before .before .before .before .before .before .before .args .place) (c .before .before .before .before .before .item-kind .result) (c .before .before .before .before .before .item-kind .ensures) (now (c .before .before .item-name .result)) (c .before .before .before .if2 .left) (c .before .before .before .before .if1 .left) (c .before .before .item-name .ensures)) in
+    let b = text-short (c .before .before .before .before .before .before .before .before .before .args .s .now) (λ i. omega (arith, c .before .before .before .before .before .before .before .before .shared-slice-known .given i)) (c .before .before .before .before .before .before .before .before .before .args .place + 4) in
+    omega (arith, string-length (text (c .before .before .before .before .before .before .before .before .before .args .s .now) (c .before .before .before .before .before .before .before .before .before .args .place + 4)))
 
 -- src/lengths.rt:94:9
 item-length-module-items-requires : (t : ℕ) → item-length-lts.Need-module-items-requires (
@@ -315,7 +343,7 @@ item-length-module-items-requires : (t : ℕ) → item-length-lts.Need-module-it
   items-length-below t,
   items-length.Post,
 ) (item-length-at t) item-length.Post
-item-length-module-items-requires t c κs = ?
+item-length-module-items-requires t c κs = search needs
 
 -- src/lengths.rt:95:81
 item-length-sub-items-length : (t : ℕ) → item-length-lts.Need-sub-items-length (
@@ -336,7 +364,7 @@ item-length-sub-items-length : (t : ℕ) → item-length-lts.Need-sub-items-leng
   items-length-below t,
   items-length.Post,
 ) (item-length-at t) item-length.Post
-item-length-sub-items-length t c = ?
+item-length-sub-items-length t c = search needs
 
 -- src/lengths.rt:95:9
 item-length-items-length-requires : (t : ℕ) → item-length-lts.Need-items-length-requires (
@@ -357,7 +385,7 @@ item-length-items-length-requires : (t : ℕ) → item-length-lts.Need-items-len
   items-length-below t,
   items-length.Post,
 ) (item-length-at t) item-length.Post
-item-length-items-length-requires t c κs = ?
+item-length-items-length-requires t c κs = (search needs, (c .before .before .before .before .before .before .before .before .before .before .pre .1 .0, search needs))
 
 -- src/lengths.rt:96:5
 item-length-capped-requires-2 : (t : ℕ) → item-length-lts.Need-capped-requires-2 (
@@ -378,7 +406,11 @@ item-length-capped-requires-2 : (t : ℕ) → item-length-lts.Need-capped-requir
   items-length-below t,
   items-length.Post,
 ) (item-length-at t) item-length.Post
-item-length-capped-requires-2 t c κs = ?
+item-length-capped-requires-2 t c κs = 
+    let n = ap length (name-text (c .before .before .before .before .before .before .before .before .before .before .before .args .s .now) (c .before .before .before .before .before .before .before .before .before .before .before .args .place) (c .before .before .before .before .before .before .before .item-kind .result) (c .before .before .before .before .before .before .before .item-kind .ensures) (now (c .before .before .before .before .item-name .result)) (c .before .before .before .before .before .if2 .left) (c .before .before .before .before .before .before .if1 .left) (c .before .before .before .before .item-name .ensures)) in
+    let b = text-short (c .before .before .before .before .before .before .before .before .before .before .before .args .s .now) (λ i. omega (arith, c .before .before .before .before .before .before .before .before .before .before .shared-slice-known .given i)) (c .before .before .before .before .before .before .before .before .before .before .before .args .place + 4) in
+    let m = c .items-length .ensures in
+    (omega arith, omega arith)
 
 -- src/lengths.rt:66:1
 item-length-returns-5 : (t : ℕ) → item-length-lts.Need-returns-5 (
@@ -399,13 +431,18 @@ item-length-returns-5 : (t : ℕ) → item-length-lts.Need-returns-5 (
   items-length-below t,
   items-length.Post,
 ) (item-length-at t) item-length.Post
-item-length-returns-5 t c = ?
+item-length-returns-5 t c = 
+    let e = ap length (module-bytes (c .before .before .before .before .before .before .before .before .before .before .before .before .args .s .now) (c .before .before .before .before .before .before .before .before .before .before .before .before .args .place) (c .before .before .before .before .before .before .before .before .item-kind .result) (c .before .before .before .before .before .before .before .before .item-kind .ensures) (c .before .before .before .before .before .before .before .before .before .before .before .before .args .file .now) (c .before .before .before .before .before .before .before .before .before .before .before .before .args .depth) (c .before .before .module-items .result .end) (c .before .before .module-items .result .at) (c .before .before .before .before .if3 .left) (c .before .before .before .if4 .left) (c .before .before .module-items .ensures .0)) in
+    let n = ap length (name-text (c .before .before .before .before .before .before .before .before .before .before .before .before .args .s .now) (c .before .before .before .before .before .before .before .before .before .before .before .before .args .place) (c .before .before .before .before .before .before .before .before .item-kind .result) (c .before .before .before .before .before .before .before .before .item-kind .ensures) (now (c .before .before .before .before .before .item-name .result)) (c .before .before .before .before .before .before .if2 .left) (c .before .before .before .before .before .before .before .if1 .left) (c .before .before .before .before .before .item-name .ensures)) in
+    let m : c .before .items-length .result ≡ min (length (itemsBytes (c .before .before .before .before .before .before .before .before .before .before .before .before .args .s .now) (c .before .before .before .before .before .before .before .before .before .before .before .before .args .file .now) (c .before .before .before .before .before .before .before .before .before .before .before .before .args .depth - 1) (c .before .before .module-items .result .end) (c .before .before .module-items .result .at))) 65536 = c .before .items-length .ensures in
+    let r = c .capped2 .ensures in
+    omega (arith, string-length (text (c .before .before .before .before .before .before .before .before .before .before .before .before .args .s .now) (c .before .before .before .before .before .before .before .before .before .before .before .before .args .place + 4)), length-append (string (text (c .before .before .before .before .before .before .before .before .before .before .before .before .args .s .now) (c .before .before .before .before .before .before .before .before .before .before .before .before .args .place + 4))) (itemsBytes (c .before .before .before .before .before .before .before .before .before .before .before .before .args .s .now) (c .before .before .before .before .before .before .before .before .before .before .before .before .args .file .now) (c .before .before .before .before .before .before .before .before .before .before .before .before .args .depth - 1) (c .before .before .module-items .result .end) (c .before .before .module-items .result .at)))
 
 abbrev items-length-Inv-loop : items-length-lts.InvT-loop
-items-length-Inv-loop s at file index files units from end depth sum₀ a₀ sum a = ?
+items-length-Inv-loop s at file index files units from end depth sum₀ a₀ sum a = Counted (itemsBytes s file depth end from) (itemsBytes s file depth end a) 65536 sum
 
 abbrev items-length-μ-loop : items-length-lts.MeasureT-loop
-items-length-μ-loop s at file index files units from end depth sum₀ a₀ sum a = ?
+items-length-μ-loop s at file index files units from end depth sum₀ a₀ sum a = end - a
 
 -- src/lengths.rt:116:5
 items-length-loop-holds : (t : ℕ) → items-length-lts.Need-loop-holds (
@@ -416,7 +453,7 @@ items-length-loop-holds : (t : ℕ) → items-length-lts.Need-loop-holds (
   next-item-reads.Asked,
   next-item-reads.Learnt,
 ) (items-length-at t) items-length.Post items-length-Inv-loop items-length-μ-loop
-items-length-loop-holds t c = ?
+items-length-loop-holds t c = counted-none (itemsBytes (c .before .before .before .args .s .now) (c .before .before .before .args .file .now) (c .before .before .before .args .depth) (c .before .before .before .args .end) (c .before .before .before .args .from)) 65536
 
 -- src/lengths.rt:117:13
 items-length-item-length-requires : (t : ℕ) → items-length-lts.Need-item-length-requires (
@@ -427,7 +464,7 @@ items-length-item-length-requires : (t : ℕ) → items-length-lts.Need-item-len
   next-item-reads.Asked,
   next-item-reads.Learnt,
 ) (items-length-at t) items-length.Post items-length-Inv-loop items-length-μ-loop
-items-length-item-length-requires t c κs = ?
+items-length-item-length-requires t c κs = search needs
 
 -- src/lengths.rt:118:9
 items-length-capped-requires : (t : ℕ) → items-length-lts.Need-capped-requires (
@@ -438,7 +475,7 @@ items-length-capped-requires : (t : ℕ) → items-length-lts.Need-capped-requir
   next-item-reads.Asked,
   next-item-reads.Learnt,
 ) (items-length-at t) items-length.Post items-length-Inv-loop items-length-μ-loop
-items-length-capped-requires t c κs = ?
+items-length-capped-requires t c κs = search needs
 
 -- src/lengths.rt:119:9
 items-length-next-item-requires : (t : ℕ) → items-length-lts.Need-next-item-requires (
@@ -449,7 +486,7 @@ items-length-next-item-requires : (t : ℕ) → items-length-lts.Need-next-item-
   next-item-reads.Asked,
   next-item-reads.Learnt,
 ) (items-length-at t) items-length.Post items-length-Inv-loop items-length-μ-loop
-items-length-next-item-requires t c κs = ?
+items-length-next-item-requires t c κs = search needs
 
 -- src/lengths.rt:116:5
 items-length-loop-less : (t : ℕ) → items-length-lts.Need-loop-less (
@@ -460,7 +497,7 @@ items-length-loop-less : (t : ℕ) → items-length-lts.Need-loop-less (
   next-item-reads.Asked,
   next-item-reads.Learnt,
 ) (items-length-at t) items-length.Post items-length-Inv-loop items-length-μ-loop
-items-length-loop-less t c = ?
+items-length-loop-less t c = search needs
 
 -- src/lengths.rt:116:5
 items-length-loop-again : (t : ℕ) → items-length-lts.Need-loop-again (
@@ -471,7 +508,7 @@ items-length-loop-again : (t : ℕ) → items-length-lts.Need-loop-again (
   next-item-reads.Asked,
   next-item-reads.Learnt,
 ) (items-length-at t) items-length.Post items-length-Inv-loop items-length-μ-loop
-items-length-loop-again t c = ?
+items-length-loop-again t c = counted-more _ _ _ _ (c .before .before .before .before .loop .inv) (itemBytes (c .before .before .before .before .before .before .before .before .args .s .now) (c .before .before .before .before .before .before .before .before .args .file .now) (c .before .before .before .before .before .before .before .before .args .depth) (c .before .before .before .before .loop .a)) (itemsBytes (c .before .before .before .before .before .before .before .before .args .s .now) (c .before .before .before .before .before .before .before .before .args .file .now) (c .before .before .before .before .before .before .before .before .args .depth) (c .before .before .before .before .before .before .before .before .args .end) (c .next-item .result)) (c .before .before .item-length .result) (c .before .capped .result) (next-bytes (c .before .before .before .before .before .before .before .before .args .s .now) (c .before .before .before .before .before .before .before .before .args .file .now) (c .before .before .before .before .before .before .before .before .args .depth) (c .before .before .before .before .before .before .before .before .args .end) (c .before .before .before .before .loop .a) (c .next-item .result) (c .before .before .before .loop-test .taken) (c .next-item .ensures .0)) (c .before .before .item-length .ensures) (c .before .capped .ensures)
 
 -- src/lengths.rt:100:1
 items-length-returns : (t : ℕ) → items-length-lts.Need-returns (
@@ -482,7 +519,7 @@ items-length-returns : (t : ℕ) → items-length-lts.Need-returns (
   next-item-reads.Asked,
   next-item-reads.Learnt,
 ) (items-length-at t) items-length.Post items-length-Inv-loop items-length-μ-loop
-items-length-returns t c = ?
+items-length-returns t c = counted-all _ _ _ _ (c .before .loop .inv) (bytes-end (c .before .before .before .before .before .args .s .now) (c .before .before .before .before .before .args .file .now) (c .before .before .before .before .before .args .depth) (c .before .before .before .before .before .args .end) (c .before .loop .a) (c .loop-test .left))
 
 pub +item-length+items-length-spec : {M : Type 1} → statement M
 +item-length+items-length-spec = close μ-item-length μ-items-length (λ t. item-length-lts.spec (

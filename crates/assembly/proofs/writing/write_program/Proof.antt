@@ -11,59 +11,59 @@ Inv-loop s at files ids units out₀ sum₀ i₀ out sum i = ?
 abbrev μ-loop : tie.MeasureT-loop
 μ-loop s at files ids units out₀ sum₀ i₀ out sum i = ?
 
--- src/writing.rt:218:5
+-- src/writing.rt:277:5
 loop-holds : tie.Need-loop-holds Inv-loop μ-loop
 loop-holds c = ?
 
--- src/writing.rt:219:54
+-- src/writing.rt:278:54
 mul-wide : tie.Need-mul-wide Inv-loop μ-loop
 mul-wide c = ?
 
--- src/writing.rt:219:54
+-- src/writing.rt:278:54
 shared-slice-read-wide : tie.Need-shared-slice-read-wide Inv-loop μ-loop
 shared-slice-read-wide c = ?
 
--- src/writing.rt:219:49
+-- src/writing.rt:278:49
 wide-requires : tie.Need-wide-requires Inv-loop μ-loop
 wide-requires c κs = ?
 
--- src/writing.rt:219:63
+-- src/writing.rt:278:63
 sub-write-unit : tie.Need-sub-write-unit Inv-loop μ-loop
 sub-write-unit c = ?
 
--- src/writing.rt:219:63
+-- src/writing.rt:278:63
 part-write-unit-start : tie.Need-part-write-unit-start Inv-loop μ-loop
 part-write-unit-start c = ?
 
--- src/writing.rt:219:63
+-- src/writing.rt:278:63
 part-write-unit-end : tie.Need-part-write-unit-end Inv-loop μ-loop
 part-write-unit-end c = ?
 
--- src/writing.rt:219:13
+-- src/writing.rt:278:13
 write-unit-requires : tie.Need-write-unit-requires Inv-loop μ-loop
 write-unit-requires c κs = ?
 
--- src/writing.rt:220:9
+-- src/writing.rt:279:9
 add-sum : tie.Need-add-sum Inv-loop μ-loop
 add-sum c = ?
 
--- src/writing.rt:221:9
+-- src/writing.rt:280:9
 add-i : tie.Need-add-i Inv-loop μ-loop
 add-i c = ?
 
--- src/writing.rt:218:5
+-- src/writing.rt:277:5
 loop-less : tie.Need-loop-less Inv-loop μ-loop
 loop-less c = ?
 
--- src/writing.rt:218:5
+-- src/writing.rt:277:5
 loop-again : tie.Need-loop-again Inv-loop μ-loop
 loop-again c = ?
 
--- src/writing.rt:208:1
+-- src/writing.rt:267:1
 same-length : tie.Need-same-length Inv-loop μ-loop
 same-length c = ?
 
--- src/writing.rt:208:1
+-- src/writing.rt:267:1
 returns : tie.Need-returns Inv-loop μ-loop
 returns c = ?
 
