@@ -1,3 +1,4 @@
 pub mod Scopes
 pub mod Link
 pub mod Call
+pub mod Steps
