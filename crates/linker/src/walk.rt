@@ -328,38 +328,39 @@ fn walk_item(
     if number != 0 {
         return stop_at(number, place);
     }
-    if left > 0 {
-        let inner = bundle::module_items(s, place);
-        let r = walk_items(
-            &mut *count,
-            &mut *kinds,
-            &mut *visible,
-            &mut *scopes,
-            &mut *marks,
-            &mut *n0,
-            &mut *n1,
-            &mut *n2,
-            &mut *n3,
-            &mut *origins,
-            &mut *targets,
-            &mut *times,
-            &mut *heads,
-            &mut *links,
-            &mut *depth,
-            &mut *stack,
-            s,
-            at,
-            file,
-            index,
-            files,
-            units,
-            inner.at,
-            inner.end,
-            left - 1,
-        );
-        if r.number != 0 {
-            return r;
-        }
+    if left == 0 {
+        return stop_at(scopes::lent::exit(&mut *depth), place);
+    }
+    let inner = bundle::module_items(s, place);
+    let r = walk_items(
+        &mut *count,
+        &mut *kinds,
+        &mut *visible,
+        &mut *scopes,
+        &mut *marks,
+        &mut *n0,
+        &mut *n1,
+        &mut *n2,
+        &mut *n3,
+        &mut *origins,
+        &mut *targets,
+        &mut *times,
+        &mut *heads,
+        &mut *links,
+        &mut *depth,
+        &mut *stack,
+        s,
+        at,
+        file,
+        index,
+        files,
+        units,
+        inner.at,
+        inner.end,
+        left - 1,
+    );
+    if r.number != 0 {
+        return r;
     }
     stop_at(scopes::lent::exit(&mut *depth), place)
 }
