@@ -2,3 +2,5 @@ pub mod Scopes
 pub mod Link
 pub mod Call
 pub mod Steps
+pub mod Fit
+pub mod Units

@@ -58,7 +58,7 @@ fn is_public(s: &[u8], place: usize) -> bool
 }
 
 // Goes on, or stops at this place.
-fn stop_at(number: u8, place: usize) -> Stop
+pub fn stop_at(number: u8, place: usize) -> Stop
     ensures { λ r. ⌜ (r .number ≡ number) × (r .place ≡ place) ⌝ }
 {
     Stop {
