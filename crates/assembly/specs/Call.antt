@@ -20,16 +20,17 @@ recordsOf (faulty l) = map fault l
 recordsOf (closed r) = ring r ∷ []
 recordsOf (program o p) = []
 
+-- no units: a number and a place, and the length of a report
+abbrev pub telling : ℕ → ℕ → ℕ → Answer
+telling n p r = record { number = n; place = p; report = r; units = 0; files = cleared; ids = cleared; image = 0 }
+
 -- a refusal: its number and place alone
 abbrev pub refusing : ℕ → ℕ → Answer
-refusing n p = record { number = n; place = p; report = 0; units = 0; files = cleared; ids = cleared; image = 0 }
+refusing n p = telling n p 0
 
 -- a report: its length, or 14
-abbrev pub reportOf : ℕ → Answer
-reportOf n = record { number = 0; place = 0; report = n; units = 0; files = cleared; ids = cleared; image = 0 }
-
 abbrev pub reportedTo : Reported → Answer
-reportedTo (reported.Report n) = reportOf n
+reportedTo (reported.Report n) = telling 0 0 n
 reportedTo (reported.Refused n p) = refusing n p
 
 -- an image: the units, their files and their order, in arrays, and its length; or 15, 14

@@ -15,3 +15,7 @@ pub mod Targets
 pub mod Walk
 pub mod Uses
 pub mod Written
+pub mod Linked
+pub mod EnumRoom
+pub mod WholeImage
+pub mod Join

@@ -82,9 +82,9 @@ module _ (t e out₀ : List ℕ) (room : 1 + length t ≤ length e) (start : out
       let k : i ≡ length t = let k = c .few in omega arith in (
         omega arith,
         c .is
-            ∙ (ap (λ (n : ℕ). (length t ∷ take n t) ++ drop (1 + n) out₀) k
-            ∙ (ap (λ (l : List ℕ). (length t ∷ l) ++ drop (1 + length t) out₀) (take-length t)
-            ∙ (ap (λ (l : List ℕ). (length t ∷ t) ++ l) (behind (length t)) ∙ ap (λ (n : ℕ). (length t ∷ t) ++ drop n e) (one-more (length t))))),
+        ∙ (ap (λ (n : ℕ). (length t ∷ take n t) ++ drop (1 + n) out₀) k
+        ∙ (ap (λ (l : List ℕ). (length t ∷ l) ++ drop (1 + length t) out₀) (take-length t)
+        ∙ (ap (λ (l : List ℕ). (length t ∷ t) ++ l) (behind (length t)) ∙ ap (λ (n : ℕ). (length t ∷ t) ++ drop n e) (one-more (length t))))),
       )
     where
       one-more : (n : ℕ) → 1 + n ≡ suc n

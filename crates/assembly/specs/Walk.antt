@@ -95,6 +95,11 @@ module _ (s : List ℕ) (depth end at : ℕ) where
       go true = refl
       go false = refl
 
+-- of items that are known
+pub enums-of : (s : List ℕ) (depth end at : ℕ) (x : Items) → itemsAt depth s end at ≡ x → itemsEnums s depth end at ≡ enumDeclarations x
+unfolding itemsEnums
+enums-of s depth end at x e = ap enumDeclarations e
+
 -- the next item, as the code reads it
 pub next-is : (s : List ℕ) (depth end at next : ℕ) → at < end → ((d e : ℕ) → at < e → itemsAt d s e next ≡ restOf (itemsAt d s e at)) → itemsAt depth s end next ≡ itemsAt depth s end (afterLength s at)
 next-is s depth end at next h f = f depth end h ∙ first-rest depth s end at h

@@ -44,7 +44,7 @@ module _ (out cur name : List ℕ) (k v a : ℕ) (start : cur ≡ started (take 
           let z : a - 2 ≡ 2 + length (string name) = omega arith in (
             sym l,
             put-length (string name) out cur final (a - 2) k v (omega arith) start f
-                ∙ (ap (λ (n : ℕ). started (headBytes n k v ++ string name) out) z ∙ ap (λ (i : List ℕ). started i out) (sym form)),
+            ∙ (ap (λ (n : ℕ). started (headBytes n k v ++ string name) out) z ∙ ap (λ (i : List ℕ). started i out) (sym form)),
           )
 
     -- x is inside
@@ -91,5 +91,5 @@ module _ (out cur name : List ℕ) (k v a : ℕ) (start : cur ≡ started (take 
             let z : a + m - 2 ≡ 2 + length (string name ++ x) = omega (arith, length-append (string name) x) in (
               omega arith,
               put-length (string name ++ x) out (putMid a (length cur - a) cur last) final (a + m - 2) k v (omega arith) both f
-                  ∙ (ap (λ (n : ℕ). started (headBytes n k v ++ (string name ++ x)) out) z ∙ ap (λ (i : List ℕ). started i out) (sym form)),
+              ∙ (ap (λ (n : ℕ). started (headBytes n k v ++ (string name ++ x)) out) z ∙ ap (λ (i : List ℕ). started i out) (sym form)),
             )

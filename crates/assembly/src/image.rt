@@ -1,4 +1,10 @@
 // The image in a lent buffer: it is written only where all of it fits.
+ghost use mathlib.Core.Path.{_≡_};
+ghost use lib.ListN.{length, take};
+ghost use Rattle.bundle.specs.Decode.{decode};
+ghost use Rattle.assembly.specs.Assemble.{assembled};
+ghost use Rattle.assembly.specs.Image.{imaging, lentImage};
+ghost use Rattle.assembly.specs.Linked.{Linked};
 use crate::Imaged;
 use crate::bytes::put;
 use crate::bytes::put_two;
@@ -13,14 +19,19 @@ const SMALL_BUFFER: u8 = 14;
 
 const LONG_IMAGE: u8 = 15;
 
-// The image of the program of a linked order: version, 2-byte length, and the units.
+// The image of the program of a linked order: version, 2-byte length, and the units. Ruled out: 14 where it is 15, however
+// small the buffer; a byte changed where either is answered; an ignored item in the image.
 pub fn write_image<'a>(
     s: &[u8],
     files: &'a [usize],
     ids: &'a [u16],
     units: usize,
     out: &mut [u8],
-) -> Imaged {
+) -> Imaged
+    requires { ⌜ Linked (now s) (now files) (now ids) units ⌝ }
+    ensures { λ r. ⌜ r ≡ imaging (assembled (decode (now (s .entry))) (take units (now (ids .entry)))) (length (now (out .entry))) ⌝ }
+    ensures { λ r. ⌜ now (out .exit) ≡ lentImage (assembled (decode (now (s .entry))) (take units (now (ids .entry)))) (now (out .entry)) ⌝ }
+{
     let at = resolution::layout_of(s);
     let length = program_length(s, at, files, ids, units);
     if length == LIMIT {

@@ -4,6 +4,9 @@ ghost use Prim.Native.Nat.{_+_, _<_, _≤_, _^_, min};
 ghost use lib.ListN.{length};
 ghost use Rattle.bundle.specs.Encode.{string, counted, element};
 ghost use Rattle.discovery.specs.Walk.{UseMark, Small};
+ghost use Rattle.bundle.specs.Decode.{decode};
+ghost use lib.ListN.{take};
+ghost use Rattle.assembly.specs.Linked.{Lies, Units, Linked, unitBytes, programBytes};
 ghost use Rattle.assembly.specs.Targets.{UnitOf, pathBy, Within};
 ghost use Rattle.assembly.specs.Walk.{segmentsAt, elementsAt, itemBytes, itemsBytes};
 use crate::Target;
@@ -92,17 +95,7 @@ fn item_length(
         return head;
     }
     let inner = bundle::module_items(s, place);
-    let n = items_length(
-        s,
-        at,
-        file,
-        index,
-        files,
-        units,
-        inner.at,
-        inner.end,
-        depth - 1,
-    );
+    let n = items_length(s, at, file, index, files, units, inner.at, inner.end, depth - 1);
     capped(head, n)
 }
 
@@ -132,7 +125,10 @@ fn items_length(
 }
 
 // The unit u: a private module.
-fn unit_length(s: &[u8], at: Layout, files: &[usize], units: usize, u: usize) -> usize {
+fn unit_length(s: &[u8], at: Layout, files: &[usize], units: usize, u: usize) -> usize
+    requires { ⌜ (Lies (now s) at × Units (now s) (now files) units) × (u < units) ⌝ }
+    ensures { λ r. ⌜ r ≡ min (length (unitBytes (decode (now (s .entry))) u)) 65536 ⌝ }
+{
     let index = files[u];
     let place = bundle::file_at(s, index);
     let items = bundle::file_items(s, place);
@@ -158,7 +154,10 @@ pub fn program_length<'a>(
     files: &'a [usize],
     ids: &'a [u16],
     units: usize,
-) -> usize {
+) -> usize
+    requires { ⌜ Lies (now s) at × Linked (now s) (now files) (now ids) units ⌝ }
+    ensures { λ r. ⌜ r ≡ min (length (programBytes (decode (now (s .entry))) (take units (now (ids .entry))))) 65536 ⌝ }
+{
     let mut sum = 0;
     let mut i = 0;
     while i < units {

@@ -12,6 +12,9 @@ pub use checks::assembly_faults;
 pub use image::write_image;
 pub use writing::rewrite_use;
 
+ghost use mathlib.Core.Path.{_≡_};
+ghost use Rattle.assembly.specs.Call.{assembleAnswer, assembleReport, assembleImage};
+
 // The most units of a bundle: the limit of the reader.
 pub const UNITS: usize = bundle::limits::FILES;
 
@@ -52,19 +55,21 @@ pub struct Answer {
     pub image: usize,
 }
 
-// From any bytes to an image: 1 to 13 of the bundle; the report of discovery's faults, of a ring, or of step 5's faults; or the
-// units, their order and the image.
-pub fn assemble(s: &[u8], report: &mut [u8], image: &mut [u8]) -> Answer {
+// From any bytes to an image: 1 to 13 of the bundle; the report of discovery's faults, of a ring, or of step 5's faults, or 14
+// where that exceeds its buffer; or the units, their order and the image, or 15, 14. Ruled out: an image beside a report; an
+// image with the path of a use as the bundle has it.
+pub fn assemble(s: &[u8], report: &mut [u8], image: &mut [u8]) -> Answer
+    ensures { λ r. ⌜ r ≡ assembleAnswer (now (s .entry)) (now (report .entry)) (now (image .entry)) ⌝ }
+    ensures { λ r. ⌜ now (report .exit) ≡ assembleReport (now (s .entry)) (now (report .entry)) ⌝ }
+    ensures { λ r. ⌜ now (image .exit) ≡ assembleImage (now (s .entry)) (now (image .entry)) ⌝ }
+{
     let a = order::order(s, report);
-    if a.number != 0 {
-        return answers::refuse(a.number, a.place);
-    }
-    if a.report != 0 {
-        return answers::report(a.report);
+    let units = a.units;
+    if units == 0 {
+        return answers::told(a.number, a.place, a.report);
     }
     let files = a.files;
     let ids = a.ids;
-    let units = a.units;
     let f = checks::assembly_faults(s, &files, &ids, units);
     let count = f.count;
     if count > 0 {

@@ -8,9 +8,10 @@ ghost use Rattle.names.specs.Decimal.{unitName};
 ghost use Rattle.bundle.specs.Encode.{string, counted, element};
 ghost use Rattle.bundle.specs.Limits.{segment-limit, use-kind, module-kind};
 ghost use Rattle.bundle.specs.Scan.{byte};
-ghost use Rattle.bundle.specs.Decode.{itemsAt};
+ghost use Rattle.bundle.specs.Decode.{itemsAt, decode};
 ghost use Rattle.discovery.specs.Walk.{UseMark, Small};
 ghost use Rattle.order.specs.Writing.{started};
+ghost use Rattle.assembly.specs.Linked.{Lies, Units, Linked, unitBytes, programBytes};
 ghost use Rattle.assembly.specs.Parts.{headBytes};
 ghost use Rattle.assembly.specs.Strings.{stringBytes};
 ghost use Rattle.assembly.specs.Targets.{UnitOf, pathBy, Within};
@@ -242,7 +243,10 @@ fn write_unit(
     units: usize,
     u: usize,
     out: &mut [u8],
-) -> usize {
+) -> usize
+    requires { ⌜ ((Lies (now s) at × Units (now s) (now files) units) × (u < units)) × ((length (unitBytes (decode (now s)) u) ≤ length (now out)) × (length (unitBytes (decode (now s)) u) < 65536)) ⌝ }
+    ensures { λ r. ⌜ (r ≡ length (unitBytes (decode (now (s .entry))) u)) × (now (out .exit) ≡ started (unitBytes (decode (now (s .entry))) u) (now (out .entry))) ⌝ }
+{
     let index = files[u];
     let place = bundle::file_at(s, index);
     let items = bundle::file_items(s, place);
@@ -271,7 +275,10 @@ pub fn write_program<'a>(
     ids: &'a [u16],
     units: usize,
     out: &mut [u8],
-) -> usize {
+) -> usize
+    requires { ⌜ (Lies (now s) at × Linked (now s) (now files) (now ids) units) × ((length (programBytes (decode (now s)) (take units (now ids))) ≤ length (now out)) × (length (programBytes (decode (now s)) (take units (now ids))) < 65536)) ⌝ }
+    ensures { λ r. ⌜ (r ≡ length (programBytes (decode (now (s .entry))) (take units (now (ids .entry))))) × (now (out .exit) ≡ started (programBytes (decode (now (s .entry))) (take units (now (ids .entry)))) (now (out .entry))) ⌝ }
+{
     let mut sum = 0;
     let mut i = 0;
     while i < units {

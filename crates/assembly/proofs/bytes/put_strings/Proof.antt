@@ -48,7 +48,7 @@ string-requires c κs = search needs
 
 -- src/bytes.rt:62:13
 put-string-requires : tie.Need-put-string-requires Inv-loop μ-loop
-put-string-requires c κs =
+put-string-requires c κs = 
     let t = ap length (c .string .ensures) in
     let short = text-short (c .before .before .before .before .before .before .args .s .now) (λ i. omega (arith, c .before .before .before .before .before .shared-slice-known .given i)) (c .before .before .before .loop .at) in
     let r = filled-room _ _ _ _ _ (c .before .before .before .loop .inv .1 .1 .0) (c .before .before .before .loop .inv .1 .1 .1) (string (text (c .before .before .before .before .before .before .args .s .now) (c .before .before .before .loop .at))) (stringBytes (c .before .before .before .before .before .before .args .s .now) (c .before .before .before .before .before .before .args .n - (c .before .before .before .loop .i + 1)) (after (c .before .before .before .before .before .before .args .s .now) (c .before .before .before .loop .at))) (strings-step (c .before .before .before .before .before .before .args .s .now) (c .before .before .before .before .before .before .args .n) (c .before .before .before .loop .i) (c .before .before .before .loop .at) (c .before .before .loop-test .taken)) in
@@ -58,7 +58,7 @@ put-string-requires c κs =
 
 -- src/bytes.rt:63:9
 add-a : tie.Need-add-a Inv-loop μ-loop
-add-a c =
+add-a c = 
     let r = filled-room _ _ _ _ _ (c .before .before .before .before .before .before .loop .inv .1 .1 .0) (c .before .before .before .before .before .before .loop .inv .1 .1 .1) (string (text (c .before .before .before .before .before .before .before .before .before .args .s .now) (c .before .before .before .before .before .before .loop .at))) (stringBytes (c .before .before .before .before .before .before .before .before .before .args .s .now) (c .before .before .before .before .before .before .before .before .before .args .n - (c .before .before .before .before .before .before .loop .i + 1)) (after (c .before .before .before .before .before .before .before .before .before .args .s .now) (c .before .before .before .before .before .before .loop .at))) (strings-step (c .before .before .before .before .before .before .before .before .before .args .s .now) (c .before .before .before .before .before .before .before .before .before .args .n) (c .before .before .before .before .before .before .loop .i) (c .before .before .before .before .before .before .loop .at) (c .before .before .before .before .before .loop-test .taken)) in
     let h = filled-start _ _ _ _ _ (c .before .before .before .before .before .before .loop .inv .1 .1 .0) (c .before .before .before .before .before .before .loop .inv .1 .1 .1) in
     let l = lent-length (c .before .before .before .before .before .before .loop .out) (c .before .before .before .before .before .before .loop .a) h in
@@ -81,7 +81,7 @@ loop-less c = search needs
 
 -- src/bytes.rt:61:5
 loop-again : tie.Need-loop-again Inv-loop μ-loop
-loop-again c =
+loop-again c = 
     let e = ap (λ (t : List ℕ). string t) (c .before .before .before .before .string .ensures) in
     let q = strings-step (c .before .before .before .before .before .before .before .before .before .before .args .s .now) (c .before .before .before .before .before .before .before .before .before .before .args .n) (c .before .before .before .before .before .before .before .loop .i) (c .before .before .before .before .before .before .before .loop .at) (c .before .before .before .before .before .before .loop-test .taken) ∙ ap (λ (k : ℕ). string (text (c .before .before .before .before .before .before .before .before .before .before .args .s .now) (c .before .before .before .before .before .before .before .loop .at)) ++ stringBytes (c .before .before .before .before .before .before .before .before .before .before .args .s .now) (c .before .before .before .before .before .before .before .before .before .before .args .n - (c .before .before .before .before .before .before .before .loop .i + 1)) k) (sym (c .next-string .ensures .0)) in
     (omega arith, (let k = c .next-string .ensures .1 in omega arith, (filled-more _ _ _ _ _ (c .before .before .before .before .before .before .before .loop .inv .1 .1 .0) (c .before .before .before .before .before .before .before .loop .inv .1 .1 .1) (string (text (c .before .before .before .before .before .before .before .before .before .before .args .s .now) (c .before .before .before .before .before .before .before .loop .at))) (stringBytes (c .before .before .before .before .before .before .before .before .before .before .args .s .now) (c .before .before .before .before .before .before .before .before .before .before .args .n - (c .before .before .before .before .before .before .before .loop .i + 1)) (c .next-string .result)) (c .before .before .before .put-string .last .0) (c .before .before .before .put-string .result) q (c .before .before .before .put-string .ensures .1 ∙ ap (λ (l : List ℕ). started l (midOf (c .before .before .before .before .before .before .before .loop .a) (length (c .before .before .before .before .before .before .before .loop .out) - c .before .before .before .before .before .before .before .loop .a) (c .before .before .before .before .before .before .before .loop .out))) e) (c .before .before .before .put-string .ensures .0 ∙ ap length e), c .before .before .before .before .before .before .before .loop .inv .1 .1 .1)))

@@ -53,7 +53,7 @@ loop-less c = search needs
 
 -- src/bytes.rt:78:5
 loop-again : tie.Need-loop-again Inv-loop μ-loop
-loop-again c =
+loop-again c = 
     let e = ap length (strings-step (c .before .before .before .before .before .args .s .now) (c .before .before .before .before .before .args .n) (c .before .before .before .loop .i) (c .before .before .before .loop .at) (c .before .before .loop-test .taken)) in
     let q = ap (λ (k : ℕ). length (stringBytes (c .before .before .before .before .before .args .s .now) (c .before .before .before .before .before .args .n - (c .before .before .before .loop .i + 1)) k)) (c .next-string .ensures .0) in
     let t = ap length (c .before .string .ensures) in

@@ -1,3 +1,13 @@
+use Rattle.assembly.specs.EnumRoom.{enums-fit, zero-unit, step5-faults, with-main, without-main}
+use Rattle.assembly.specs.Faults.{enumsOf}
+use lib.ListN.{replicate, length-replicate}
+use Rattle.bundle.specs.Decode.{decode}
+use denote.Ref.{now}
+use lib.ListN.{length, getD, take, drop, length-append}
+use mathlib.Core.List.{List, [], _∷_, _++_}
+use mathlib.Core.Path.{_≡_, refl, sym, ap, subst, _∙_}
+use native.Mathlib.Omega.{arith}
+use Prim.Native.Nat.{ℕ, suc, _+_, _-_, _*_, _≤_, _<_, min}
 use borrow.Author.Needs.{needs}
 use Rattle.assembly.proofs.checks.assembly_faults.Statement.{statement}
 use Rattle.assembly.proofs.checks.assembly_faults.Tie as tie
@@ -6,45 +16,41 @@ use Rattle.assembly.proofs.checks.assembly_faults.Lts as lts
 use Rattle.assembly.proofs.checks.all_enums.Reads as all-enums-reads
 use Rattle.assembly.proofs.checks.main_there.Reads as main-there-reads
 
--- src/checks.rt:59:45
+-- src/checks.rt:85:45
 slice-aggregate-all-enums : tie.Need-slice-aggregate-all-enums
 slice-aggregate-all-enums c = search needs
 
--- src/checks.rt:59:9
+-- src/checks.rt:85:9
 all-enums-requires : tie.Need-all-enums-requires
-all-enums-requires c κs = search needs
+all-enums-requires c κs = (c .before .before .before .before .pre, let e = enums-fit (c .before .before .before .before .args .s .now) (λ i. omega (arith, c .before .before .before .shared-slice-known .given i)) (c .before .before .before .before .args .files .now) (c .before .before .before .before .args .ids .now) (c .before .before .before .before .args .units) (c .before .before .before .before .pre) in omega arith)
 
--- src/checks.rt:60:22
-shared-slice-read-main-there : tie.Need-shared-slice-read-main-there
-shared-slice-read-main-there c = ?
-
--- src/checks.rt:60:8
+-- src/checks.rt:87:8
 main-there-requires : tie.Need-main-there-requires
-main-there-requires c κs = search needs
+main-there-requires c κs = zero-unit (c .before .before .before .before .before .before .args .s .now) (λ i. omega (arith, c .before .before .before .before .before .shared-slice-known .given i)) (c .before .before .before .before .before .before .args .files .now) (c .before .before .before .before .before .before .args .ids .now) (c .before .before .before .before .before .before .args .units) (c .before .before .before .before .before .before .pre)
 
--- src/checks.rt:61:9
+-- src/checks.rt:88:9
 returns : tie.Need-returns
-returns c = search needs
+returns c = (with-main (enumsOf (decode (c .before .before .before .before .before .before .before .before .args .s .now)) (take ((c .before .before .before .before .before .before .before .before .args .units) - 1) (c .before .before .before .before .before .before .before .before .args .ids .now))) (replicate 1025 0) (c .before .before .before .all-enums .last .1 .1 .1 .1 .0) (c .before .before .before .all-enums .result) 1025 (length-replicate {A = ℕ} 1025 0) (let e = enums-fit (c .before .before .before .before .before .before .before .before .args .s .now) (λ i. omega (arith, c .before .before .before .before .before .before .before .shared-slice-known .given i)) (c .before .before .before .before .before .before .before .before .args .files .now) (c .before .before .before .before .before .before .before .before .args .ids .now) (c .before .before .before .before .before .before .before .before .args .units) (c .before .before .before .before .before .before .before .before .pre) in omega arith) (c .before .before .before .all-enums .ensures .1) (c .before .before .before .all-enums .ensures .0) (decode (c .before .before .before .before .before .before .before .before .args .s .now)) (sym (c .before .main-there .ensures) ∙ c .if1 .taken) ∙ sym (step5-faults (c .before .before .before .before .before .before .before .before .args .s .now) (λ i. omega (arith, c .before .before .before .before .before .before .before .shared-slice-known .given i)) (c .before .before .before .before .before .before .before .before .args .files .now) (c .before .before .before .before .before .before .before .before .args .ids .now) (c .before .before .before .before .before .before .before .before .args .units) (c .before .before .before .before .before .before .before .before .pre)), (let e = enums-fit (c .before .before .before .before .before .before .before .before .args .s .now) (λ i. omega (arith, c .before .before .before .before .before .before .before .shared-slice-known .given i)) (c .before .before .before .before .before .before .before .before .args .files .now) (c .before .before .before .before .before .before .before .before .args .ids .now) (c .before .before .before .before .before .before .before .before .args .units) (c .before .before .before .before .before .before .before .before .pre) in let r : c .before .before .before .all-enums .result ≡ length (enumsOf (decode (c .before .before .before .before .before .before .before .before .args .s .now)) (take ((c .before .before .before .before .before .before .before .before .args .units) - 1) (c .before .before .before .before .before .before .before .before .args .ids .now))) = c .before .before .before .all-enums .ensures .0 in omega arith))
 
--- src/checks.rt:67:5
+-- src/checks.rt:94:5
 array-write-numbers : tie.Need-array-write-numbers
-array-write-numbers c = ?
+array-write-numbers c = (let e = enums-fit (c .before .before .before .before .before .before .before .before .args .s .now) (λ i. omega (arith, c .before .before .before .before .before .before .before .shared-slice-known .given i)) (c .before .before .before .before .before .before .before .before .args .files .now) (c .before .before .before .before .before .before .before .before .args .ids .now) (c .before .before .before .before .before .before .before .before .args .units) (c .before .before .before .before .before .before .before .before .pre) in let r : c .before .before .before .all-enums .result ≡ length (enumsOf (decode (c .before .before .before .before .before .before .before .before .args .s .now)) (take ((c .before .before .before .before .before .before .before .before .args .units) - 1) (c .before .before .before .before .before .before .before .before .args .ids .now))) = c .before .before .before .all-enums .ensures .0 in omega arith)
 
--- src/checks.rt:68:5
+-- src/checks.rt:95:5
 mul-places : tie.Need-mul-places
-mul-places c = ?
+mul-places c = (let e = enums-fit (c .before .before .before .before .before .before .before .before .args .s .now) (λ i. omega (arith, c .before .before .before .before .before .before .before .shared-slice-known .given i)) (c .before .before .before .before .before .before .before .before .args .files .now) (c .before .before .before .before .before .before .before .before .args .ids .now) (c .before .before .before .before .before .before .before .before .args .units) (c .before .before .before .before .before .before .before .before .pre) in let r : c .before .before .before .all-enums .result ≡ length (enumsOf (decode (c .before .before .before .before .before .before .before .before .args .s .now)) (take ((c .before .before .before .before .before .before .before .before .args .units) - 1) (c .before .before .before .before .before .before .before .before .args .ids .now))) = c .before .before .before .all-enums .ensures .0 in search needs)
 
--- src/checks.rt:68:5
+-- src/checks.rt:95:5
 array-write-places : tie.Need-array-write-places
-array-write-places c = ?
+array-write-places c = (let e = enums-fit (c .before .before .before .before .before .before .before .before .args .s .now) (λ i. omega (arith, c .before .before .before .before .before .before .before .shared-slice-known .given i)) (c .before .before .before .before .before .before .before .before .args .files .now) (c .before .before .before .before .before .before .before .before .args .ids .now) (c .before .before .before .before .before .before .before .before .args .units) (c .before .before .before .before .before .before .before .before .pre) in let r : c .before .before .before .all-enums .result ≡ length (enumsOf (decode (c .before .before .before .before .before .before .before .before .args .s .now)) (take ((c .before .before .before .before .before .before .before .before .args .units) - 1) (c .before .before .before .before .before .before .before .before .args .ids .now))) = c .before .before .before .all-enums .ensures .0 in omega arith)
 
--- src/checks.rt:72:16
-add-t12 : tie.Need-add-t12
-add-t12 c = ?
+-- src/checks.rt:99:16
+add-t15 : tie.Need-add-t15
+add-t15 c = (let e = enums-fit (c .before .before .before .before .before .before .before .before .args .s .now) (λ i. omega (arith, c .before .before .before .before .before .before .before .shared-slice-known .given i)) (c .before .before .before .before .before .before .before .before .args .files .now) (c .before .before .before .before .before .before .before .before .args .ids .now) (c .before .before .before .before .before .before .before .before .args .units) (c .before .before .before .before .before .before .before .before .pre) in let r : c .before .before .before .all-enums .result ≡ length (enumsOf (decode (c .before .before .before .before .before .before .before .before .args .s .now)) (take ((c .before .before .before .before .before .before .before .before .args .units) - 1) (c .before .before .before .before .before .before .before .before .args .ids .now))) = c .before .before .before .all-enums .ensures .0 in search needs)
 
--- src/checks.rt:51:1
+-- src/checks.rt:75:1
 returns-2 : tie.Need-returns-2
-returns-2 c = search needs
+returns-2 c = (without-main (enumsOf (decode (c .before .before .before .before .before .before .before .before .args .s .now)) (take ((c .before .before .before .before .before .before .before .before .args .units) - 1) (c .before .before .before .before .before .before .before .before .args .ids .now))) (replicate 1025 0) (c .before .before .before .all-enums .last .1 .1 .1 .1 .0) (c .before .before .before .all-enums .result) 1025 (length-replicate {A = ℕ} 1025 0) (let e = enums-fit (c .before .before .before .before .before .before .before .before .args .s .now) (λ i. omega (arith, c .before .before .before .before .before .before .before .shared-slice-known .given i)) (c .before .before .before .before .before .before .before .before .args .files .now) (c .before .before .before .before .before .before .before .before .args .ids .now) (c .before .before .before .before .before .before .before .before .args .units) (c .before .before .before .before .before .before .before .before .pre) in omega arith) (c .before .before .before .all-enums .ensures .1) (c .before .before .before .all-enums .ensures .0) (decode (c .before .before .before .before .before .before .before .before .args .s .now)) (sym (c .before .main-there .ensures) ∙ c .if1 .left) ∙ sym (step5-faults (c .before .before .before .before .before .before .before .before .args .s .now) (λ i. omega (arith, c .before .before .before .before .before .before .before .shared-slice-known .given i)) (c .before .before .before .before .before .before .before .before .args .files .now) (c .before .before .before .before .before .before .before .before .args .ids .now) (c .before .before .before .before .before .before .before .before .args .units) (c .before .before .before .before .before .before .before .before .pre)), (let e = enums-fit (c .before .before .before .before .before .before .before .before .args .s .now) (λ i. omega (arith, c .before .before .before .before .before .before .before .shared-slice-known .given i)) (c .before .before .before .before .before .before .before .before .args .files .now) (c .before .before .before .before .before .before .before .before .args .ids .now) (c .before .before .before .before .before .before .before .before .args .units) (c .before .before .before .before .before .before .before .before .pre) in let r : c .before .before .before .all-enums .result ≡ length (enumsOf (decode (c .before .before .before .before .before .before .before .before .args .s .now)) (take ((c .before .before .before .before .before .before .before .before .args .units) - 1) (c .before .before .before .before .before .before .before .before .args .ids .now))) = c .before .before .before .all-enums .ensures .0 in omega arith))
 
 pub assembly-faults-spec : {M : Type 1} → statement M
 assembly-faults-spec =
@@ -52,11 +58,10 @@ assembly-faults-spec =
     (tie.spec
     slice-aggregate-all-enums
     all-enums-requires
-    shared-slice-read-main-there
     main-there-requires
     returns
     array-write-numbers
     mul-places
     array-write-places
-    add-t12
+    add-t15
     returns-2)

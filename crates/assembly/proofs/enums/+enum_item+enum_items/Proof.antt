@@ -230,7 +230,7 @@ enum-items-add-sum : (t : ℕ) → enum-items-lts.Need-add-sum (
   next-item-reads.Asked,
   next-item-reads.Learnt,
 ) (enum-items-at t) enum-items.Post enum-items-Inv-loop enum-items-μ-loop
-enum-items-add-sum t c =
+enum-items-add-sum t c = 
     let r = filled-room _ _ _ _ _ (c .before .before .before .before .before .loop .inv .0) (c .before .before .before .before .before .loop .inv .1) (itemEnums (c .before .before .before .before .before .before .before .before .args .s .now) (c .before .before .before .before .before .before .before .before .args .depth) (c .before .before .before .before .before .loop .a)) (itemsEnums (c .before .before .before .before .before .before .before .before .args .s .now) (c .before .before .before .before .before .before .before .before .args .depth) (c .before .before .before .before .before .before .before .before .args .end) (afterLength (c .before .before .before .before .before .before .before .before .args .s .now) (c .before .before .before .before .before .loop .a))) (enums-step (c .before .before .before .before .before .before .before .before .args .s .now) (c .before .before .before .before .before .before .before .before .args .depth) (c .before .before .before .before .before .before .before .before .args .end) (c .before .before .before .before .before .loop .a) (c .before .before .before .before .loop-test .taken)) in
     let h = filled-start _ _ _ _ _ (c .before .before .before .before .before .loop .inv .0) (c .before .before .before .before .before .loop .inv .1) in
     let l = lent-length (c .before .before .before .before .before .loop .marks) (c .before .before .before .before .before .loop .sum) h in

@@ -37,7 +37,7 @@ is-main-requires c κs = search needs
 
 -- src/enums.rt:59:1
 returns-2 : tie.Need-returns-2
-returns-2 c =
+returns-2 c = 
     let k = c .before .before .if1 .left in
     let n3 : c .before .before .before .item-kind .result ≡ 3 → ⊥ = λ (e : c .before .before .before .item-kind .result ≡ 3). omega arith in
     let n6 : c .before .before .before .item-kind .result ≡ 6 → ⊥ = λ (e : c .before .before .before .item-kind .result ≡ 6). omega arith in

@@ -224,7 +224,7 @@ item-length-returns-2 : (t : ℕ) → item-length-lts.Need-returns-2 (
   items-length-below t,
   items-length.Post,
 ) (item-length-at t) item-length.Post
-item-length-returns-2 t c =
+item-length-returns-2 t c = 
     let e = ap length (use-bytes (c .before .before .before .before .before .before .before .before .before .before .args .s .now) (c .before .before .before .before .before .before .before .before .before .before .args .place) (c .before .before .before .before .before .before .item-kind .result) (c .before .before .before .before .before .before .item-kind .ensures) (c .before .before .before .before .before .before .before .before .before .before .args .file .now) (c .before .before .before .before .before .before .before .before .before .before .args .depth) (c .before .before .before .before .if2 .taken)) in
     let u = ap length (use-form (c .before .before .before .before .before .before .before .before .before .before .args .s .now) (c .before .before .before .before .before .before .before .before .before .before .args .place) (c .before .before .before .before .before .before .before .before .before .before .args .file .now) (c .before .before .before .target-of .result) (c .before .before .before .target-of .ensures .0)) in
     let p : c .before .before .path-length .result ≡ length (counted string (pathBy (segmentsAt (c .before .before .before .before .before .before .before .before .before .before .args .s .now) (c .before .before .before .before .before .before .before .before .before .before .args .place)) (c .before .before .before .target-of .result))) = c .before .before .path-length .ensures .0 in
@@ -293,7 +293,7 @@ item-length-returns-3 : (t : ℕ) → item-length-lts.Need-returns-3 (
   items-length-below t,
   items-length.Post,
 ) (item-length-at t) item-length.Post
-item-length-returns-3 t c =
+item-length-returns-3 t c = 
     let e = ap length (named-bytes (c .before .before .before .before .before .before .before .before .args .s .now) (c .before .before .before .before .before .before .before .before .args .place) (c .before .before .before .before .item-kind .result) (c .before .before .before .before .item-kind .ensures) (c .before .before .before .before .before .before .before .before .args .file .now) (c .before .before .before .before .before .before .before .before .args .depth) (c .if3 .taken) (c .before .before .if2 .left) (c .before .before .before .if1 .left)) in
     let n = ap length (name-text (c .before .before .before .before .before .before .before .before .args .s .now) (c .before .before .before .before .before .before .before .before .args .place) (c .before .before .before .before .item-kind .result) (c .before .before .before .before .item-kind .ensures) (now (c .before .item-name .result)) (c .before .before .if2 .left) (c .before .before .before .if1 .left) (c .before .item-name .ensures)) in
     let b = text-short (c .before .before .before .before .before .before .before .before .args .s .now) (λ i. omega (arith, c .before .before .before .before .before .before .before .shared-slice-known .given i)) (c .before .before .before .before .before .before .before .before .args .place + 4) in
@@ -318,7 +318,7 @@ item-length-returns-4 : (t : ℕ) → item-length-lts.Need-returns-4 (
   items-length-below t,
   items-length.Post,
 ) (item-length-at t) item-length.Post
-item-length-returns-4 t c =
+item-length-returns-4 t c = 
     let e = ap length (flat-bytes (c .before .before .before .before .before .before .before .before .before .args .s .now) (c .before .before .before .before .before .before .before .before .before .args .place) (c .before .before .before .before .before .item-kind .result) (c .before .before .before .before .before .item-kind .ensures) (c .before .before .before .before .before .before .before .before .before .args .file .now) (c .before .before .before .before .before .before .before .before .before .args .depth) (c .before .if3 .left) (c .if4 .taken)) in
     let n = ap length (name-text (c .before .before .before .before .before .before .before .before .before .args .s .now) (c .before .before .before .before .before .before .before .before .before .args .place) (c .before .before .before .before .before .item-kind .result) (c .before .before .before .before .before .item-kind .ensures) (now (c .before .before .item-name .result)) (c .before .before .before .if2 .left) (c .before .before .before .before .if1 .left) (c .before .before .item-name .ensures)) in
     let b = text-short (c .before .before .before .before .before .before .before .before .before .args .s .now) (λ i. omega (arith, c .before .before .before .before .before .before .before .before .shared-slice-known .given i)) (c .before .before .before .before .before .before .before .before .before .args .place + 4) in
@@ -406,7 +406,7 @@ item-length-capped-requires-2 : (t : ℕ) → item-length-lts.Need-capped-requir
   items-length-below t,
   items-length.Post,
 ) (item-length-at t) item-length.Post
-item-length-capped-requires-2 t c κs =
+item-length-capped-requires-2 t c κs = 
     let n = ap length (name-text (c .before .before .before .before .before .before .before .before .before .before .before .args .s .now) (c .before .before .before .before .before .before .before .before .before .before .before .args .place) (c .before .before .before .before .before .before .before .item-kind .result) (c .before .before .before .before .before .before .before .item-kind .ensures) (now (c .before .before .before .before .item-name .result)) (c .before .before .before .before .before .if2 .left) (c .before .before .before .before .before .before .if1 .left) (c .before .before .before .before .item-name .ensures)) in
     let b = text-short (c .before .before .before .before .before .before .before .before .before .before .before .args .s .now) (λ i. omega (arith, c .before .before .before .before .before .before .before .before .before .before .shared-slice-known .given i)) (c .before .before .before .before .before .before .before .before .before .before .before .args .place + 4) in
     let m = c .items-length .ensures in
@@ -431,7 +431,7 @@ item-length-returns-5 : (t : ℕ) → item-length-lts.Need-returns-5 (
   items-length-below t,
   items-length.Post,
 ) (item-length-at t) item-length.Post
-item-length-returns-5 t c =
+item-length-returns-5 t c = 
     let e = ap length (module-bytes (c .before .before .before .before .before .before .before .before .before .before .before .before .args .s .now) (c .before .before .before .before .before .before .before .before .before .before .before .before .args .place) (c .before .before .before .before .before .before .before .before .item-kind .result) (c .before .before .before .before .before .before .before .before .item-kind .ensures) (c .before .before .before .before .before .before .before .before .before .before .before .before .args .file .now) (c .before .before .before .before .before .before .before .before .before .before .before .before .args .depth) (c .before .before .module-items .result .end) (c .before .before .module-items .result .at) (c .before .before .before .before .if3 .left) (c .before .before .before .if4 .left) (c .before .before .module-items .ensures .0)) in
     let n = ap length (name-text (c .before .before .before .before .before .before .before .before .before .before .before .before .args .s .now) (c .before .before .before .before .before .before .before .before .before .before .before .before .args .place) (c .before .before .before .before .before .before .before .before .item-kind .result) (c .before .before .before .before .before .before .before .before .item-kind .ensures) (now (c .before .before .before .before .before .item-name .result)) (c .before .before .before .before .before .before .if2 .left) (c .before .before .before .before .before .before .before .if1 .left) (c .before .before .before .before .before .item-name .ensures)) in
     let m : c .before .items-length .result ≡ min (length (itemsBytes (c .before .before .before .before .before .before .before .before .before .before .before .before .args .s .now) (c .before .before .before .before .before .before .before .before .before .before .before .before .args .file .now) (c .before .before .before .before .before .before .before .before .before .before .before .before .args .depth - 1) (c .before .before .module-items .result .end) (c .before .before .module-items .result .at))) 65536 = c .before .items-length .ensures in

@@ -32,7 +32,7 @@ add-result c = search needs
 
 -- src/lengths.rt:57:1
 returns : tie.Need-returns
-returns c =
+returns c = 
     let e = ap length (elements-form (c .before .before .before .before .args .s .now) (c .before .before .before .before .args .mark) (c .before .before .use-elements .result .first) (c .before .before .use-elements .result .count) (elements-read (c .before .before .before .before .args .s .now) (c .before .before .before .before .args .mark) (c .before .before .before .before .pre .kind) (c .before .before .use-elements .result .first) (c .before .before .use-elements .result .count) (c .before .before .use-elements .ensures .0))) in
     let n = c .before .before .use-elements .ensures .1 .1 in
     (omega arith, omega arith)

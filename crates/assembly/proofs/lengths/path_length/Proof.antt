@@ -71,7 +71,7 @@ returns c = let e = ap (λ t. length (counted string (pathBy (segmentsAt (c .bef
 
 -- src/lengths.rt:40:1
 returns-2 : tie.Need-returns-2
-returns-2 c =
+returns-2 c = 
     let w = subst (Within (segmentsAt (c .before .before .before .before .before .before .before .before .before .before .args .s .now) (c .before .before .before .before .before .before .before .before .before .before .args .mark))) (c .before .before .before .before .before .before .before .target .given .1) (c .before .before .before .before .before .before .before .before .before .before .pre .1) in
     let n = count-is (c .before .before .before .before .before .before .before .before .before .before .args .s .now) (c .before .before .before .before .before .before .before .before .before .before .args .mark) (c .before .before .before .before .before .use-segments .result .first) (c .before .before .before .before .before .use-segments .result .count) (c .before .before .before .before .before .before .before .target .given .0 .1 .0) (segments-read (c .before .before .before .before .before .before .before .before .before .before .args .s .now) (c .before .before .before .before .before .before .before .before .before .before .args .mark) (c .before .before .before .before .before .before .before .before .before .before .pre .0 .kind) (c .before .before .before .before .before .use-segments .result .first) (c .before .before .before .before .before .use-segments .result .count) (c .before .before .before .before .before .use-segments .ensures .0)) (w .0) in
     let k = c .before .before .before .before .before .use-segments .ensures .1 in

@@ -118,7 +118,7 @@ write-item-write-use-requires : (t : ℕ) → write-item-lts.Need-write-use-requ
   write-items-below t,
   write-items.Post,
 ) (write-item-at t) write-item.Post
-write-item-write-use-requires t c κs =
+write-item-write-use-requires t c κs = 
     let e = ap length (use-bytes (c .before .before .before .before .before .before .before .before .args .s .now) (c .before .before .before .before .before .before .before .before .args .place) (c .before .before .before .item-kind .result) (c .before .before .before .item-kind .ensures) (c .before .before .before .before .before .before .before .before .args .file .now) (c .before .before .before .before .before .before .before .before .args .depth) (c .before .if2 .taken)) in
     let r = c .before .before .before .before .before .before .before .before .pre .1 .1 .1 .0 in
     let h = c .before .before .before .before .before .before .before .before .pre .1 .1 .1 .1 in
@@ -165,7 +165,7 @@ write-item-returns-2 : (t : ℕ) → write-item-lts.Need-returns-2 (
   write-items-below t,
   write-items.Post,
 ) (write-item-at t) write-item.Post
-write-item-returns-2 t c =
+write-item-returns-2 t c = 
     let e = use-bytes (c .before .before .before .before .before .before .before .before .before .before .before .args .s .now) (c .before .before .before .before .before .before .before .before .before .before .before .args .place) (c .before .before .before .before .before .before .item-kind .result) (c .before .before .before .before .before .before .item-kind .ensures) (c .before .before .before .before .before .before .before .before .before .before .before .args .file .now) (c .before .before .before .before .before .before .before .before .before .before .before .args .depth) (c .before .before .before .before .if2 .taken) ∙ ap (λ (k : ℕ). headBytes (2 + length (useBytes (c .before .before .before .before .before .before .before .before .before .before .before .args .s .now) (c .before .before .before .before .before .before .before .before .before .before .before .args .file .now) (c .before .before .before .before .before .before .before .before .before .before .before .args .place))) k (byte (c .before .before .before .before .before .before .before .before .before .before .before .args .s .now) (c .before .before .before .before .before .before .before .before .before .before .before .args .place + 3)) ++ useBytes (c .before .before .before .before .before .before .before .before .before .before .before .args .s .now) (c .before .before .before .before .before .before .before .before .before .before .before .args .file .now) (c .before .before .before .before .before .before .before .before .before .before .before .args .place)) (c .before .before .before .before .if2 .taken) in
     let n = ap length e in
     let r : c .before .before .write-use .result ≡ 4 + length (useBytes (c .before .before .before .before .before .before .before .before .before .before .before .args .s .now) (c .before .before .before .before .before .before .before .before .before .before .before .args .file .now) (c .before .before .before .before .before .before .before .before .before .before .before .args .place)) = c .before .before .write-use .ensures .0 in
@@ -232,7 +232,7 @@ write-item-put-start-requires : (t : ℕ) → write-item-lts.Need-put-start-requ
   write-items-below t,
   write-items.Post,
 ) (write-item-at t) write-item.Post
-write-item-put-start-requires t c κs =
+write-item-put-start-requires t c κs = 
     let n = (name-text (c .before .before .before .before .before .before .before .before .before .before .args .s .now) (c .before .before .before .before .before .before .before .before .before .before .args .place) (c .before .before .before .before .before .item-kind .result) (c .before .before .before .before .before .item-kind .ensures) (now (c .item-name .result)) (c .before .before .before .if2 .left) (c .before .before .before .before .if1 .left) (c .item-name .ensures)) in
     let v = (visibility-at (c .before .before .before .before .before .before .before .before .before .before .args .s .now) (c .before .before .before .before .before .before .before .before .before .before .args .place) (c .before .before .item-visibility .result) (c .before .before .item-visibility .ensures)) in
     let kb = kind-byte (c .before .before .before .before .before .before .before .before .before .before .args .s .now) (c .before .before .before .before .before .before .before .before .before .before .args .place) (c .before .before .before .before .before .item-kind .result) (c .before .before .before .before .before .item-kind .ensures) in
@@ -715,7 +715,7 @@ write-items-write-item-requires : (t : ℕ) → write-items-lts.Need-write-item-
   next-item-reads.Asked,
   next-item-reads.Learnt,
 ) (write-items-at t) write-items.Post write-items-Inv-loop write-items-μ-loop
-write-items-write-item-requires t c κs =
+write-items-write-item-requires t c κs = 
     let r = filled-room _ _ _ _ _ (c .before .before .loop .inv .0) (c .before .before .loop .inv .1 .0) (itemBytes (c .before .before .before .before .before .before .before .args .s .now) (c .before .before .before .before .before .before .before .args .file .now) (c .before .before .before .before .before .before .before .args .depth) (c .before .before .loop .a)) (itemsBytes (c .before .before .before .before .before .before .before .args .s .now) (c .before .before .before .before .before .before .before .args .file .now) (c .before .before .before .before .before .before .before .args .depth) (c .before .before .before .before .before .before .before .args .end) (afterLength (c .before .before .before .before .before .before .before .args .s .now) (c .before .before .loop .a))) (bytes-step (c .before .before .before .before .before .before .before .args .s .now) (c .before .before .before .before .before .before .before .args .file .now) (c .before .before .before .before .before .before .before .args .depth) (c .before .before .before .before .before .before .before .args .end) (c .before .before .loop .a) (c .before .loop-test .taken)) in
     let l = filled-part _ _ _ _ _ (c .before .before .loop .inv .0) (c .before .before .loop .inv .1 .0) (itemBytes (c .before .before .before .before .before .before .before .args .s .now) (c .before .before .before .before .before .before .before .args .file .now) (c .before .before .before .before .before .before .before .args .depth) (c .before .before .loop .a)) (itemsBytes (c .before .before .before .before .before .before .before .args .s .now) (c .before .before .before .before .before .before .before .args .file .now) (c .before .before .before .before .before .before .before .args .depth) (c .before .before .before .before .before .before .before .args .end) (afterLength (c .before .before .before .before .before .before .before .args .s .now) (c .before .before .loop .a))) (bytes-step (c .before .before .before .before .before .before .before .args .s .now) (c .before .before .before .before .before .before .before .args .file .now) (c .before .before .before .before .before .before .before .args .depth) (c .before .before .before .before .before .before .before .args .end) (c .before .before .loop .a) (c .before .loop-test .taken)) in
     let h = c .before .before .before .before .before .before .before .pre .1 .1 .1 .1 in
@@ -728,7 +728,7 @@ write-items-add-sum : (t : ℕ) → write-items-lts.Need-add-sum (
   next-item-reads.Asked,
   next-item-reads.Learnt,
 ) (write-items-at t) write-items.Post write-items-Inv-loop write-items-μ-loop
-write-items-add-sum t c =
+write-items-add-sum t c = 
     let r = filled-room _ _ _ _ _ (c .before .before .before .before .before .loop .inv .0) (c .before .before .before .before .before .loop .inv .1 .0) (itemBytes (c .before .before .before .before .before .before .before .before .before .before .args .s .now) (c .before .before .before .before .before .before .before .before .before .before .args .file .now) (c .before .before .before .before .before .before .before .before .before .before .args .depth) (c .before .before .before .before .before .loop .a)) (itemsBytes (c .before .before .before .before .before .before .before .before .before .before .args .s .now) (c .before .before .before .before .before .before .before .before .before .before .args .file .now) (c .before .before .before .before .before .before .before .before .before .before .args .depth) (c .before .before .before .before .before .before .before .before .before .before .args .end) (afterLength (c .before .before .before .before .before .before .before .before .before .before .args .s .now) (c .before .before .before .before .before .loop .a))) (bytes-step (c .before .before .before .before .before .before .before .before .before .before .args .s .now) (c .before .before .before .before .before .before .before .before .before .before .args .file .now) (c .before .before .before .before .before .before .before .before .before .before .args .depth) (c .before .before .before .before .before .before .before .before .before .before .args .end) (c .before .before .before .before .before .loop .a) (c .before .before .before .before .loop-test .taken)) in
     let h = filled-start _ _ _ _ _ (c .before .before .before .before .before .loop .inv .0) (c .before .before .before .before .before .loop .inv .1 .0) in
     let l = lent-length (c .before .before .before .before .before .loop .out) (c .before .before .before .before .before .loop .sum) h in

@@ -30,7 +30,7 @@ slice-aggregate-put-string c = let n = c .before .before .before .unit-name .ens
 
 -- src/writing.rt:47:5
 put-string-requires : tie.Need-put-string-requires
-put-string-requires c κs =
+put-string-requires c κs = 
     let n = c .before .before .before .unit-name .ensures .1 in
     let m = c .before .before .before .unit-name .ensures .2 in
     let h : c .before .before .before .unit-name .result .len ≤ length (c .before .before .before .unit-name .result .bytes) = omega arith in

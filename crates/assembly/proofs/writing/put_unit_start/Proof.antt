@@ -32,7 +32,7 @@ slice-aggregate-put-start c = let n = c .before .before .before .unit-name .ensu
 
 -- src/writing.rt:234:5
 put-start-requires : tie.Need-put-start-requires
-put-start-requires c κs =
+put-start-requires c κs = 
     let n = c .before .before .before .unit-name .ensures .1 in
     let m = c .before .before .before .unit-name .ensures .2 in
     let h : c .before .before .before .unit-name .result .len ≤ length (c .before .before .before .unit-name .result .bytes) = omega arith in

@@ -49,7 +49,7 @@ item-visibility-requires c κs = search needs
 
 -- src/writing.rt:147:5
 put-head-requires : tie.Need-put-head-requires
-put-head-requires c κs =
+put-head-requires c κs = 
     let r : c .before .before .before .before .rewrite-use .result ≡ length (useBytes (c .before .before .before .before .before .before .before .before .before .before .args .s .now) (c .before .before .before .before .before .before .before .before .before .before .args .file .now) (c .before .before .before .before .before .before .before .before .before .before .args .place)) = c .before .before .before .before .rewrite-use .ensures .0 in
     let p = c .before .before .before .before .before .before .before .before .before .before .pre .1 .1 .1 in
     let q = c .before .before .before .before .before .before .before .before .before .before .pre .1 .1 .0 in
@@ -68,13 +68,11 @@ same-length c = search needs
 
 -- src/writing.rt:133:1
 returns : tie.Need-returns
-returns c =
+returns c = 
     let r : c .before .before .before .before .before .before .before .rewrite-use .result ≡ length (useBytes (c .before .before .before .before .before .before .before .before .before .before .before .before .before .args .s .now) (c .before .before .before .before .before .before .before .before .before .before .before .before .before .args .file .now) (c .before .before .before .before .before .before .before .before .before .before .before .before .before .args .place)) = c .before .before .before .before .before .before .before .rewrite-use .ensures .0 in
-    let v = visibility-at (c .before .before .before .before .before .before .before .before .before .before .before .before .before .args .s .now) (c .before .before .before .before .before .before .before .before .before .before .before .before .before .args .place) (c .before .before .before .item-visibility .result) (c .before .before .before .item-visibility .ensures) in (
-      ap (λ (n : ℕ). 4 + n) r,
-      put-whole (useBytes (c .before .before .before .before .before .before .before .before .before .before .before .before .before .args .s .now) (c .before .before .before .before .before .before .before .before .before .before .before .before .before .args .file .now) (c .before .before .before .before .before .before .before .before .before .before .before .before .before .args .place)) (now (c .before .before .before .before .before .before .before .before .before .before .before .before .before .args .out)) _ (c .before .before .put-head .last .0) (2 + c .before .before .before .before .before .before .before .rewrite-use .result) 3 (c .before .before .before .item-visibility .result) (let q = c .before .before .before .before .before .before .before .before .before .before .before .before .before .pre .1 .1 .0 in omega arith) (then-filled (take 4 (now (c .before .before .before .before .before .before .before .before .before .before .before .before .before .args .out))) (now (c .before .before .before .before .before .before .before .before .before .before .before .before .before .args .out)) (let l = length-take-le 4 (now (c .before .before .before .before .before .before .before .before .before .before .before .before .before .args .out)) (let q = c .before .before .before .before .before .before .before .before .before .before .before .before .before .pre .1 .1 .0 in omega arith) in omega arith) (useBytes (c .before .before .before .before .before .before .before .before .before .before .before .before .before .args .s .now) (c .before .before .before .before .before .before .before .before .before .before .before .before .before .args .file .now) (c .before .before .before .before .before .before .before .before .before .before .before .before .before .args .place)) (now (c .before .before .before .before .before .before .before .before .before .before .before .before .before .args .out)) (c .before .before .before .before .before .before .before .rewrite-use .last .1 .1 .1 .1 .1 .1 .1 .0) 4 (kept-start 4 (now (c .before .before .before .before .before .before .before .before .before .before .before .before .before .args .out)) (let q = c .before .before .before .before .before .before .before .before .before .before .before .before .before .pre .1 .1 .0 in omega arith)) (sym (length-take-le 4 (now (c .before .before .before .before .before .before .before .before .before .before .before .before .before .args .out)) (let q = c .before .before .before .before .before .before .before .before .before .before .before .before .before .pre .1 .1 .0 in omega arith))) (c .before .before .before .before .before .before .before .rewrite-use .ensures .1)) (c .before .before .put-head .ensures)
-          ∙ (ap (λ (n : ℕ). started (headBytes (2 + n) 3 (c .before .before .before .item-visibility .result) ++ (useBytes (c .before .before .before .before .before .before .before .before .before .before .before .before .before .args .s .now) (c .before .before .before .before .before .before .before .before .before .before .before .before .before .args .file .now) (c .before .before .before .before .before .before .before .before .before .before .before .before .before .args .place))) (now (c .before .before .before .before .before .before .before .before .before .before .before .before .before .args .out))) r ∙ ap (λ (n : ℕ). started (headBytes (2 + length (useBytes (c .before .before .before .before .before .before .before .before .before .before .before .before .before .args .s .now) (c .before .before .before .before .before .before .before .before .before .before .before .before .before .args .file .now) (c .before .before .before .before .before .before .before .before .before .before .before .before .before .args .place))) 3 n ++ (useBytes (c .before .before .before .before .before .before .before .before .before .before .before .before .before .args .s .now) (c .before .before .before .before .before .before .before .before .before .before .before .before .before .args .file .now) (c .before .before .before .before .before .before .before .before .before .before .before .before .before .args .place))) (now (c .before .before .before .before .before .before .before .before .before .before .before .before .before .args .out))) v),
-    )
+    let v = visibility-at (c .before .before .before .before .before .before .before .before .before .before .before .before .before .args .s .now) (c .before .before .before .before .before .before .before .before .before .before .before .before .before .args .place) (c .before .before .before .item-visibility .result) (c .before .before .before .item-visibility .ensures) in
+    (ap (λ (n : ℕ). 4 + n) r, put-whole (useBytes (c .before .before .before .before .before .before .before .before .before .before .before .before .before .args .s .now) (c .before .before .before .before .before .before .before .before .before .before .before .before .before .args .file .now) (c .before .before .before .before .before .before .before .before .before .before .before .before .before .args .place)) (now (c .before .before .before .before .before .before .before .before .before .before .before .before .before .args .out)) _ (c .before .before .put-head .last .0) (2 + c .before .before .before .before .before .before .before .rewrite-use .result) 3 (c .before .before .before .item-visibility .result) (let q = c .before .before .before .before .before .before .before .before .before .before .before .before .before .pre .1 .1 .0 in omega arith) (then-filled (take 4 (now (c .before .before .before .before .before .before .before .before .before .before .before .before .before .args .out))) (now (c .before .before .before .before .before .before .before .before .before .before .before .before .before .args .out)) (let l = length-take-le 4 (now (c .before .before .before .before .before .before .before .before .before .before .before .before .before .args .out)) (let q = c .before .before .before .before .before .before .before .before .before .before .before .before .before .pre .1 .1 .0 in omega arith) in omega arith) (useBytes (c .before .before .before .before .before .before .before .before .before .before .before .before .before .args .s .now) (c .before .before .before .before .before .before .before .before .before .before .before .before .before .args .file .now) (c .before .before .before .before .before .before .before .before .before .before .before .before .before .args .place)) (now (c .before .before .before .before .before .before .before .before .before .before .before .before .before .args .out)) (c .before .before .before .before .before .before .before .rewrite-use .last .1 .1 .1 .1 .1 .1 .1 .0) 4 (kept-start 4 (now (c .before .before .before .before .before .before .before .before .before .before .before .before .before .args .out)) (let q = c .before .before .before .before .before .before .before .before .before .before .before .before .before .pre .1 .1 .0 in omega arith)) (sym (length-take-le 4 (now (c .before .before .before .before .before .before .before .before .before .before .before .before .before .args .out)) (let q = c .before .before .before .before .before .before .before .before .before .before .before .before .before .pre .1 .1 .0 in omega arith))) (c .before .before .before .before .before .before .before .rewrite-use .ensures .1)) (c .before .before .put-head .ensures)
+    ∙ (ap (λ (n : ℕ). started (headBytes (2 + n) 3 (c .before .before .before .item-visibility .result) ++ (useBytes (c .before .before .before .before .before .before .before .before .before .before .before .before .before .args .s .now) (c .before .before .before .before .before .before .before .before .before .before .before .before .before .args .file .now) (c .before .before .before .before .before .before .before .before .before .before .before .before .before .args .place))) (now (c .before .before .before .before .before .before .before .before .before .before .before .before .before .args .out))) r ∙ ap (λ (n : ℕ). started (headBytes (2 + length (useBytes (c .before .before .before .before .before .before .before .before .before .before .before .before .before .args .s .now) (c .before .before .before .before .before .before .before .before .before .before .before .before .before .args .file .now) (c .before .before .before .before .before .before .before .before .before .before .before .before .before .args .place))) 3 n ++ (useBytes (c .before .before .before .before .before .before .before .before .before .before .before .before .before .args .s .now) (c .before .before .before .before .before .before .before .before .before .before .before .before .before .args .file .now) (c .before .before .before .before .before .before .before .before .before .before .before .before .before .args .place))) (now (c .before .before .before .before .before .before .before .before .before .before .before .before .before .args .out))) v))
 
 pub write-use-spec : {M : Type 1} → statement M
 write-use-spec =

@@ -1,0 +1,234 @@
+-- From the answer of steps 3 and 4 to that of the operation. Assumes nothing.
+use Prim.Native.Nat.{ℕ, zero, suc, _+_, _≤_, _<_}
+use native.Mathlib.Omega.{arith}
+use mathlib.Core.Path.{_≡_, refl, sym, ap, subst, _∙_}
+use mathlib.Core.List.{List, [], _∷_, _++_, map, List·Memᴰ}
+use lib.ListN.{length, take, drop, length-append, length-map, replicate}
+use lib.Seq.{take-at}
+use Rattle.bundle.specs.Bundle.{Text, Items, File, Bundle}
+use Rattle.bundle.specs.Limits.{file-limit}
+use Rattle.bundle.specs.Decode.{decode}
+use Rattle.bundle.specs.Read.{Reading, value, refused, verdict, read}
+use Rattle.bundle.specs.Theorems.{accepted, told}
+use Rattle.bundle.specs.declared.Checked.{Checked}
+use Rattle.bundle.specs.declared.Checked.the-variants.{Ok, Refused}
+use Rattle.resolution.specs.Call.{position}
+use Rattle.discovery.specs.Discovery.{Fault, pathsOf}
+use Rattle.discovery.specs.Meaning.{faultsIn}
+use Rattle.discovery.specs.Facts.{pigeons, pathsAt}
+use Rattle.discovery.specs.Right.{discovered}
+use Rattle.discovery.specs.Room.{checked-roomy}
+use Rattle.order.specs.Run.{linked, ordered, unitsOf, filesOf}
+use Rattle.order.specs.Run as order
+use Rattle.order.specs.Call.{padded, unitFiles, orderAnswer, orderReport}
+use Rattle.order.specs.Call as call
+use Rattle.order.specs.Report.{Record, fault, lentReport, reporting, nothing-lent}
+use Rattle.order.specs.Report as report
+use Rattle.order.specs.Writing.{faultRecords}
+use Rattle.order.specs.Theorems.{first-half}
+use Rattle.order.specs.declared.Answer as ordering
+use Rattle.order.specs.declared.Reported.{Reported}
+use Rattle.order.specs.declared.Reported.the-variants as reported
+use Rattle.assembly.specs.Assemble.{Outcome, faulty, closed, program, assembled, assemblyFaults, step5, assembleAfter, linearizeAndAssemble}
+use Rattle.assembly.specs.Image.{imaging, lentImage}
+use Rattle.assembly.specs.Call.{recordsOf, telling, reportedTo, imagedTo, answering, imageAfter, answerTo, reportTo, imageTo, assembleAnswer, assembleReport, assembleImage}
+use Rattle.assembly.specs.Faults.{zero-last}
+use Rattle.assembly.specs.Linked.{Units, Linked}
+use Rattle.assembly.specs.declared.Answer.{Answer}
+use Rattle.assembly.specs.declared.Imaged.{Imaged}
+
+-- what is due of an answer and of both buffers
+abbrev pub Due : (s report₀ image₀ report₁ image₁ : List ℕ) → Answer → Type 0
+Due s report₀ image₀ report₁ image₁ a =
+    (a ≡ assembleAnswer s report₀ image₀) × ((report₁ ≡ assembleReport s report₀) × (image₁ ≡ assembleImage s image₀))
+
+-- AS MANY IDS AS UNITS
+paths-length : (l : List Text) (ids : List ℕ) → length (pathsAt l ids) ≡ length ids
+unfolding pathsAt
+paths-length l [] = refl
+paths-length l (u ∷ ids) = ap suc (paths-length l ids)
+
+module _ (b : Bundle) (some : 0 < length (b .files)) (o : List ℕ) (e : ordered b ≡ linked o) where
+  order-count : length o ≡ length (unitsOf b)
+  order-count =
+      let h = first-half b some .order o e in
+      let d = discovered b in
+      let x = pigeons (h .once) (unitsOf b) (λ f m. d .complete f (h .sound f m)) in
+      let y = pigeons (d .once) (filesOf b o) (λ f m. h .complete f (d .sound f m)) in
+      let z = paths-length (unitsOf b) o in
+      omega arith
+
+  some-unit : 0 < length (unitsOf b)
+  some-unit =
+      let z = zero-last b o e in
+      let c = order-count in
+      omega (arith, ap length (z .is), length-append (z .before) (0 ∷ []))
+
+padded-take : (l : List ℕ) (n : ℕ) → length l ≡ n → take n (padded l) ≡ l
+padded-take l n h = take-at l (drop (length l) (replicate file-limit 0)) n h
+
+padded-long : (l : List ℕ) → length l ≤ length (padded l)
+padded-long l = omega (arith, length-append l (drop (length l) (replicate file-limit 0)))
+
+faults-counted : (i : ℕ) (ns ps : List ℕ) → i ≤ length ns → i ≤ length ps → length (faultsIn (take i ns) (take i ps)) ≡ i
+unfolding faultsIn
+faults-counted zero ns ps h k = refl
+faults-counted (suc i) [] ps h k = absurd (omega arith)
+faults-counted (suc i) (n ∷ ns) [] h k = absurd (omega arith)
+faults-counted (suc i) (n ∷ ns) (p ∷ ps) h k = let e = faults-counted i ns ps (omega arith) (omega arith) in omega arith
+
+-- BOTH OPERATIONS, by the check's answer
+module _ (s out img : List ℕ) where
+  abbrev b : Bundle
+  b = decode s
+
+  module _ (n p : ℕ) (v : verdict s ≡ Refused n p) where
+    order-refused : (orderAnswer s out ≡ call.refusing n p) × (orderReport s out ≡ out)
+    unfolding orderAnswer orderReport
+    order-refused = let r = told s n p v in rw r (refl, refl)
+
+    assemble-refused : (assembleAnswer s out img ≡ telling n p 0) × ((assembleReport s out ≡ out) × (assembleImage s img ≡ img))
+    unfolding assembleAnswer assembleReport assembleImage
+    assemble-refused = let r = told s n p v in rw r (refl, (refl, refl))
+
+  module _ (v : verdict s ≡ Ok) where
+    order-read : (orderAnswer s out ≡ call.answering (unitFiles b) (length out) (ordered b)) × (orderReport s out ≡ lentReport (report.recordsOf (ordered b)) out)
+    unfolding orderAnswer orderReport
+    order-read = let r = accepted s v in rw r (refl, refl)
+
+    assemble-read : (assembleAnswer s out img ≡ answering (unitFiles b) (length out) (length img) (linearizeAndAssemble b))
+        × ((assembleReport s out ≡ lentReport (recordsOf (linearizeAndAssemble b)) out) × (assembleImage s img ≡ imageAfter (linearizeAndAssemble b) img))
+    unfolding assembleAnswer assembleReport assembleImage
+    assemble-read = let r = accepted s v in rw r (refl, (refl, refl))
+
+    after-order : (x : order.Outcome) → ordered b ≡ x → linearizeAndAssemble b ≡ assembleAfter b x
+    unfolding linearizeAndAssemble
+    after-order x e = ap (assembleAfter b) e
+
+  -- no answer that tells something has units
+  report-units : (x : Reported) → call.reportedTo x .units ≡ 0
+  report-units (reported.Report n) = refl
+  report-units (reported.Refused n p) = refl
+
+  same-report : (x : Reported) → telling (call.reportedTo x .number) (call.reportedTo x .place) (call.reportedTo x .report) ≡ reportedTo x
+  same-report (reported.Report n) = refl
+  same-report (reported.Refused n p) = refl
+
+  module _ (a : ordering.Answer) (rep : List ℕ) (is : a ≡ orderAnswer s out) (lent : rep ≡ orderReport s out) where
+    abbrev answer : Answer
+    answer = telling (a .number) (a .place) (a .report)
+
+    -- WHERE THERE ARE NO UNITS the answer of steps 3 and 4 is the answer
+    told-refused : (n p : ℕ) → verdict s ≡ Refused n p → Due s out img rep img answer
+    told-refused n p v =
+        let x = order-refused n p v in
+        let y = assemble-refused n p v in
+        let e = is ∙ x .0 in
+        (ap (λ (z : ordering.Answer). telling (z .number) (z .place) (z .report)) e ∙ sym (y .0), (lent ∙ (x .1 ∙ sym (y .1 .0)), sym (y .1 .1)))
+
+    module _ (v : verdict s ≡ Ok) where
+      -- with an outcome of steps 3 and 4 that leaves one of step 5 with the same records and no image
+      told-outcome : (x : order.Outcome) (r : Reported) → ordered b ≡ x → call.answering (unitFiles b) (length out) x ≡ call.reportedTo r
+          → answering (unitFiles b) (length out) (length img) (assembleAfter b x) ≡ reportedTo r → report.recordsOf x ≡ recordsOf (assembleAfter b x) → img ≡ imageAfter (assembleAfter b x) img
+          → Due s out img rep img answer
+      told-outcome x r e f g h k =
+          let o = order-read v in
+          let m = assemble-read v in
+          let l = after-order v x e in
+          let q : a ≡ call.reportedTo r = is ∙ (o .0 ∙ (ap (call.answering (unitFiles b) (length out)) e ∙ f)) in (
+            ap (λ (z : ordering.Answer). telling (z .number) (z .place) (z .report)) q ∙ (same-report r ∙ (sym g ∙ (ap (answering (unitFiles b) (length out) (length img)) (sym l) ∙ sym (m .0)))),
+            (
+              lent ∙ (o .1 ∙ (ap (λ (z : order.Outcome). lentReport (report.recordsOf z) out) e ∙ (ap (λ (z : List Record). lentReport z out) h ∙ (ap (λ (z : Outcome). lentReport (recordsOf z) out) (sym l) ∙ sym (m .1 .0))))),
+              k ∙ (ap (λ (z : Outcome). imageAfter z img) (sym l) ∙ sym (m .1 .1)),
+            ),
+          )
+
+      told-read : (x : order.Outcome) → ordered b ≡ x → a .units ≡ 0 → Due s out img rep img answer
+      told-read (order.faulty l) e h = told-outcome (order.faulty l) (reporting (map fault l) (length out)) e refl refl refl refl
+      told-read (order.closed r) e h = told-outcome (order.closed r) (reporting (report.ring r ∷ []) (length out)) e refl refl refl refl
+      told-read (order.linked o) e h =
+          let n = some-unit b (checked-roomy s v .some) o e in
+          let l = length-map (unitsOf b) (λ p. position p (pathsOf b)) in
+          let q = ap (λ (z : ordering.Answer). z .units) (is ∙ (order-read v .0 ∙ ap (call.answering (unitFiles b) (length out)) e)) in
+          absurd (omega arith)
+
+      -- WHERE THERE ARE, they are linked
+      linked-read : (x : order.Outcome) → ordered b ≡ x → (a .units ≡ 0 → ⊥) → Linked s (a .files) (a .ids) (a .units) × (rep ≡ out)
+      linked-read (order.faulty l) e h =
+          absurd (h (ap (λ (z : ordering.Answer). z .units) (is ∙ (order-read v .0 ∙ ap (call.answering (unitFiles b) (length out)) e)) ∙ report-units (reporting (map fault l) (length out))))
+      linked-read (order.closed r) e h =
+          absurd (h (ap (λ (z : ordering.Answer). z .units) (is ∙ (order-read v .0 ∙ ap (call.answering (unitFiles b) (length out)) e)) ∙ report-units (reporting (report.ring r ∷ []) (length out))))
+      linked-read (order.linked o) e h =
+          let q : a ≡ call.linking (unitFiles b) (padded o) = is ∙ (order-read v .0 ∙ ap (call.answering (unitFiles b) (length out)) e) in
+          let c = order-count b (checked-roomy s v .some) o e in
+          let l = length-map (unitsOf b) (λ p. position p (pathsOf b)) in
+          let f = padded-take (unitFiles b) (length (unitFiles b)) refl in
+          let g = padded-take o (length (unitFiles b)) (omega arith) in
+          let k = padded-long (unitFiles b) in
+          let m = padded-long o in
+          let t : Linked s (call.linking (unitFiles b) (padded o) .files) (call.linking (unitFiles b) (padded o) .ids) (call.linking (unitFiles b) (padded o) .units) = record {
+            of-units = record { checked = v; files-are = f; fits = k };
+            order = e ∙ ap linked (sym g);
+            ids-fit = omega arith;
+          } in
+          (subst (λ (z : ordering.Answer). Linked s (z .files) (z .ids) (z .units)) (sym q) t, lent ∙ (order-read v .1 ∙ (ap (λ (z : order.Outcome). lentReport (report.recordsOf z) out) e ∙ nothing-lent out)))
+
+    pub no-units : a .units ≡ 0 → Due s out img rep img answer
+    no-units h = go (verdict s) refl
+      where
+        go : (c : Checked) → verdict s ≡ c → Due s out img rep img answer
+        go (Refused n p) v = told-refused n p v
+        go Ok v = told-read v (ordered b) refl h
+
+    pub units-linked : (a .units ≡ 0 → ⊥) → Linked s (a .files) (a .ids) (a .units) × (rep ≡ out)
+    units-linked h = go (verdict s) refl
+      where
+        go : (c : Checked) → verdict s ≡ c → Linked s (a .files) (a .ids) (a .units) × (rep ≡ out)
+        go (Refused n p) v = absurd (h (ap (λ (z : ordering.Answer). z .units) (is ∙ order-refused n p v .0)))
+        go Ok v = linked-read v (ordered b) refl h
+
+    -- STEP 5 of linked units
+    module _ (x : Linked s (a .files) (a .ids) (a .units)) where
+      abbrev o : List ℕ
+      o = take (a .units) (a .ids)
+
+      ok : verdict s ≡ Ok
+      ok = x .of-units .checked
+
+      step5-is : linearizeAndAssemble b ≡ step5 (assemblyFaults b o) o (assembled b o)
+      step5-is = after-order ok (linked o) (x .order)
+
+      told-faults : (fs : List Fault) → 0 < length fs → assemblyFaults b o ≡ fs → linearizeAndAssemble b ≡ faulty fs
+      told-faults [] h e = absurd (omega arith)
+      told-faults (f ∷ fs) h e = step5-is ∙ ap (λ (l : List Fault). step5 l o (assembled b o)) e
+
+      pub faults-told : (numbers places report₂ : List ℕ) (count : ℕ) (r : Reported) (d : Answer) → count ≤ length numbers → count ≤ length places → 0 < count
+          → faultsIn (take count numbers) (take count places) ≡ assemblyFaults b o
+          → r ≡ reporting (faultRecords numbers places count) (length out) → d ≡ reportedTo r → report₂ ≡ lentReport (faultRecords numbers places count) out
+          → Due s out img report₂ img d
+      faults-told numbers places report₂ count r d hn hp some f e g k =
+          let n = faults-counted count numbers places hn hp in
+          let q = told-faults (faultsIn (take count numbers) (take count places)) (omega arith) (sym f) in
+          let m = assemble-read ok in (
+            g ∙ (ap reportedTo e ∙ (ap (answering (unitFiles b) (length out) (length img)) (sym q) ∙ sym (m .0))),
+            (k ∙ (ap (λ (z : Outcome). lentReport (recordsOf z) out) (sym q) ∙ sym (m .1 .0)), ap (λ (z : Outcome). imageAfter z img) (sym q) ∙ sym (m .1 .1)),
+          )
+
+      pub image-told : (numbers places image₂ : List ℕ) (count : ℕ) (r : Imaged) (d : Answer) → count ≡ 0 → faultsIn (take count numbers) (take count places) ≡ assemblyFaults b o
+          → r ≡ imaging (assembled b o) (length img) → d ≡ imagedTo (a .units) (a .files) (a .ids) r → image₂ ≡ lentImage (assembled b o) img → rep ≡ out
+          → Due s out img rep image₂ d
+      unfolding faultsIn
+      image-told numbers places image₂ count r d z f e g k same =
+          let none : assemblyFaults b o ≡ [] = sym f ∙ ap (λ (n : ℕ). faultsIn (take n numbers) (take n places)) z in
+          let q : linearizeAndAssemble b ≡ program o (assembled b o) = step5-is ∙ ap (λ (l : List Fault). step5 l o (assembled b o)) none in
+          let m = assemble-read ok in
+          let t : a ≡ call.linking (unitFiles b) (padded o) = is ∙ (order-read ok .0 ∙ ap (call.answering (unitFiles b) (length out)) (x .order)) in (
+            g
+            ∙ (ap (imagedTo (a .units) (a .files) (a .ids)) e
+            ∙ (ap (λ (y : ordering.Answer). imagedTo (y .units) (y .files) (y .ids) (imaging (assembled b o) (length img))) t
+            ∙ (ap (answering (unitFiles b) (length out) (length img)) (sym q) ∙ sym (m .0)))),
+            (
+              same ∙ (sym (nothing-lent out) ∙ (ap (λ (y : Outcome). lentReport (recordsOf y) out) (sym q) ∙ sym (m .1 .0))),
+              k ∙ (ap (λ (y : Outcome). imageAfter y img) (sym q) ∙ sym (m .1 .1)),
+            ),
+          )
