@@ -4,3 +4,4 @@ pub mod Call
 pub mod Steps
 pub mod Fit
 pub mod Units
+pub mod Join

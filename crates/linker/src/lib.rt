@@ -4,8 +4,8 @@ mod units;
 mod walk;
 
 ghost use mathlib.Core.Path.{_≡_};
+ghost use Rattle.linker.specs.Call.{linkAnswer, linkReport, linkImage, LinkTree};
 use assembly::Answer;
-use assembly::Imaged;
 use scopes::Tree;
 
 // Where a walk ended: 0, or the number and the place of the call that was refused.
@@ -29,18 +29,20 @@ pub struct Linked {
 
 // A bundle linked: 1 to 13 of the bundle; the report of discovery's faults, of a ring or of step 5's faults, or 14 where it exceeds the
 // lent buffer; 40 to 51 with the mark of the item that step 6 ends at; 15, then 14 of the image; or the units, their order, the image
-// and the tree.
-pub fn link(s: &[u8], report: &mut [u8], image: &mut [u8], tree: Tree) -> Linked {
+// and the tree. Ruled out: an image written where step 6 refuses a use; a tree without what an imported file declares.
+pub fn link(s: &[u8], report: &mut [u8], image: &mut [u8], tree: Tree) -> Linked
+    ensures { λ r. ⌜ r .answer ≡ linkAnswer (now (s .entry)) (now (report .entry)) (now (image .entry)) ⌝ }
+    ensures { λ r. ⌜ now (report .exit) ≡ linkReport (now (s .entry)) (now (report .entry)) ⌝ }
+    ensures { λ r. ⌜ now (image .exit) ≡ linkImage (now (s .entry)) (now (image .entry)) ⌝ }
+    ensures { λ r. ⌜ LinkTree (now (s .entry)) (now (image .entry)) tree (r .tree) ⌝ }
+{
     let a = order::order(s, report);
-    if a.number != 0 {
-        return answers::refuse(a.number, a.place, tree);
-    }
-    if a.report != 0 {
-        return answers::report(a.report, tree);
+    let count = a.units;
+    if count == 0 {
+        return answers::told(a.number, a.place, a.report, tree);
     }
     let files = a.files;
     let ids = a.ids;
-    let count = a.units;
     let f = assembly::assembly_faults(s, &files, &ids, count);
     let faults = f.count;
     if faults > 0 {
@@ -51,7 +53,7 @@ pub fn link(s: &[u8], report: &mut [u8], image: &mut [u8], tree: Tree) -> Linked
     }
     let w = units::walk_program(s, &files, &ids, count);
     if w.number != 0 {
-        return answers::refuse(w.number, w.place, tree);
+        return answers::told(w.number, w.place, 0, tree);
     }
     let made = w.tree;
     let written = assembly::write_image(s, &files, &ids, count, image);
