@@ -1,3 +1,4 @@
+use mathlib.Core.Path.{refl}
 use borrow.Author.Needs.{needs}
 use Rattle.linker.proofs.answers.imaged.Statement.{statement}
 use Rattle.linker.proofs.answers.imaged.Tie as tie
@@ -19,11 +20,11 @@ enum-known-r-2 c = search needs
 
 -- src/answers.rt:39:1
 returns : tie.Need-returns
-returns c = ?
+returns c = rw (c .before .before .r .given .1) (c .told .ensures)
 
 -- src/answers.rt:39:1
 returns-2 : tie.Need-returns-2
-returns-2 c = ?
+returns-2 c = rw (c .before .r2 .given .1) refl
 
 pub imaged-spec : {M : Type 1} → statement M
 imaged-spec = tie.close (tie.spec enum-known-r told-requires enum-known-r-2 returns returns-2)

@@ -23,11 +23,11 @@ told-requires-2 c κs = search needs
 
 -- src/answers.rt:29:1
 returns : tie.Need-returns
-returns c = ?
+returns c = rw (c .before .before .r .given .1) (c .told .ensures)
 
 -- src/answers.rt:29:1
 returns-2 : tie.Need-returns-2
-returns-2 c = ?
+returns-2 c = rw (c .before .before .r2 .given .1) (c .told2 .ensures)
 
 pub reported-spec : {M : Type 1} → statement M
 reported-spec =
