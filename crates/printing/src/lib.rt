@@ -1,11 +1,9 @@
 // Document 01's printed lines: what the linker answers to a bundle, on standard output.
-ghost use Prim.Native.Nat.{_<_, _≤_};
+ghost use Prim.Native.Nat.{_+_, _<_, _≤_};
 ghost use lib.ListN.{length};
 use scopes::Tree;
 
 const RING: u8 = 26;
-
-const MODULE: u64 = 3;
 
 // The longest report: 1,025 faults. The longest image.
 const REPORT: usize = 4096;
@@ -112,8 +110,8 @@ fn tell_units<'a>(s: &'a [u8], files: &'a [usize], ids: &'a [u16], units: usize)
 }
 
 // Eight bytes, big-endian.
-fn put_word(out: &mut [u8; 32], at: usize, w: u64)
-    requires { ⌜ at ≤ 24 ⌝ }
+fn put_word(out: &mut [u8], at: usize, w: u64)
+    requires { ⌜ at + 8 ≤ length (now out) ⌝ }
 {
     let mut rest = w;
     let mut i = 8;
@@ -166,6 +164,17 @@ fn tell_module<'a>(
     }
 }
 
+// An entry's kind, name and mark, and the line's end.
+fn tell_entry(kind: u8, w0: u64, w1: u64, w2: u64, w3: u64, mark: u16) {
+    io::write_all(1, b" ");
+    io::print_decimal(1, wide(kind));
+    io::write_all(1, b" ");
+    tell_name(w0, w1, w2, w3);
+    io::write_all(1, b" ");
+    io::print_decimal(1, index(mark) as u64);
+    io::write_all(1, b"\n");
+}
+
 // The entries in the order made; units are not shown.
 fn tell_tree(t: Tree) {
     let mut i = 0;
@@ -175,13 +184,7 @@ fn tell_tree(t: Tree) {
             if scope > 0 {
                 io::write_all(1, b"has ");
                 tell_module(&t.scopes, &t.n0, &t.n1, &t.n2, &t.n3, scope);
-                io::write_all(1, b" ");
-                io::print_decimal(1, wide(t.kinds[i]));
-                io::write_all(1, b" ");
-                tell_name(t.n0[i], t.n1[i], t.n2[i], t.n3[i]);
-                io::write_all(1, b" ");
-                io::print_decimal(1, t.marks[i] as u64);
-                io::write_all(1, b"\n");
+                tell_entry(t.kinds[i], t.n0[i], t.n1[i], t.n2[i], t.n3[i], t.marks[i]);
             }
         }
         i += 1;
