@@ -3,7 +3,7 @@
 ghost use Prim.Native.Nat.{_<_, _^_};
 
 // No bundle that is longer is stored.
-const SIZE: usize = 262144;
+const SIZE: usize = 131072;
 
 fn wide(b: u8) -> usize
     ensures { λ r. ⌜ r < 256 ⌝ }
@@ -17,24 +17,40 @@ fn length_of(head: [u8; 4]) -> usize
     ((wide(head[0]) * 256 + wide(head[1])) * 256 + wide(head[2])) * 256 + wide(head[3])
 }
 
-fn main() {
-    let mut buffer = [0u8; SIZE];
+// So many bytes, where there is room for them.
+fn read_some(buffer: &mut [u8], n: usize) -> usize {
+    if n <= buffer.len() {
+        return io::read_full(0, &mut buffer[..n]);
+    }
+    0
+}
+
+// The next bundle; false where there is none.
+fn next() -> bool {
     let mut head = [0u8; 4];
-    let mut i = 0;
+    let k = io::read_full(0, &mut head);
+    if k < 4 {
+        return false;
+    }
+    let f = length_of(head);
+    if f > SIZE {
+        return false;
+    }
+    let mut buffer = [0u8; SIZE];
+    let n = read_some(&mut buffer, f);
+    let s = lines::part(&buffer, 0, n);
+    printing::tell(s);
+    printing::tell_image(s);
+    io::write_all(1, b"--\n");
+    true
+}
+
+fn main() {
+    let mut i: usize = 0;
     while i < 10000000 {
-        let k = io::read_full(0, &mut head);
-        if k < 4 {
+        if next() {} else {
             return;
         }
-        let f = length_of(head);
-        if f > SIZE {
-            return;
-        }
-        let n = io::read_full(0, &mut buffer[..f]);
-        let s = lines::part(&buffer, 0, n);
-        printing::tell(s);
-        printing::tell_image(s);
-        io::write_all(1, b"--\n");
         i += 1;
     }
 }
