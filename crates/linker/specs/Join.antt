@@ -1,0 +1,208 @@
+-- From the answers of the layers to that of the operation. Assumes nothing.
+use Prim.Native.Nat.{ℕ, zero, suc, _+_, _≤_, _<_}
+use native.Mathlib.Omega.{arith}
+use mathlib.Core.Path.{_≡_, refl, sym, ap, subst, _∙_}
+use mathlib.Core.Bool.{Bool, true, false, cond}
+use mathlib.Core.List.{List, [], _∷_, _++_, map}
+use lib.Dec.{eqb}
+use lib.ListN.{length, take, length-append, length-map}
+use borrow.Author.Tests.{eq-eqb, ne-eqb}
+use Rattle.bundle.specs.Bundle.{Text, Items, Bundle}
+use Rattle.bundle.specs.Decode.{decode}
+use Rattle.bundle.specs.Read.{verdict, read}
+use Rattle.bundle.specs.Theorems.{accepted, told}
+use Rattle.bundle.specs.declared.Checked.{Checked}
+use Rattle.bundle.specs.declared.Checked.the-variants.{Ok, Refused}
+use Rattle.resolution.specs.Call.{position}
+use Rattle.discovery.specs.Discovery.{Fault, pathsOf}
+use Rattle.discovery.specs.Meaning.{faultsIn}
+use Rattle.discovery.specs.Facts.{pigeons, pathsAt}
+use Rattle.discovery.specs.Right.{discovered}
+use Rattle.discovery.specs.Room.{checked-roomy}
+use Rattle.order.specs.Run.{ordered, unitsOf, filesOf}
+use Rattle.order.specs.Run as order
+use Rattle.order.specs.Call.{padded, unitFiles, orderAnswer, orderReport}
+use Rattle.order.specs.Call as call
+use Rattle.order.specs.Report.{Record, fault, ring, lentReport, reporting, nothing-lent}
+use Rattle.order.specs.Report as report
+use Rattle.order.specs.Writing.{faultRecords}
+use Rattle.order.specs.Theorems.{first-half}
+use Rattle.order.specs.declared.Answer as ordering
+use Rattle.order.specs.declared.Reported.{Reported}
+use Rattle.order.specs.declared.Reported.the-variants as reported
+use Rattle.scopes.specs.Flat.{Flat}
+use Rattle.scopes.specs.Trees.{Good, flat-of}
+use Rattle.scopes.specs.declared.Tree.{Tree}
+use Rattle.assembly.specs.Assemble.{assembled, assemblyFaults, step5, assembleAfter, linearizeAndAssemble}
+use Rattle.assembly.specs.Assemble as assembly
+use Rattle.assembly.specs.Image.{imaging, lentImage}
+use Rattle.assembly.specs.Call.{telling, reportedTo, imagedTo}
+use Rattle.assembly.specs.Faults.{zero-last}
+use Rattle.assembly.specs.Linked as units
+use Rattle.assembly.specs.declared.Answer.{Answer}
+use Rattle.assembly.specs.declared.Imaged.{Imaged}
+use Rattle.assembly.specs.declared.Imaged.the-variants as imaged
+use Rattle.linker.specs.Scopes.{Walked, done, stopped, scopeWalk}
+use Rattle.linker.specs.Link.{Outcome, faulty, closed, ended, linked, step6, linkAfter, linkBundle}
+use Rattle.linker.specs.Call.{recordsOf, answering, imageAfter, TreeOf, TreeWith, TreeAfter, linkAnswer, linkReport, linkImage, LinkTree}
+use Rattle.linker.specs.Steps.{reached}
+use Rattle.linker.specs.Units.{ScopedAs}
+use Rattle.linker.specs.declared.Linked.{Linked}
+use Rattle.linker.specs.declared.Scoped.{Scoped}
+
+-- which tree comes back with an image
+abbrev pub treeBy : Imaged → Tree → Tree → Tree
+treeBy (imaged.Image n) made given = made
+treeBy (imaged.Refused n p) made given = given
+
+-- what is due of an answer, of both buffers and of the tree
+abbrev pub Due : (s report₀ image₀ : List ℕ) → Tree → (report₁ image₁ : List ℕ) → Linked → Type 0
+Due s report₀ image₀ t report₁ image₁ x =
+    (x .answer ≡ linkAnswer s report₀ image₀) × ((report₁ ≡ linkReport s report₀) × ((image₁ ≡ linkImage s image₀) × LinkTree s image₀ t (x .tree)))
+
+-- A LINKED ORDER HAS A UNIT
+paths-length : (l : List Text) (ids : List ℕ) → length (pathsAt l ids) ≡ length ids
+unfolding pathsAt
+paths-length l [] = refl
+paths-length l (u ∷ ids) = ap suc (paths-length l ids)
+
+some-unit : (b : Bundle) → 0 < length (b .files) → (o : List ℕ) → ordered b ≡ order.linked o → 0 < length (unitsOf b)
+some-unit b some o e =
+    let h = first-half b some .order o e in
+    let d = discovered b in
+    let x = pigeons (h .once) (unitsOf b) (λ f m. d .complete f (h .sound f m)) in
+    let z = paths-length (unitsOf b) o in
+    let l = zero-last b o e in
+    omega (arith, ap length (l .is), length-append (l .before) (0 ∷ []))
+
+faults-counted : (i : ℕ) (ns ps : List ℕ) → i ≤ length ns → i ≤ length ps → length (faultsIn (take i ns) (take i ps)) ≡ i
+unfolding faultsIn
+faults-counted zero ns ps h k = refl
+faults-counted (suc i) [] ps h k = absurd (omega arith)
+faults-counted (suc i) (n ∷ ns) [] h k = absurd (omega arith)
+faults-counted (suc i) (n ∷ ns) (p ∷ ps) h k = let e = faults-counted i ns ps (omega arith) (omega arith) in omega arith
+
+module _ (s out img : List ℕ) (t : Tree) where
+  abbrev b : Bundle
+  b = decode s
+
+  -- BY THE OUTCOME of a bundle that is read
+  module _ (v : verdict s ≡ Ok) (y : Outcome) (e : linkBundle b ≡ y) where
+    pub due-by : (rep im : List ℕ) (x : Linked) → x .answer ≡ answering (unitFiles b) (length out) (length img) y → rep ≡ lentReport (recordsOf y) out → im ≡ imageAfter y img
+        → TreeAfter (length img) y t (x .tree) → Due s out img t rep im x
+    unfolding linkAnswer linkReport linkImage LinkTree
+    due-by rep im x f g h k =
+        let r = accepted s v in
+        rw (r, e) (f, (g, (h, k)))
+
+  refused-due : (n p : ℕ) → verdict s ≡ Refused n p → Due s out img t out img (record { answer = telling n p 0; tree = t })
+  unfolding linkAnswer linkReport linkImage LinkTree
+  refused-due n p v = let r = told s n p v in rw r (refl, (refl, (refl, refl)))
+
+  order-refused : (n p : ℕ) → verdict s ≡ Refused n p → (orderAnswer s out ≡ call.refusing n p) × (orderReport s out ≡ out)
+  unfolding orderAnswer orderReport
+  order-refused n p v = let r = told s n p v in rw r (refl, refl)
+
+  order-read : verdict s ≡ Ok → (orderAnswer s out ≡ call.answering (unitFiles b) (length out) (ordered b)) × (orderReport s out ≡ lentReport (report.recordsOf (ordered b)) out)
+  unfolding orderAnswer orderReport
+  order-read v = let r = accepted s v in rw r (refl, refl)
+
+  after-order : (x : order.Outcome) → ordered b ≡ x → linkBundle b ≡ linkAfter (assembleAfter b x)
+  unfolding linkBundle linearizeAndAssemble
+  after-order x e = ap (λ (y : order.Outcome). linkAfter (assembleAfter b y)) e
+
+  same-report : (x : Reported) → telling (call.reportedTo x .number) (call.reportedTo x .place) (call.reportedTo x .report) ≡ reportedTo x
+  same-report (reported.Report n) = refl
+  same-report (reported.Refused n p) = refl
+
+  abbrev told-of : ordering.Answer → Answer
+  told-of z = telling (z .number) (z .place) (z .report)
+
+  module _ (a : ordering.Answer) (rep : List ℕ) (is : a ≡ orderAnswer s out) (lent : rep ≡ orderReport s out) where
+    -- WHERE THERE ARE NO UNITS the answer of steps 3 and 4 is the answer
+    module _ (v : verdict s ≡ Ok) where
+      reported-due : (x : order.Outcome) (y : Outcome) (r : Reported) → ordered b ≡ x → linkBundle b ≡ y → call.answering (unitFiles b) (length out) x ≡ call.reportedTo r
+          → answering (unitFiles b) (length out) (length img) y ≡ reportedTo r → report.recordsOf x ≡ recordsOf y → img ≡ imageAfter y img → TreeAfter (length img) y t t
+          → Due s out img t rep img (record { answer = told-of a; tree = t })
+      reported-due x y r e l f g h k m =
+          let o = order-read v in
+          let q : a ≡ call.reportedTo r = is ∙ (o .0 ∙ (ap (call.answering (unitFiles b) (length out)) e ∙ f)) in
+          due-by v y l rep img (record { answer = told-of a; tree = t })
+          (ap told-of q ∙ (same-report r ∙ sym g))
+          (lent ∙ (o .1 ∙ (ap (λ (z : order.Outcome). lentReport (report.recordsOf z) out) e ∙ ap (λ (z : List Record). lentReport z out) h))) k m
+
+      read-due : (x : order.Outcome) → ordered b ≡ x → a .units ≡ 0 → Due s out img t rep img (record { answer = told-of a; tree = t })
+      read-due (order.faulty l) e h = reported-due (order.faulty l) (faulty l) (reporting (map fault l) (length out)) e (after-order (order.faulty l) e) refl refl refl refl refl
+      read-due (order.closed r) e h = reported-due (order.closed r) (closed r) (reporting (ring r ∷ []) (length out)) e (after-order (order.closed r) e) refl refl refl refl refl
+      read-due (order.linked o) e h =
+          let n = some-unit b (checked-roomy s v .some) o e in
+          let l = length-map (unitsOf b) (λ p. position p (pathsOf b)) in
+          let q = ap (λ (z : ordering.Answer). z .units) (is ∙ (order-read v .0 ∙ ap (call.answering (unitFiles b) (length out)) e)) in
+          absurd (omega arith)
+
+    pub no-units : a .units ≡ 0 → (x : Linked) → x ≡ record { answer = told-of a; tree = t } → Due s out img t rep img x
+    no-units h x q = subst (Due s out img t rep img) (sym q) (go (verdict s) refl)
+      where
+        go : (c : Checked) → verdict s ≡ c → Due s out img t rep img (record { answer = told-of a; tree = t })
+        go (Refused n p) v =
+            let y = order-refused n p v in
+            subst (λ (z : List ℕ). Due s out img t z img (record { answer = told-of a; tree = t })) (sym (lent ∙ y .1))
+            (subst (λ (z : Answer). Due s out img t out img (record { answer = z; tree = t })) (sym (ap told-of (is ∙ y .0))) (refused-due n p v))
+        go Ok v = read-due v (ordered b) refl h
+
+    -- LINKED UNITS
+    module _ (u : units.Linked s (a .files) (a .ids) (a .units)) (kept : rep ≡ out) where
+      abbrev o : List ℕ
+      o = take (a .units) (a .ids)
+
+      ok : verdict s ≡ Ok
+      ok = u .of-units .checked
+
+      step5-is : linkBundle b ≡ linkAfter (step5 (assemblyFaults b o) o (assembled b o))
+      step5-is = after-order (order.linked o) (u .order)
+
+      told-faults : (fs : List Fault) → 0 < length fs → assemblyFaults b o ≡ fs → linkBundle b ≡ faulty fs
+      told-faults [] h e = absurd (omega arith)
+      told-faults (f ∷ fs) h e = step5-is ∙ ap (λ (l : List Fault). linkAfter (step5 l o (assembled b o))) e
+
+      module _ (numbers places : List ℕ) (count : ℕ) (faults : faultsIn (take count numbers) (take count places) ≡ assemblyFaults b o) where
+        -- faults of step 5
+        pub faults-due : (report₂ : List ℕ) (r : Reported) (x : Linked) → count ≤ length numbers → count ≤ length places → 0 < count
+            → r ≡ reporting (faultRecords numbers places count) (length rep) → x ≡ record { answer = reportedTo r; tree = t } → report₂ ≡ lentReport (faultRecords numbers places count) rep
+            → Due s out img t report₂ img x
+        faults-due report₂ r x hn hp some e g k =
+            let n = faults-counted count numbers places hn hp in
+            let q = told-faults (faultsIn (take count numbers) (take count places)) (omega arith) (sym faults) in
+            due-by ok (faulty (faultsIn (take count numbers) (take count places))) q report₂ img x
+            (ap (λ (z : Linked). z .answer) g ∙ ap reportedTo (e ∙ ap (λ (z : List ℕ). reporting (faultRecords numbers places count) (length z)) kept))
+            (k ∙ ap (lentReport (faultRecords numbers places count)) kept) refl (ap (λ (z : Linked). z .tree) g)
+
+        -- none: STEP 6
+        module _ (z : count ≡ 0) (w : Scoped) (sc : ScopedAs (assembled b o) w) where
+          program-is : linkBundle b ≡ step6 o (assembled b o) (reached (record { number = w .number; place = w .place }) (flat-of (w .tree)))
+          unfolding faultsIn
+          program-is =
+              let none : assemblyFaults b o ≡ [] = sym faults ∙ ap (λ (n : ℕ). faultsIn (take n numbers) (take n places)) z in
+              step5-is ∙ (ap (λ (l : List Fault). linkAfter (step5 l o (assembled b o))) none ∙ ap (step6 o (assembled b o)) (sc .walked))
+
+          -- a call is refused
+          pub ended-due : (w .number ≡ 0 → ⊥) → (x : Linked) → x ≡ record { answer = telling (w .number) (w .place) 0; tree = t } → Due s out img t rep img x
+          ended-due n x q =
+              due-by ok (ended (w .number) (w .place)) (program-is ∙ rw (ne-eqb (w .number) 0 n)) rep img x
+              (ap (λ (y : Linked). y .answer) q) (kept ∙ sym (nothing-lent out)) refl (ap (λ (y : Linked). y .tree) q)
+
+          -- the image
+          pub image-due : w .number ≡ 0 → (image₂ : List ℕ) (r : Imaged) (x : Linked) → r ≡ imaging (assembled b o) (length img)
+              → x ≡ record { answer = imagedTo (a .units) (a .files) (a .ids) r; tree = treeBy r (w .tree) t } → image₂ ≡ lentImage (assembled b o) img → Due s out img t rep image₂ x
+          image-due n image₂ r x e q k =
+              let l : a ≡ call.linking (unitFiles b) (padded o) = is ∙ (order-read ok .0 ∙ ap (call.answering (unitFiles b) (length out)) (u .order)) in
+              due-by ok (linked o (assembled b o) (flat-of (w .tree))) (program-is ∙ rw (eq-eqb (w .number) 0 n)) rep image₂ x
+              (ap (λ (y : Linked). y .answer) q
+              ∙ (ap (imagedTo (a .units) (a .files) (a .ids)) e
+              ∙ ap (λ (y : ordering.Answer). imagedTo (y .units) (y .files) (y .ids) (imaging (assembled b o) (length img))) l))
+              (kept ∙ sym (nothing-lent out)) k
+              (subst (λ (i : Imaged). TreeWith i (flat-of (w .tree)) t (x .tree)) e (subst (λ (u' : Tree). TreeWith r (flat-of (w .tree)) t u') (sym (ap (λ (y : Linked). y .tree) q)) (by-image r)))
+            where
+              by-image : (i : Imaged) → TreeWith i (flat-of (w .tree)) t (treeBy i (w .tree) t)
+              by-image (imaged.Image m) = record { good = sc .good; is = refl }
+              by-image (imaged.Refused m p) = refl

@@ -1,0 +1,356 @@
+-- The scope walk as the code makes it: call by call over a tree's arrays, up to the first that is refused. Assumes nothing.
+use Prim.Native.Nat.{ℕ, zero, suc, _+_, _-_, _≤_, _<_}
+use native.Mathlib.Omega.{arith}
+use mathlib.Core.Bool.{Bool, true, false, cond}
+use mathlib.Core.Path.{_≡_, refl, sym, ap, subst, _∙_}
+use mathlib.Core.List.{List, [], _∷_, _++_, append-nil, append-assoc}
+use lib.Dec.{eqb}
+use lib.ListN.{length, take, drop}
+use lib.Seq.{take-at}
+use borrow.Author.Tests.{eq-eqb, ne-eqb}
+use Rattle.bundle.specs.Bundle.{Text, Items, none, named, use-of, module-of, ignored}
+use Rattle.bundle.specs.Limits.{segment-limit, use-kind, module-kind, ignored-kind}
+use Rattle.bundle.specs.Scan.{byte, text}
+use Rattle.bundle.specs.Decode.{after, afterLength, itemAt, itemsAt, decode}
+use Rattle.bundle.specs.Access.{insideOf, items-end, items-step, item-module, item-use, item-ignored, item-named, by-kind, kindOf, restOf, innerOf, visibilityOf, first-inner, first-visibility}
+use Rattle.order.specs.Writing.{started}
+use Rattle.scopes.specs.Form.{Request, enters, exits, resolves-use, call-of}
+use Rattle.scopes.specs.Lent.{declares, Keeps, Leaves, at-depth}
+use Rattle.scopes.specs.Step.{Answer, ok, marked, refused, Model, step}
+use Rattle.scopes.specs.Flat.{Flat, flat}
+use Rattle.scopes.specs.Trees.{Sized, Good, flat-of, accepting, refusing, ended}
+use Rattle.scopes.specs.Meets.{Meets}
+use Rattle.scopes.specs.declared.Tree.{Tree}
+use Rattle.assembly.specs.Assemble.{rewriteUse, rewriteItems}
+use Rattle.assembly.specs.Walk.{segmentsAt, useBytes, oneAt, kind-byte, kind-of, next-is}
+use Rattle.linker.specs.Scopes.{Asked, asked, isPublic, useForm, scopeCalls, Walked, done, stopped, onwards, walkFrom}
+use Rattle.linker.specs.declared.Stop.{Stop}
+
+-- A DECLARATION'S KIND, as the tree's calls take it
+abbrev pub item-code : ℕ → ℕ
+item-code k = cond (eqb k 2) 2 (cond (eqb k 4) 4 1)
+
+pub code-declares : (k : ℕ) (s : List ℕ) (v : Bool) (m : ℕ) → declares (item-code k) s v m ≡ declares k s v m
+code-declares k s v m = go (eqb k 2) (eqb k 4)
+  where
+    go : (a b : Bool) → declares (cond a 2 (cond b 4 1)) s v m ≡ cond a (Rattle.scopes.specs.Form.inserts-function s v m) (cond b (Rattle.scopes.specs.Form.inserts-enum s v m) (Rattle.scopes.specs.Form.inserts-alias s v m))
+    go true b = refl
+    go false true = refl
+    go false false = refl
+
+-- A CALL WITH ITS ARGUMENTS, as the code reads them
+pub visible-is : (s : List ℕ) (at v : ℕ) → ((d e : ℕ) → at < e → v ≡ visibilityOf (itemsAt d s e at)) → isPublic v ≡ isPublic (byte s (at + 3))
+visible-is s at v f = ap isPublic (f 0 (suc at) (omega arith) ∙ first-visibility 0 s (suc at) at (omega arith))
+
+pub keeps-declares : {t u : Tree} {n : ℕ} (k k' : ℕ) {code m m' : ℕ} {name name' : List ℕ} {v v' : Bool} → code ≡ item-code k → k ≡ k' → name ≡ name' → v ≡ v' → m ≡ m'
+    → Keeps t (declares code name v m) n u → Keeps t (declares k' name' v' m') n u
+keeps-declares {t} {u} {n} k k' {code} {m} {m'} {name} {name'} {v} {v'} a b c d e h =
+    subst (λ (q : Request). Keeps t q n u)
+    (ap (λ (x : ℕ). declares x name v m) a ∙ (code-declares k name v m
+    ∙ (ap (λ (x : ℕ). declares x name v m) b ∙ (ap (λ (x : List ℕ). declares k' x v m) c ∙ (ap (λ (x : Bool). declares k' name' x m) d ∙ ap (λ (x : ℕ). declares k' name' v' x) e)))))
+    h
+
+pub keeps-enters : {t u : Tree} {n m m' : ℕ} {name name' : List ℕ} {v v' : Bool} → name ≡ name' → v ≡ v' → m ≡ m' → Keeps t (enters name v m) n u → Keeps t (enters name' v' m') n u
+keeps-enters {t} {u} {n} {m} {m'} {name} {name'} {v} {v'} c d e h =
+    subst (λ (q : Request). Keeps t q n u)
+    (ap (λ (x : List ℕ). enters x v m) c ∙ (ap (λ (x : Bool). enters name' x m) d ∙ ap (λ (x : ℕ). enters name' v' x) e))
+    h
+
+pub keeps-uses : {t u : Tree} {n : ℕ} {form form' : List ℕ} {v v' : Bool} → form ≡ form' → v ≡ v' → Keeps t (resolves-use form v) n u → Keeps t (resolves-use form' v') n u
+keeps-uses {t} {u} {n} {form} {form'} {v} {v'} c d h =
+    subst (λ (q : Request). Keeps t q n u) (ap (λ (x : List ℕ). resolves-use x v) c ∙ ap (λ (x : Bool). resolves-use form' x) d) h
+
+-- what was written to the start of a buffer
+pub taken-start : (w out last : List ℕ) (n : ℕ) → n ≡ length w → last ≡ started w out → take n last ≡ w
+taken-start w out last n h e = ap (take n) e ∙ take-at w (drop (length w) out) n (sym h)
+
+pub taken-length : (w out last : List ℕ) (n : ℕ) → n ≡ length w → last ≡ started w out → n ≡ length (take n last)
+taken-length w out last n h e = h ∙ sym (ap length (taken-start w out last n h e))
+
+-- CALLS ONE AFTER ANOTHER
+abbrev andThen : {X : Type 0} → Walked X → (X → Walked X) → Walked X
+andThen (done y) k = k y
+andThen (stopped n p) k = stopped n p
+
+pub walk-append : {X C : Type 0} (M : Model X C) (x : X) (l k : List Asked) → walkFrom M x (l ++ k) ≡ andThen (walkFrom M x l) (λ y. walkFrom M y k)
+unfolding walkFrom
+walk-append M x [] k = refl
+walk-append {X} M x (a ∷ l) k = go (step M x (call-of (a .request)) .1) (step M x (call-of (a .request)) .0) (λ y. walk-append M y l k)
+  where
+    go : (w : Answer) (y : X) → ((z : X) → walkFrom M z (l ++ k) ≡ andThen (walkFrom M z l) (λ z'. walkFrom M z' k))
+        → onwards y w (a .place) (λ z. walkFrom M z (l ++ k)) ≡ andThen (onwards y w (a .place) (λ z. walkFrom M z l)) (λ z. walkFrom M z k)
+    go ok y h = h y
+    go (marked m) y h = h y
+    go (refused n) y h = refl
+
+-- what a stop tells: 0 and the tree, or a number and a place
+abbrev pub reached : Stop → Flat → Walked Flat
+reached r x = cond (eqb (r .number) 0) (done x) (stopped (r .number) (r .place))
+
+-- the calls l on the arrays t left u, and came to r
+pub record Walks (t : Tree) (l : List Asked) (r : Stop) (u : Tree) : Type 0 where
+  pub sized : Sized t → Sized u
+  pub good : Sized t → Good t → Good u
+  pub walked : Sized t → Good t → walkFrom flat (flat-of t) l ≡ reached r (flat-of u)
+
+pub walks-as : {t u : Tree} {l k : List Asked} {r : Stop} → l ≡ k → Walks t k r u → Walks t l r u
+walks-as {t} {u} {l} {k} {r} e h = subst (λ (x : List Asked). Walks t x r u) (sym e) h
+
+pub walks-none : (t : Tree) (r : Stop) → r .number ≡ 0 → Walks t [] r t
+unfolding walkFrom
+walks-none t r e = record { sized = λ z. z; good = λ z g. g; walked = λ z g. rw (eq-eqb (r .number) 0 e) }
+
+pub walks-one : (t : Tree) (q : Request) (n : ℕ) (u : Tree) → Keeps t q n u → (r : Stop) (p : ℕ) → r .number ≡ n → r .place ≡ p → Walks t (asked p q ∷ []) r u
+unfolding walkFrom ended
+walks-one t q n u k r p e f =
+    record {
+      sized = k .sized;
+      good = λ z g. good-of (eqb n 0) (k .meets z) g;
+      walked = λ z g. walked-of (eqb n 0) (k .meets z) g ∙ back;
+    }
+  where
+    good-of : (b : Bool) → Meets t q (cond b (accepting u) (refusing n u)) → Good t → Good u
+    good-of true m g = m .good g
+    good-of false m g = m .good g
+
+    walked-of : (b : Bool) → Meets t q (cond b (accepting u) (refusing n u)) → Good t
+        → onwards (step flat (flat-of t) (call-of q) .0) (step flat (flat-of t) (call-of q) .1) p (λ y. done y) ≡ cond b (done (flat-of u)) (stopped n p)
+    walked-of true m g = ap (λ (a : Answer). onwards (step flat (flat-of t) (call-of q) .0) a p (λ y. done y)) (sym (m .answer g)) ∙ ap done (sym (m .tree g))
+    walked-of false m g = ap (λ (a : Answer). onwards (step flat (flat-of t) (call-of q) .0) a p (λ y. done y)) (sym (m .answer g))
+
+    back : cond (eqb n 0) (done (flat-of u)) (stopped n p) ≡ reached r (flat-of u)
+    back = rw (e, f)
+
+module _ {t u : Tree} {l : List Asked} {r : Stop} (h : Walks t l r u) where
+  pub walks-then : {k : List Asked} {r' : Stop} {w : Tree} → r .number ≡ 0 → Walks u k r' w → Walks t (l ++ k) r' w
+  walks-then {k} {r'} {w} e i =
+      record {
+        sized = λ z. i .sized (h .sized z);
+        good = λ z g. i .good (h .sized z) (h .good z g);
+        walked = λ z g.
+            walk-append flat (flat-of t) l k
+            ∙ (ap (λ (x : Walked Flat). andThen x (λ y. walkFrom flat y k)) (h .walked z g ∙ on-with)
+            ∙ i .walked (h .sized z) (h .good z g));
+      }
+    where
+      on-with : reached r (flat-of u) ≡ done (flat-of u)
+      on-with = rw (eq-eqb (r .number) 0 e)
+
+  pub walks-stop : (k : List Asked) → (r .number ≡ 0 → ⊥) → Walks t (l ++ k) r u
+  walks-stop k e =
+      record {
+        sized = h .sized;
+        good = h .good;
+        walked = λ z g.
+            walk-append flat (flat-of t) l k
+            ∙ (ap (λ (x : Walked Flat). andThen x (λ y. walkFrom flat y k)) (h .walked z g ∙ at-end) ∙ sym at-end);
+      }
+    where
+      at-end : reached r (flat-of u) ≡ stopped (r .number) (r .place)
+      at-end = rw (ne-eqb (r .number) 0 e)
+
+-- THE CALLS OF A UNIT'S ITEMS: of one item, and of items one after the other
+unfoldable pub itemCalls : List ℕ → Text → ℕ → ℕ → List Asked
+itemCalls s file depth at = scopeCalls (rewriteItems (rewriteUse (decode s) file) (oneAt depth s at))
+
+unfoldable pub itemsCalls : List ℕ → Text → ℕ → ℕ → ℕ → List Asked
+itemsCalls s file depth end at = scopeCalls (rewriteItems (rewriteUse (decode s) file) (itemsAt depth s end at))
+
+module _ (s : List ℕ) (file : Text) (depth end at : ℕ) where
+  pub calls-end : end ≤ at → itemsCalls s file depth end at ≡ []
+  unfolding itemsCalls scopeCalls rewriteItems
+  calls-end h = rw (items-end depth s end at h)
+
+  pub calls-step : at < end → itemsCalls s file depth end at ≡ itemCalls s file depth at ++ itemsCalls s file depth end (afterLength s at)
+  unfolding itemsCalls itemCalls scopeCalls rewriteItems
+  calls-step h =
+      rw (items-step depth s end at h)
+      (by-kind (insideOf depth s) s at (itemsAt depth s end (afterLength s at))
+      (λ i. scopeCalls (rewriteItems (rewriteUse (decode s) file) i) ≡ scopeCalls (rewriteItems (rewriteUse (decode s) file) (oneAt depth s at)) ++ itemsCalls s file depth end (afterLength s at))
+      (λ k. rw (item-module (insideOf depth s) s at none k) (ap (λ (l : List Asked). asked at (enters (text s (at + 4)) (isPublic (byte s (at + 3))) at) ∷ l)
+      (sym (append-assoc (scopeCalls (rewriteItems (rewriteUse (decode s) file) (insideOf depth s (afterLength s at) (after s (at + 4))))) (asked at exits ∷ []) (itemsCalls s file depth end (afterLength s at))))))
+      (λ k. let n : byte s (at + 2) ≡ module-kind → ⊥ = λ (e : byte s (at + 2) ≡ module-kind). omega arith in
+      rw (item-use (insideOf depth s) s at none n k))
+      (λ k. let n : byte s (at + 2) ≡ module-kind → ⊥ = λ (e : byte s (at + 2) ≡ module-kind). omega arith in
+      let m : byte s (at + 2) ≡ use-kind → ⊥ = λ (e : byte s (at + 2) ≡ use-kind). omega arith in
+      rw (item-ignored (insideOf depth s) s at none n m k))
+      (λ n m l. rw (item-named (insideOf depth s) s at none n m l)))
+
+-- the next item, as the code reads it
+pub next-calls : (s : List ℕ) (file : Text) (depth end at next : ℕ) → at < end → ((d e : ℕ) → at < e → itemsAt d s e next ≡ restOf (itemsAt d s e at))
+    → itemsCalls s file depth end at ≡ itemCalls s file depth at ++ itemsCalls s file depth end next
+unfolding itemsCalls
+next-calls s file depth end at next h f =
+    calls-step s file depth end at h ∙ ap (λ (i : Items). itemCalls s file depth at ++ scopeCalls (rewriteItems (rewriteUse (decode s) file) i)) (sym (next-is s depth end at next h f))
+
+-- what is inside a module
+inside-is : (s : List ℕ) (at k : ℕ) (kind : (d e : ℕ) → at < e → k ≡ kindOf (itemsAt d s e at)) (depth end' at' : ℕ) → k ≡ module-kind → (depth ≡ 0 → ⊥)
+    → ((d e : ℕ) → at < e → kindOf (itemsAt (suc d) s e at) ≡ module-kind → itemsAt d s end' at' ≡ innerOf (itemsAt (suc d) s e at))
+    → insideOf depth s (afterLength s at) (after s (at + 4)) ≡ itemsAt (depth - 1) s end' at'
+inside-is s at k kind zero end' at' e z inner = absurd (z refl)
+inside-is s at k kind (suc d) end' at' e z inner =
+    let h : at < suc at = omega arith in
+    let f = kind-of s at k kind (suc d) (suc at) h ∙ e in
+    let y : suc d - 1 ≡ d = omega arith in
+    rw y (sym (inner d (suc at) h f ∙ first-inner d s (suc at) at h f))
+
+-- AN ITEM BY ITS KIND, as the code reads it
+module _ (s : List ℕ) (at k : ℕ) (kind : (d e : ℕ) → at < e → k ≡ kindOf (itemsAt d s e at)) (file : Text) (depth : ℕ) where
+  pub ignored-calls : k ≡ ignored-kind → itemCalls s file depth at ≡ []
+  unfolding itemCalls scopeCalls rewriteItems
+  ignored-calls e =
+      let b : byte s (at + 2) ≡ ignored-kind = kind-byte s at k kind ∙ e in
+      rw (item-ignored (insideOf depth s) s at none (λ (q : byte s (at + 2) ≡ module-kind). omega arith) (λ (q : byte s (at + 2) ≡ use-kind). omega arith) b)
+
+  pub use-calls : k ≡ use-kind → itemCalls s file depth at ≡ asked at (resolves-use (useBytes s file at) (isPublic (byte s (at + 3)))) ∷ []
+  unfolding itemCalls scopeCalls rewriteItems useBytes
+  use-calls e =
+      let b : byte s (at + 2) ≡ use-kind = kind-byte s at k kind ∙ e in
+      rw (item-use (insideOf depth s) s at none (λ (q : byte s (at + 2) ≡ module-kind). omega arith) b)
+
+  pub named-calls : (k ≡ ignored-kind → ⊥) → (k ≡ use-kind → ⊥) → (k ≡ module-kind → ⊥)
+      → itemCalls s file depth at ≡ asked at (declares (byte s (at + 2)) (text s (at + 4)) (isPublic (byte s (at + 3))) at) ∷ []
+  unfolding itemCalls scopeCalls rewriteItems
+  named-calls n6 n3 n5 =
+      rw (item-named (insideOf depth s) s at none (λ q. n5 (sym (kind-byte s at k kind) ∙ q)) (λ q. n3 (sym (kind-byte s at k kind) ∙ q)) (λ q. n6 (sym (kind-byte s at k kind) ∙ q)))
+
+  module-with : (inner : Items) → k ≡ module-kind → insideOf depth s (afterLength s at) (after s (at + 4)) ≡ inner
+      → itemCalls s file depth at ≡ asked at (enters (text s (at + 4)) (isPublic (byte s (at + 3))) at) ∷ (scopeCalls (rewriteItems (rewriteUse (decode s) file) inner) ++ (asked at exits ∷ []))
+  unfolding itemCalls scopeCalls rewriteItems
+  module-with inner e i =
+      let b : byte s (at + 2) ≡ module-kind = kind-byte s at k kind ∙ e in
+      rw (item-module (insideOf depth s) s at none b, i)
+
+  pub flat-calls : k ≡ module-kind → depth ≡ 0 → itemCalls s file depth at ≡ asked at (enters (text s (at + 4)) (isPublic (byte s (at + 3))) at) ∷ (asked at exits ∷ [])
+  unfolding scopeCalls rewriteItems
+  flat-calls e z = module-with none e (rw z)
+
+  pub module-calls : (end' at' : ℕ) → k ≡ module-kind → (depth ≡ 0 → ⊥)
+      → ((d e : ℕ) → at < e → kindOf (itemsAt (suc d) s e at) ≡ module-kind → itemsAt d s end' at' ≡ innerOf (itemsAt (suc d) s e at))
+      → itemCalls s file depth at ≡ asked at (enters (text s (at + 4)) (isPublic (byte s (at + 3))) at) ∷ (itemsCalls s file (depth - 1) end' at' ++ (asked at exits ∷ []))
+  unfolding itemsCalls
+  module-calls end' at' e z inner = module-with (itemsAt (depth - 1) s end' at') e (inside-is s at k kind depth end' at' e z inner)
+
+-- WHAT THE CODE NEEDS OF THE ITEMS: two bytes hold a mark, and a use as it is handed over fits its place
+abbrev pub use-size : ℕ
+use-size = 2688
+
+unfoldable pub Plain : (List Text → List Text) → Items → Type 0
+Plain path none = Unit {0}
+Plain path (named k m v name rest) = (m < 65536) × Plain path rest
+Plain path (use-of m v segments elements rest) =
+    ((m < 65536) × ((length segments ≤ segment-limit) × (length (useForm (path segments) elements) ≤ use-size))) × Plain path rest
+Plain path (module-of m v name inner rest) = (m < 65536) × (Plain path inner × Plain path rest)
+Plain path (ignored m v rest) = Plain path rest
+
+module _ (path : List Text → List Text) where
+  plain-item : (inside : ℕ → ℕ → Items) (s : List ℕ) (at : ℕ) (rest : Items) → Plain path (itemAt inside s at rest) → Plain path (itemAt inside s at none) × Plain path rest
+  unfolding Plain
+  plain-item inside s at rest =
+      by-kind inside s at rest (λ i. Plain path i → Plain path (itemAt inside s at none) × Plain path rest)
+      (λ k f. (rw (item-module inside s at none k) (f .0, (f .1 .0, tt)), f .1 .1))
+      (λ k f. (rw (item-use inside s at none (λ (e : byte s (at + 2) ≡ module-kind). omega arith) k) (f .0, tt), f .1))
+      (λ k f. (rw (item-ignored inside s at none (λ (e : byte s (at + 2) ≡ module-kind). omega arith) (λ (e : byte s (at + 2) ≡ use-kind). omega arith) k) tt, f))
+      (λ n m l f. (rw (item-named inside s at none n m l) (f .0, tt), f .1))
+
+  pub plain-next : (s : List ℕ) (depth end at next : ℕ) → at < end → ((d e : ℕ) → at < e → itemsAt d s e next ≡ restOf (itemsAt d s e at))
+      → Plain path (itemsAt depth s end at) → Plain path (oneAt depth s at) × Plain path (itemsAt depth s end next)
+  plain-next s depth end at next h f b =
+      let t = plain-item (insideOf depth s) s at (itemsAt depth s end (afterLength s at)) (subst (Plain path) (items-step depth s end at h) b) in
+      (t .0, subst (Plain path) (sym (next-is s depth end at next h f)) (t .1))
+
+  pub plain-first : (s : List ℕ) (depth end at : ℕ) → at < end → Plain path (itemsAt depth s end at) → Plain path (oneAt depth s at)
+  plain-first s depth end at h b = plain-item (insideOf depth s) s at (itemsAt depth s end (afterLength s at)) (subst (Plain path) (items-step depth s end at h) b) .0
+
+module _ (s : List ℕ) (at k : ℕ) (kind : (d e : ℕ) → at < e → k ≡ kindOf (itemsAt d s e at)) (file : Text) (depth : ℕ) (b : Plain (rewriteUse (decode s) file) (oneAt depth s at)) where
+  pub plain-use : k ≡ use-kind → (at < 65536) × ((length (segmentsAt s at) ≤ segment-limit) × (length (useBytes s file at) ≤ use-size))
+  unfolding Plain useBytes
+  plain-use e =
+      let q : byte s (at + 2) ≡ use-kind = kind-byte s at k kind ∙ e in
+      let i = item-use (insideOf depth s) s at none (λ (x : byte s (at + 2) ≡ module-kind). omega arith) q in
+      subst (Plain (rewriteUse (decode s) file)) i b .0
+
+  pub plain-mark : (k ≡ ignored-kind → ⊥) → (k ≡ use-kind → ⊥) → at < 65536
+  unfolding Plain
+  plain-mark n6 n3 =
+      by-kind (insideOf depth s) s at none (λ i. Plain (rewriteUse (decode s) file) i → at < 65536)
+      (λ q f. f .0) (λ q f. absurd (n3 (sym (kind-byte s at k kind) ∙ q))) (λ q f. absurd (n6 (sym (kind-byte s at k kind) ∙ q))) (λ n m l f. f .0) b
+
+  pub plain-inside : (end' at' : ℕ) → k ≡ module-kind → (depth ≡ 0 → ⊥)
+      → ((d e : ℕ) → at < e → kindOf (itemsAt (suc d) s e at) ≡ module-kind → itemsAt d s end' at' ≡ innerOf (itemsAt (suc d) s e at))
+      → Plain (rewriteUse (decode s) file) (itemsAt (depth - 1) s end' at')
+  unfolding Plain
+  plain-inside end' at' e z inner =
+      let q : byte s (at + 2) ≡ module-kind = kind-byte s at k kind ∙ e in
+      subst (Plain (rewriteUse (decode s) file)) (inside-is s at k kind depth end' at' e z inner) (subst (Plain (rewriteUse (decode s) file)) (item-module (insideOf depth s) s at none q) b .1 .0)
+
+-- GOING ON: what the items from a on come to from t, those from `from` on come to from t₀
+abbrev pub Going : List ℕ → Text → ℕ → ℕ → ℕ → ℕ → Tree → Tree → Type 0
+Going s file depth end from a t₀ t = (r : Stop) (w : Tree) → Walks t (itemsCalls s file depth end a) r w → Walks t₀ (itemsCalls s file depth end from) r w
+
+pub going-start : (s : List ℕ) (file : Text) (depth end from : ℕ) (t : Tree) → Going s file depth end from from t t
+going-start s file depth end from t r w h = h
+
+module _ (s : List ℕ) (file : Text) (depth end from a : ℕ) (t₀ t : Tree) (g : Going s file depth end from a t₀ t) where
+  -- one more item
+  pub going-on : {r : Stop} {u : Tree} → a < end → Walks t (itemCalls s file depth a) r u → r .number ≡ 0 → (next : ℕ)
+      → ((d e : ℕ) → a < e → itemsAt d s e next ≡ restOf (itemsAt d s e a)) → Going s file depth end from next t₀ u
+  going-on h i e next f r' w j = g r' w (walks-as (next-calls s file depth end a next h f) (walks-then i e j))
+
+  -- a call of the item is refused
+  pub going-stop : {r : Stop} {u : Tree} → a < end → Walks t (itemCalls s file depth a) r u → (r .number ≡ 0 → ⊥) → Walks t₀ (itemsCalls s file depth end from) r u
+  going-stop {r} {u} h i e = g r u (walks-as (calls-step s file depth end a h) (walks-stop i (itemsCalls s file depth end (afterLength s a)) e))
+
+  -- no item is left
+  pub going-end : end ≤ a → (r : Stop) → r .number ≡ 0 → Walks t₀ (itemsCalls s file depth end from) r t
+  going-end h r e = g r t (walks-as (calls-end s file depth end a h) (walks-none t r e))
+
+-- WHAT AN ITEM COMES TO, by its kind
+abbrev pub StopIs : Stop → ℕ → ℕ → Type 0
+StopIs r n p = (r .number ≡ n) × (r .place ≡ p)
+
+pub walks-exit : {t u : Tree} {l : List Asked} {r : Stop} → Walks t l r u → r .number ≡ 0 → {n e : ℕ} → Leaves (u .depth) n e → (r' : Stop) (p : ℕ) → StopIs r' n p
+    → Walks t (l ++ (asked p exits ∷ [])) r' (at-depth u e)
+walks-exit {t} {u} h z {n} {e} x r' p is = walks-then h z (walks-one u exits n (at-depth u e) (x u) r' p (is .0) (is .1))
+
+module _ (s : List ℕ) (at k : ℕ) (kind : (d e : ℕ) → at < e → k ≡ kindOf (itemsAt d s e at)) (file : Text) (depth : ℕ) where
+  pub item-ignored-walks : k ≡ ignored-kind → (t : Tree) (r : Stop) → r .number ≡ 0 → Walks t (itemCalls s file depth at) r t
+  item-ignored-walks e t r z = walks-as (ignored-calls s at k kind file depth e) (walks-none t r z)
+
+  pub item-use-walks : k ≡ use-kind → {t u : Tree} {n : ℕ} → Keeps t (resolves-use (useBytes s file at) (isPublic (byte s (at + 3)))) n u → (r : Stop) → StopIs r n at
+      → Walks t (itemCalls s file depth at) r u
+  item-use-walks e {t} {u} {n} h r is = walks-as (use-calls s at k kind file depth e) (walks-one t _ n u h r at (is .0) (is .1))
+
+  pub item-named-walks : (k ≡ ignored-kind → ⊥) → (k ≡ use-kind → ⊥) → (k ≡ module-kind → ⊥) → {t u : Tree} {n : ℕ}
+      → Keeps t (declares (byte s (at + 2)) (text s (at + 4)) (isPublic (byte s (at + 3))) at) n u → (r : Stop) → StopIs r n at → Walks t (itemCalls s file depth at) r u
+  item-named-walks n6 n3 n5 {t} {u} {n} h r is = walks-as (named-calls s at k kind file depth n6 n3 n5) (walks-one t _ n u h r at (is .0) (is .1))
+
+  module _ (e : k ≡ module-kind) {t u : Tree} {n : ℕ} (h : Keeps t (enters (text s (at + 4)) (isPublic (byte s (at + 3))) at) n u) where
+    entered : Walks t (asked at (enters (text s (at + 4)) (isPublic (byte s (at + 3))) at) ∷ []) (record { number = n; place = at }) u
+    entered = walks-one t _ n u h (record { number = n; place = at }) at refl refl
+
+    -- the module is refused
+    pub item-shut-walks : (n ≡ 0 → ⊥) → (r : Stop) → StopIs r n at → Walks t (itemCalls s file depth at) r u
+    item-shut-walks z r is =
+        walks-as (module-with s at k kind file depth (insideOf depth s (afterLength s at) (after s (at + 4))) e refl)
+        (walks-stop (walks-one t _ n u h r at (is .0) (is .1)) _ (λ y. z (sym (is .0) ∙ y)))
+
+    module _ (z : n ≡ 0) where
+      -- it has no items
+      pub item-flat-walks : depth ≡ 0 → {m d : ℕ} → Leaves (u .depth) m d → (r : Stop) → StopIs r m at → Walks t (itemCalls s file depth at) r (at-depth u d)
+      item-flat-walks y x r is = walks-as (flat-calls s at k kind file depth e y) (walks-exit entered z x r at is)
+
+      module _ (y : depth ≡ 0 → ⊥) (end' at' : ℕ)
+          (inner : (d e : ℕ) → at < e → kindOf (itemsAt (suc d) s e at) ≡ module-kind → itemsAt d s end' at' ≡ innerOf (itemsAt (suc d) s e at))
+          {w : Tree} {r : Stop} (i : Walks u (itemsCalls s file (depth - 1) end' at') r w) where
+        -- a call inside is refused
+        pub item-inner-stops : (r .number ≡ 0 → ⊥) → Walks t (itemCalls s file depth at) r w
+        item-inner-stops q =
+            walks-as (module-calls s at k kind file depth end' at' e y inner)
+            (walks-then entered z (walks-stop i (asked at exits ∷ []) q))
+
+        -- it is left
+        pub item-inner-walks : r .number ≡ 0 → {m d : ℕ} → Leaves (w .depth) m d → (r' : Stop) → StopIs r' m at → Walks t (itemCalls s file depth at) r' (at-depth w d)
+        item-inner-walks q x r' is =
+            walks-as (module-calls s at k kind file depth end' at' e y inner)
+            (walks-then entered z (walks-exit i q x r' at is))

@@ -1,0 +1,61 @@
+// From a bundle to one linked program: steps 1 to 6 of document 01 and the image as one operation.
+mod answers;
+mod units;
+mod walk;
+
+ghost use mathlib.Core.Path.{_≡_};
+ghost use Rattle.linker.specs.Call.{linkAnswer, linkReport, linkImage, LinkTree};
+use assembly::Answer;
+use scopes::Tree;
+
+// Where a walk ended: 0, or the number and the place of the call that was refused.
+pub struct Stop {
+    pub number: u8,
+    pub place: usize,
+}
+
+// What step 6 comes to: 0 and the tree, or a number from 40 to 51 and a place.
+pub struct Scoped {
+    pub number: u8,
+    pub place: usize,
+    pub tree: Tree,
+}
+
+// What is answered, and the tree: that of the program where it is linked, and otherwise the one that was given.
+pub struct Linked {
+    pub answer: Answer,
+    pub tree: Tree,
+}
+
+// A bundle linked: 1 to 13 of the bundle; the report of discovery's faults, of a ring or of step 5's faults, or 14 where it exceeds the
+// lent buffer; 40 to 51 with the mark of the item that step 6 ends at; 15, then 14 of the image; or the units, their order, the image
+// and the tree. Ruled out: an image written where step 6 refuses a use; a tree without what an imported file declares.
+pub fn link(s: &[u8], report: &mut [u8], image: &mut [u8], tree: Tree) -> Linked
+    ensures { λ r. ⌜ r .answer ≡ linkAnswer (now (s .entry)) (now (report .entry)) (now (image .entry)) ⌝ }
+    ensures { λ r. ⌜ now (report .exit) ≡ linkReport (now (s .entry)) (now (report .entry)) ⌝ }
+    ensures { λ r. ⌜ now (image .exit) ≡ linkImage (now (s .entry)) (now (image .entry)) ⌝ }
+    ensures { λ r. ⌜ LinkTree (now (s .entry)) (now (image .entry)) tree (r .tree) ⌝ }
+{
+    let a = order::order(s, report);
+    let count = a.units;
+    if count == 0 {
+        return answers::told(a.number, a.place, a.report, tree);
+    }
+    let files = a.files;
+    let ids = a.ids;
+    let f = assembly::assembly_faults(s, &files, &ids, count);
+    let faults = f.count;
+    if faults > 0 {
+        return answers::reported(
+            order::write_faults(&f.numbers, &f.places, faults, report),
+            tree,
+        );
+    }
+    let w = units::walk_program(s, &files, &ids, count);
+    if w.number != 0 {
+        return answers::told(w.number, w.place, 0, tree);
+    }
+    let made = w.tree;
+    let written = assembly::write_image(s, &files, &ids, count, image);
+    answers::imaged(written, files, ids, count, made, tree)
+}

@@ -1,0 +1,95 @@
+use mathlib.Core.Path.{_≡_}
+use lib.ListN.{length}
+use Prim.Native.Nat.{_-_, _≤_}
+use borrow.Author.Needs.{needs}
+use Rattle.printing.proofs.tell_ring.Statement.{statement}
+use Rattle.printing.proofs.tell_ring.Tie as tie
+use Rattle.printing.proofs.tell_ring.Reads as reads
+use Rattle.printing.proofs.tell_ring.Lts as lts
+use Rattle.io.proofs.print_decimal.Reads as print-decimal-reads
+use Rattle.io.proofs.write_all.Reads as write-all-reads
+use Rattle.printing.proofs.byte.Reads as byte-reads
+use Rattle.printing.proofs.wide.Reads as wide-reads
+
+abbrev Inv-loop : tie.InvT-loop
+Inv-loop report at₀ t4 t5 at = Unit {0}
+
+abbrev μ-loop : tie.MeasureT-loop
+μ-loop report at₀ t4 t5 at = length report - at
+
+-- src/lib.rt:69:22
+slice-aggregate-write-all : tie.Need-slice-aggregate-write-all Inv-loop μ-loop
+slice-aggregate-write-all c = search needs
+
+-- src/lib.rt:69:5
+write-all-requires : tie.Need-write-all-requires Inv-loop μ-loop
+write-all-requires c κs = search needs
+
+-- src/lib.rt:71:5
+loop-holds : tie.Need-loop-holds Inv-loop μ-loop
+loop-holds c = tt
+
+-- src/lib.rt:72:26
+slice-aggregate-write-all-2 : tie.Need-slice-aggregate-write-all-2 Inv-loop μ-loop
+slice-aggregate-write-all-2 c = search needs
+
+-- src/lib.rt:72:9
+write-all-requires-2 : tie.Need-write-all-requires-2 Inv-loop μ-loop
+write-all-requires-2 c κs = search needs
+
+-- src/lib.rt:73:35
+byte-requires : tie.Need-byte-requires Inv-loop μ-loop
+byte-requires c κs = search needs
+
+-- src/lib.rt:73:30
+wide-requires : tie.Need-wide-requires Inv-loop μ-loop
+wide-requires c κs = search needs
+
+-- src/lib.rt:73:9
+print-decimal-requires : tie.Need-print-decimal-requires Inv-loop μ-loop
+print-decimal-requires c κs = search needs
+
+-- src/lib.rt:74:9
+add-at : tie.Need-add-at Inv-loop μ-loop
+add-at c = search needs
+
+-- src/lib.rt:71:5
+loop-less : tie.Need-loop-less Inv-loop μ-loop
+loop-less c = search needs
+
+-- src/lib.rt:71:5
+loop-again : tie.Need-loop-again Inv-loop μ-loop
+loop-again c = tt
+
+-- src/lib.rt:76:22
+slice-aggregate-write-all-3 : tie.Need-slice-aggregate-write-all-3 Inv-loop μ-loop
+slice-aggregate-write-all-3 c = search needs
+
+-- src/lib.rt:76:5
+write-all-requires-3 : tie.Need-write-all-requires-3 Inv-loop μ-loop
+write-all-requires-3 c κs = search needs
+
+-- src/lib.rt:68:1
+returns : tie.Need-returns Inv-loop μ-loop
+returns c = search needs
+
+pub tell-ring-spec : {M : Type 1} → statement M
+tell-ring-spec =
+    tie.close
+    (tie.spec
+    Inv-loop
+    μ-loop
+    slice-aggregate-write-all
+    write-all-requires
+    loop-holds
+    slice-aggregate-write-all-2
+    write-all-requires-2
+    byte-requires
+    wide-requires
+    print-decimal-requires
+    add-at
+    loop-less
+    loop-again
+    slice-aggregate-write-all-3
+    write-all-requires-3
+    returns)
