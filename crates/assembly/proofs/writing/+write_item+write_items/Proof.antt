@@ -36,8 +36,6 @@ use Rattle.assembly.proofs.bytes.put_two.Reads as put-two-reads
 use Rattle.assembly.proofs.writing.put_start.Reads as put-start-reads
 use Rattle.assembly.proofs.writing.write_use.Reads as write-use-reads
 
--- `write_item` and `write_items` meet their contracts. Assumes nothing.
-
 abbrev μ-write-item : Measures 4 write-item-kinds.ps ℕ
 μ-write-item κs a = 2 * a .1 .1 .1 .1 .1 .1 .1 .0
 

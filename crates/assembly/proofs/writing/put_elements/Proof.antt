@@ -14,8 +14,6 @@ use Rattle.assembly.specs.Strings.{stringBytes}
 use Rattle.assembly.proofs.writing.put_elements.Statement.{statement}
 use Rattle.assembly.proofs.writing.put_elements.Tie as tie
 
--- `put_elements` meets its contract. Assumes nothing.
-
 -- the elements, as the code reads them
 form : (p : tie.After-use-elements) → counted element (elementsAt (p .before .before .before .args .s .now) (p .before .before .before .args .mark)) ≡ p .use-elements .result .count ∷ stringBytes (p .before .before .before .args .s .now) (2 * p .use-elements .result .count) (p .use-elements .result .first)
 form p = elements-form (p .before .before .before .args .s .now) (p .before .before .before .args .mark) _ _ (elements-read (p .before .before .before .args .s .now) (p .before .before .before .args .mark) (p .before .before .before .pre .0 .kind) (p .use-elements .result .first) (p .use-elements .result .count) (p .use-elements .ensures .0))

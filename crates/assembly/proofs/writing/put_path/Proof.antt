@@ -18,8 +18,6 @@ use Rattle.assembly.specs.Targets.{pathBy, Within}
 use Rattle.assembly.proofs.writing.put_path.Statement.{statement}
 use Rattle.assembly.proofs.writing.put_path.Tie as tie
 
--- `put_path` meets its contract. Assumes nothing.
-
 -- the target's unit and the number of segments left are within bounds
 within : (p : tie.After-use-segments) → (p .before .before .target .given .0 .1 .0 ≤ length (segmentsAt (p .before .before .before .before .before .before .args .s .now) (p .before .before .before .before .before .before .args .mark))) × (p .before .before .target .given .0 .0 ≤ file-limit)
 within p = subst (Within (segmentsAt (p .before .before .before .before .before .before .args .s .now) (p .before .before .before .before .before .before .args .mark))) (p .before .before .target .given .1) (p .before .before .before .before .before .before .pre .0 .1)

@@ -11,8 +11,6 @@ use Rattle.assembly.specs.Strings.{stringBytes}
 use Rattle.assembly.proofs.writing.put_rest.Statement.{statement}
 use Rattle.assembly.proofs.writing.put_rest.Tie as tie
 
--- `put_rest` meets its contract. Assumes nothing.
-
 -- the name stands at the start
 front : (p : tie.After-put-unit) → Front (string (unitName (p .before .before .before .before .args .id))) (stringBytes (p .before .before .before .before .args .s .now) (p .before .before .before .before .args .left) (p .before .before .before .before .args .rest)) (now (p .before .before .before .before .args .out)) (p .put-unit .last .0) (p .put-unit .result)
 front p = record { starts = p .put-unit .ensures .1; is = p .put-unit .ensures .0; room = p .before .before .before .before .pre .1 }

@@ -13,8 +13,6 @@ use Rattle.assembly.specs.Strings.{stringBytes}
 use Rattle.assembly.proofs.writing.put_segments.Statement.{statement}
 use Rattle.assembly.proofs.writing.put_segments.Tie as tie
 
--- `put_segments` meets its contract. Assumes nothing.
-
 -- `crate` stands at the start
 front : (p : tie.After-put-crate) → Front (string (ascii "crate")) (string (unitName (p .before .before .before .before .args .id)) ++ stringBytes (p .before .before .before .before .args .s .now) (p .before .before .before .before .args .left) (p .before .before .before .before .args .rest)) (now (p .before .before .before .before .args .out)) (p .put-crate .last .0) (p .put-crate .result)
 front p = record { starts = p .put-crate .ensures .1; is = p .put-crate .ensures .0; room = p .before .before .before .before .pre .1 }

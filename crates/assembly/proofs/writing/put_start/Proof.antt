@@ -13,8 +13,6 @@ use Rattle.assembly.specs.Strings.{string-length}
 use Rattle.assembly.proofs.writing.put_start.Statement.{statement}
 use Rattle.assembly.proofs.writing.put_start.Tie as tie
 
--- `put_start` meets its contract. Assumes nothing.
-
 long : (p : tie.After-put2) → 4 ≤ length (now (p .before .before .before .before .before .before .before .before .args .out))
 long p = let r = p .before .before .before .before .before .before .before .before .pre .1 .1 in omega arith
 

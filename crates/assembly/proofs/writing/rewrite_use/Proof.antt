@@ -14,8 +14,6 @@ use Rattle.assembly.specs.Targets.{pathBy}
 use Rattle.assembly.proofs.writing.rewrite_use.Statement.{statement}
 use Rattle.assembly.proofs.writing.rewrite_use.Tie as tie
 
--- `rewrite_use` meets its contract. Assumes nothing.
-
 target-of-requires : tie.Need-target-of-requires
 target-of-requires c κs = search needs
 

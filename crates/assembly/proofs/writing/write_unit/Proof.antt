@@ -17,8 +17,6 @@ use Rattle.assembly.specs.Walk.{itemsBytes, Brief}
 use Rattle.assembly.proofs.writing.write_unit.Statement.{statement}
 use Rattle.assembly.proofs.writing.write_unit.Tie as tie
 
--- `write_unit` meets its contract. Assumes nothing.
-
 mul-index : tie.Need-mul-index
 mul-index c = search needs
 
