@@ -1,9 +1,8 @@
 -- ANY BYTES AND ANY BUFFERS are answered in one of six ways, and what each of them means. Assumes nothing.
 use Prim.Native.Nat.{ℕ, _≤_, _<_}
-use native.Mathlib.Omega.{arith}
-use mathlib.Core.Bool.{Bool, true, false, cond}
-use mathlib.Core.Path.{_≡_, refl, sym, ap, _∙_}
-use mathlib.Core.List.{List, [], _∷_, _++_, map}
+use mathlib.Core.Bool.{Bool, true, false}
+use mathlib.Core.Path.{_≡_, refl, ap, _∙_}
+use mathlib.Core.List.{List, _++_}
 use lib.Dec.{leb}
 use lib.ListN.{length, drop}
 use borrow.Author.Tests.{leb-true, leb-false}
@@ -11,7 +10,7 @@ use Rattle.bundle.specs.Bundle.{Items, Bundle}
 use Rattle.bundle.specs.Stand.{Bytes}
 use Rattle.bundle.specs.Read.{Reading, value, refused, read}
 use Rattle.order.specs.Call.{padded, unitFiles}
-use Rattle.order.specs.Report.{Record, fault, ring, small-buffer, reportBytes, reportLength, reporting, lentReport, nothing-lent}
+use Rattle.order.specs.Report.{ring, small-buffer, reportBytes, reportLength, reporting, lentReport, nothing-lent}
 use Rattle.assembly.specs.Assemble.{Outcome, faulty, closed, program, assembled, linearizeAndAssemble}
 use Rattle.assembly.specs.Call.{recordsOf, telling, refusing, reportedTo, imagedTo, answering, imageAfter, assembleAnswer, assembleReport, assembleImage}
 use Rattle.assembly.specs.Image.{image-limit, long-image, imageBytes, itemsLength, imageLength, imaging, lentImage}

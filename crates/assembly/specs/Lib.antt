@@ -20,3 +20,4 @@ pub mod EnumRoom
 pub mod WholeImage
 pub mod Join
 pub mod Demand
+pub mod UseRoom

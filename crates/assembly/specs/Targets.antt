@@ -94,6 +94,10 @@ module _ (s : List ℕ) (at : Layout) (file : Text) (index : ℕ) (files : List 
       (sym (e ∙ ap (λ (l : Lists). answer l (resolvePathInternal l file segments)) (u .lists)))
       (resolved (resolvePathInternal (listsOf b) file segments) refl)
 
+  -- there is a target
+  pub some-target : (t : Target) × Right t
+  some-target = (targetBy files units (answer (listsOf b) (resolvePathInternal (listsOf b) file segments)), resolved (resolvePathInternal (listsOf b) file segments) refl)
+
   pub to-file : (r : Resolution) (f left id : ℕ) → r ≡ answer (listsAt s at) (resolvePathInternal (listsAt s at) file segments) → r ≡ File f left → id ≡ indexIn f (take units files) → Right (Unit id left)
   to-file r f left id e k h = subst (λ (n : ℕ). Right (Unit n left)) (sym h) (subst (λ (x : Resolution). Right (targetBy files units x)) k (answered r e))
 

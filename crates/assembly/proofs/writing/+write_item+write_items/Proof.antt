@@ -20,10 +20,12 @@ use Rattle.bundle.proofs.module_items.Reads as module-items-reads
 use Rattle.bundle.proofs.next_item.Reads as next-item-reads
 use Rattle.discovery.specs.Walk.{use-mark}
 use Rattle.order.specs.Writing.{started}
-use Rattle.assembly.specs.Written.{by-name, by-name-inside, leaf-length, leaf-done, inside-start, inside-room, inside-short, inside-length, inside-done}
+use Rattle.assembly.specs.Written.{Begun, Inside, by-name, by-name-inside, leaf-length, leaf-done, inside-start, inside-room, inside-short, inside-length, inside-done}
 use Rattle.assembly.specs.Strings.{text-short}
 use Rattle.assembly.specs.Walk.{Brief, itemBytes, itemsBytes, useBytes, bytes-end, bytes-step, next-bytes, ignored-bytes, use-bytes, named-bytes, start-room, flat-bytes, module-bytes, name-text, visibility-at, kind-byte, brief-here, brief-next, brief-use, brief-inside}
 use Rattle.assembly.specs.Parts.{Filled, lent-length, filled-none, filled-length, filled-start, filled-room, filled-part, filled-more, filled-all, none-filled, headBytes}
+use Rattle.assembly.proofs.writing.+write_item+write_items.{statement}
+use Rattle.assembly.proofs.writing.+write_item+write_items.Tie.{close}
 use Rattle.assembly.proofs.writing.write_item.Reads as write-item
 use Rattle.assembly.proofs.writing.write_item.Kinds as write-item-kinds
 use Rattle.assembly.proofs.writing.+write_item+write_items.Lts-write_item as write-item-lts
@@ -33,8 +35,6 @@ use Rattle.assembly.proofs.writing.+write_item+write_items.Lts-write_it
 use Rattle.assembly.proofs.bytes.put_two.Reads as put-two-reads
 use Rattle.assembly.proofs.writing.put_start.Reads as put-start-reads
 use Rattle.assembly.proofs.writing.write_use.Reads as write-use-reads
-use Rattle.assembly.proofs.writing.+write_item+write_items.{statement}
-use Rattle.assembly.proofs.writing.+write_item+write_items.Tie.{close}
 
 abbrev μ-write-item : Measures 4 write-item-kinds.ps ℕ
 μ-write-item κs a = 2 * a .1 .1 .1 .1 .1 .1 .1 .0
@@ -57,6 +57,37 @@ write-items-at t =
 abbrev write-items-below : ℕ → In 4 write-items-kinds.ps
 write-items-below t =
     and 4 write-items-kinds.ps (falls 4 write-items-kinds.ps _<_ μ-write-items t) write-items.Pre
+
+-- after the start of an item, and after a module's items are found
+abbrev Started : ℕ → Type 0
+Started t = write-item-lts.After-put-start (item-kind-reads.Asked, item-kind-reads.Learnt, write-use-reads.Asked, write-use-reads.Learnt, item-visibility-reads.Asked, item-visibility-reads.Learnt, item-name-reads.Asked, item-name-reads.Learnt, put-start-reads.Asked, put-start-reads.Learnt, put-two-reads.Asked, put-two-reads.Learnt, module-items-reads.Asked, module-items-reads.Learnt, write-items-below t, write-items.Post) (write-item-at t) write-item.Post
+
+abbrev Opened : ℕ → Type 0
+Opened t = write-item-lts.After-module-items (item-kind-reads.Asked, item-kind-reads.Learnt, write-use-reads.Asked, write-use-reads.Learnt, item-visibility-reads.Asked, item-visibility-reads.Learnt, item-name-reads.Asked, item-name-reads.Learnt, put-start-reads.Asked, put-start-reads.Learnt, put-two-reads.Asked, put-two-reads.Learnt, module-items-reads.Asked, module-items-reads.Learnt, write-items-below t, write-items.Post) (write-item-at t) write-item.Post
+
+-- the item's name and visibility as they were read
+its-name : (t : ℕ) (p : Started t) → now (p .before .item-name .result) ≡ text (p .before .before .before .before .before .before .before .before .before .before .before .args .s .now) (p .before .before .before .before .before .before .before .before .before .before .before .args .place + 4)
+its-name t p = name-text (p .before .before .before .before .before .before .before .before .before .before .before .args .s .now) (p .before .before .before .before .before .before .before .before .before .before .before .args .place) (p .before .before .before .before .before .before .item-kind .result) (p .before .before .before .before .before .before .item-kind .ensures) (now (p .before .item-name .result)) (p .before .before .before .before .if2 .left) (p .before .before .before .before .before .if1 .left) (p .before .item-name .ensures)
+
+its-visibility : (t : ℕ) (p : Started t) → p .before .before .before .item-visibility .result ≡ byte (p .before .before .before .before .before .before .before .before .before .before .before .args .s .now) (p .before .before .before .before .before .before .before .before .before .before .before .args .place + 3)
+its-visibility t p = visibility-at (p .before .before .before .before .before .before .before .before .before .before .before .args .s .now) (p .before .before .before .before .before .before .before .before .before .before .before .args .place) (p .before .before .before .item-visibility .result) (p .before .before .before .item-visibility .ensures)
+
+begun : (t : ℕ) (p : Started t) → Begun (now (p .before .before .before .before .before .before .before .before .before .before .before .args .out)) (p .put-start .last .0) (now (p .before .item-name .result)) (itemBytes (p .before .before .before .before .before .before .before .before .before .before .before .args .s .now) (p .before .before .before .before .before .before .before .before .before .before .before .args .file .now) (p .before .before .before .before .before .before .before .before .before .before .before .args .depth) (p .before .before .before .before .before .before .before .before .before .before .before .args .place)) (p .before .before .before .before .before .before .item-kind .result) (p .before .before .before .item-visibility .result) (p .put-start .result)
+begun t p = record { start = p .put-start .ensures .1; is = p .put-start .ensures .0; few = p .before .before .before .before .before .before .before .before .before .before .before .pre .1 .1 .1 .0; short = p .before .before .before .before .before .before .before .before .before .before .before .pre .1 .1 .1 .1 }
+
+-- an item with nothing inside
+leaf : (t : ℕ) (p : Started t) → itemBytes (p .before .before .before .before .before .before .before .before .before .before .before .args .s .now) (p .before .before .before .before .before .before .before .before .before .before .before .args .file .now) (p .before .before .before .before .before .before .before .before .before .before .before .args .depth) (p .before .before .before .before .before .before .before .before .before .before .before .args .place)
+    ≡ headBytes (2 + length (string (text (p .before .before .before .before .before .before .before .before .before .before .before .args .s .now) (p .before .before .before .before .before .before .before .before .before .before .before .args .place + 4)))) (p .before .before .before .before .before .before .item-kind .result) (byte (p .before .before .before .before .before .before .before .before .before .before .before .args .s .now) (p .before .before .before .before .before .before .before .before .before .before .before .args .place + 3)) ++ string (text (p .before .before .before .before .before .before .before .before .before .before .before .args .s .now) (p .before .before .before .before .before .before .before .before .before .before .before .args .place + 4))
+    → itemBytes (p .before .before .before .before .before .before .before .before .before .before .before .args .s .now) (p .before .before .before .before .before .before .before .before .before .before .before .args .file .now) (p .before .before .before .before .before .before .before .before .before .before .before .args .depth) (p .before .before .before .before .before .before .before .before .before .before .before .args .place) ≡ headBytes (2 + length (string (now (p .before .item-name .result)))) (p .before .before .before .before .before .before .item-kind .result) (p .before .before .before .item-visibility .result) ++ string (now (p .before .item-name .result))
+leaf t p h = by-name _ _ _ _ _ _ (its-name t p) (its-visibility t p) h
+
+-- a module
+inside : (t : ℕ) (p : Opened t) → Inside (now (p .before .before .before .before .before .before .before .before .before .before .before .before .before .before .before .before .args .out)) (p .before .before .before .before .before .put-start .last .0) (now (p .before .before .before .before .before .before .item-name .result)) (itemBytes (p .before .before .before .before .before .before .before .before .before .before .before .before .before .before .before .before .args .s .now) (p .before .before .before .before .before .before .before .before .before .before .before .before .before .before .before .before .args .file .now) (p .before .before .before .before .before .before .before .before .before .before .before .before .before .before .before .before .args .depth) (p .before .before .before .before .before .before .before .before .before .before .before .before .before .before .before .before .args .place))
+    (itemsBytes (p .before .before .before .before .before .before .before .before .before .before .before .before .before .before .before .before .args .s .now) (p .before .before .before .before .before .before .before .before .before .before .before .before .before .before .before .before .args .file .now) (p .before .before .before .before .before .before .before .before .before .before .before .before .before .before .before .before .args .depth - 1) (p .module-items .result .end) (p .module-items .result .at)) (p .before .before .before .before .before .before .before .before .before .before .before .item-kind .result) (p .before .before .before .before .before .before .before .before .item-visibility .result) (p .before .before .before .before .before .put-start .result)
+inside t p = record {
+  begun = begun t (p .before .before .before .before .before);
+  form = by-name-inside _ _ _ _ _ _ _ (its-name t (p .before .before .before .before .before)) (its-visibility t (p .before .before .before .before .before)) (module-bytes (p .before .before .before .before .before .before .before .before .before .before .before .before .before .before .before .before .args .s .now) (p .before .before .before .before .before .before .before .before .before .before .before .before .before .before .before .before .args .place) (p .before .before .before .before .before .before .before .before .before .before .before .item-kind .result) (p .before .before .before .before .before .before .before .before .before .before .before .item-kind .ensures) (p .before .before .before .before .before .before .before .before .before .before .before .before .before .before .before .before .args .file .now) (p .before .before .before .before .before .before .before .before .before .before .before .before .before .before .before .before .args .depth) (p .module-items .result .end) (p .module-items .result .at) (p .before .before .if3 .left) (p .before .if4 .left) (p .module-items .ensures .0));
+}
 
 write-item-item-kind-requires : (t : ℕ) → write-item-lts.Need-item-kind-requires (
   item-kind-reads.Asked,
@@ -277,7 +308,7 @@ write-item-put-two-requires : (t : ℕ) → write-item-lts.Need-put-two-requires
   write-items-below t,
   write-items.Post,
 ) (write-item-at t) write-item.Post
-write-item-put-two-requires t c κs = leaf-length (now (c .before .before .before .before .before .before .before .before .before .before .before .before .before .before .before .args .out)) (c .before .before .before .before .put-start .last .0) (now (c .before .before .before .before .before .item-name .result)) (c .before .before .before .before .before .before .before .before .before .before .item-kind .result) (c .before .before .before .before .before .before .before .item-visibility .result) (c .before .before .before .before .put-start .result) (c .before .before .before .before .put-start .ensures .1) (c .before .before .before .before .put-start .ensures .0) (itemBytes (c .before .before .before .before .before .before .before .before .before .before .before .before .before .before .before .args .s .now) (c .before .before .before .before .before .before .before .before .before .before .before .before .before .before .before .args .file .now) (c .before .before .before .before .before .before .before .before .before .before .before .before .before .before .before .args .depth) (c .before .before .before .before .before .before .before .before .before .before .before .before .before .before .before .args .place)) (c .before .before .before .before .before .before .before .before .before .before .before .before .before .before .before .pre .1 .1 .1 .0) (c .before .before .before .before .before .before .before .before .before .before .before .before .before .before .before .pre .1 .1 .1 .1) (by-name (itemBytes (c .before .before .before .before .before .before .before .before .before .before .before .before .before .before .before .args .s .now) (c .before .before .before .before .before .before .before .before .before .before .before .before .before .before .before .args .file .now) (c .before .before .before .before .before .before .before .before .before .before .before .before .before .before .before .args .depth) (c .before .before .before .before .before .before .before .before .before .before .before .before .before .before .before .args .place)) (now (c .before .before .before .before .before .item-name .result)) (text (c .before .before .before .before .before .before .before .before .before .before .before .before .before .before .before .args .s .now) (c .before .before .before .before .before .before .before .before .before .before .before .before .before .before .before .args .place + 4)) (c .before .before .before .before .before .before .before .before .before .before .item-kind .result) (c .before .before .before .before .before .before .before .item-visibility .result) (byte (c .before .before .before .before .before .before .before .before .before .before .before .before .before .before .before .args .s .now) (c .before .before .before .before .before .before .before .before .before .before .before .before .before .before .before .args .place + 3)) (name-text (c .before .before .before .before .before .before .before .before .before .before .before .before .before .before .before .args .s .now) (c .before .before .before .before .before .before .before .before .before .before .before .before .before .before .before .args .place) (c .before .before .before .before .before .before .before .before .before .before .item-kind .result) (c .before .before .before .before .before .before .before .before .before .before .item-kind .ensures) (now (c .before .before .before .before .before .item-name .result)) (c .before .before .before .before .before .before .before .before .if2 .left) (c .before .before .before .before .before .before .before .before .before .if1 .left) (c .before .before .before .before .before .item-name .ensures)) (visibility-at (c .before .before .before .before .before .before .before .before .before .before .before .before .before .before .before .args .s .now) (c .before .before .before .before .before .before .before .before .before .before .before .before .before .before .before .args .place) (c .before .before .before .before .before .before .before .item-visibility .result) (c .before .before .before .before .before .before .before .item-visibility .ensures)) (named-bytes (c .before .before .before .before .before .before .before .before .before .before .before .before .before .before .before .args .s .now) (c .before .before .before .before .before .before .before .before .before .before .before .before .before .before .before .args .place) (c .before .before .before .before .before .before .before .before .before .before .item-kind .result) (c .before .before .before .before .before .before .before .before .before .before .item-kind .ensures) (c .before .before .before .before .before .before .before .before .before .before .before .before .before .before .before .args .file .now) (c .before .before .before .before .before .before .before .before .before .before .before .before .before .before .before .args .depth) (c .before .if3 .taken) (c .before .before .before .before .before .before .before .before .if2 .left) (c .before .before .before .before .before .before .before .before .before .if1 .left)))
+write-item-put-two-requires t c κs = leaf-length (begun t (c .before .before .before .before)) (leaf t (c .before .before .before .before) (named-bytes (c .before .before .before .before .before .before .before .before .before .before .before .before .before .before .before .args .s .now) (c .before .before .before .before .before .before .before .before .before .before .before .before .before .before .before .args .place) (c .before .before .before .before .before .before .before .before .before .before .item-kind .result) (c .before .before .before .before .before .before .before .before .before .before .item-kind .ensures) (c .before .before .before .before .before .before .before .before .before .before .before .before .before .before .before .args .file .now) (c .before .before .before .before .before .before .before .before .before .before .before .before .before .before .before .args .depth) (c .before .if3 .taken) (c .before .before .before .before .before .before .before .before .if2 .left) (c .before .before .before .before .before .before .before .before .before .if1 .left)))
 
 write-item-same-length-2 : (t : ℕ) → write-item-lts.Need-same-length-2 (
   item-kind-reads.Asked,
@@ -317,7 +348,7 @@ write-item-returns-3 : (t : ℕ) → write-item-lts.Need-returns-3 (
   write-items-below t,
   write-items.Post,
 ) (write-item-at t) write-item.Post
-write-item-returns-3 t c = leaf-done (now (c .before .before .before .before .before .before .before .before .before .before .before .before .before .before .before .before .before .before .args .out)) (c .before .before .before .before .before .before .before .put-start .last .0) (now (c .before .before .before .before .before .before .before .before .item-name .result)) (c .before .before .before .before .before .before .before .before .before .before .before .before .before .item-kind .result) (c .before .before .before .before .before .before .before .before .before .before .item-visibility .result) (c .before .before .before .before .before .before .before .put-start .result) (c .before .before .before .before .before .before .before .put-start .ensures .1) (c .before .before .before .before .before .before .before .put-start .ensures .0) (itemBytes (c .before .before .before .before .before .before .before .before .before .before .before .before .before .before .before .before .before .before .args .s .now) (c .before .before .before .before .before .before .before .before .before .before .before .before .before .before .before .before .before .before .args .file .now) (c .before .before .before .before .before .before .before .before .before .before .before .before .before .before .before .before .before .before .args .depth) (c .before .before .before .before .before .before .before .before .before .before .before .before .before .before .before .before .before .before .args .place)) (c .before .before .before .before .before .before .before .before .before .before .before .before .before .before .before .before .before .before .pre .1 .1 .1 .0) (c .before .before .before .before .before .before .before .before .before .before .before .before .before .before .before .before .before .before .pre .1 .1 .1 .1) (by-name (itemBytes (c .before .before .before .before .before .before .before .before .before .before .before .before .before .before .before .before .before .before .args .s .now) (c .before .before .before .before .before .before .before .before .before .before .before .before .before .before .before .before .before .before .args .file .now) (c .before .before .before .before .before .before .before .before .before .before .before .before .before .before .before .before .before .before .args .depth) (c .before .before .before .before .before .before .before .before .before .before .before .before .before .before .before .before .before .before .args .place)) (now (c .before .before .before .before .before .before .before .before .item-name .result)) (text (c .before .before .before .before .before .before .before .before .before .before .before .before .before .before .before .before .before .before .args .s .now) (c .before .before .before .before .before .before .before .before .before .before .before .before .before .before .before .before .before .before .args .place + 4)) (c .before .before .before .before .before .before .before .before .before .before .before .before .before .item-kind .result) (c .before .before .before .before .before .before .before .before .before .before .item-visibility .result) (byte (c .before .before .before .before .before .before .before .before .before .before .before .before .before .before .before .before .before .before .args .s .now) (c .before .before .before .before .before .before .before .before .before .before .before .before .before .before .before .before .before .before .args .place + 3)) (name-text (c .before .before .before .before .before .before .before .before .before .before .before .before .before .before .before .before .before .before .args .s .now) (c .before .before .before .before .before .before .before .before .before .before .before .before .before .before .before .before .before .before .args .place) (c .before .before .before .before .before .before .before .before .before .before .before .before .before .item-kind .result) (c .before .before .before .before .before .before .before .before .before .before .before .before .before .item-kind .ensures) (now (c .before .before .before .before .before .before .before .before .item-name .result)) (c .before .before .before .before .before .before .before .before .before .before .before .if2 .left) (c .before .before .before .before .before .before .before .before .before .before .before .before .if1 .left) (c .before .before .before .before .before .before .before .before .item-name .ensures)) (visibility-at (c .before .before .before .before .before .before .before .before .before .before .before .before .before .before .before .before .before .before .args .s .now) (c .before .before .before .before .before .before .before .before .before .before .before .before .before .before .before .before .before .before .args .place) (c .before .before .before .before .before .before .before .before .before .before .item-visibility .result) (c .before .before .before .before .before .before .before .before .before .before .item-visibility .ensures)) (named-bytes (c .before .before .before .before .before .before .before .before .before .before .before .before .before .before .before .before .before .before .args .s .now) (c .before .before .before .before .before .before .before .before .before .before .before .before .before .before .before .before .before .before .args .place) (c .before .before .before .before .before .before .before .before .before .before .before .before .before .item-kind .result) (c .before .before .before .before .before .before .before .before .before .before .before .before .before .item-kind .ensures) (c .before .before .before .before .before .before .before .before .before .before .before .before .before .before .before .before .before .before .args .file .now) (c .before .before .before .before .before .before .before .before .before .before .before .before .before .before .before .before .before .before .args .depth) (c .before .before .before .before .if3 .taken) (c .before .before .before .before .before .before .before .before .before .before .before .if2 .left) (c .before .before .before .before .before .before .before .before .before .before .before .before .if1 .left))) (c .before .before .put-two .last .0) (c .before .before .put-two .ensures)
+write-item-returns-3 t c = leaf-done (begun t (c .before .before .before .before .before .before .before)) (leaf t (c .before .before .before .before .before .before .before) (named-bytes (c .before .before .before .before .before .before .before .before .before .before .before .before .before .before .before .before .before .before .args .s .now) (c .before .before .before .before .before .before .before .before .before .before .before .before .before .before .before .before .before .before .args .place) (c .before .before .before .before .before .before .before .before .before .before .before .before .before .item-kind .result) (c .before .before .before .before .before .before .before .before .before .before .before .before .before .item-kind .ensures) (c .before .before .before .before .before .before .before .before .before .before .before .before .before .before .before .before .before .before .args .file .now) (c .before .before .before .before .before .before .before .before .before .before .before .before .before .before .before .before .before .before .args .depth) (c .before .before .before .before .if3 .taken) (c .before .before .before .before .before .before .before .before .before .before .before .if2 .left) (c .before .before .before .before .before .before .before .before .before .before .before .before .if1 .left))) (c .before .before .put-two .last .0) (c .before .before .put-two .ensures)
 
 write-item-sub-put-two-2 : (t : ℕ) → write-item-lts.Need-sub-put-two-2 (
   item-kind-reads.Asked,
@@ -357,7 +388,7 @@ write-item-put-two-requires-2 : (t : ℕ) → write-item-lts.Need-put-two-requir
   write-items-below t,
   write-items.Post,
 ) (write-item-at t) write-item.Post
-write-item-put-two-requires-2 t c κs = leaf-length (now (c .before .before .before .before .before .before .before .before .before .before .before .before .before .before .before .before .args .out)) (c .before .before .before .before .before .put-start .last .0) (now (c .before .before .before .before .before .before .item-name .result)) (c .before .before .before .before .before .before .before .before .before .before .before .item-kind .result) (c .before .before .before .before .before .before .before .before .item-visibility .result) (c .before .before .before .before .before .put-start .result) (c .before .before .before .before .before .put-start .ensures .1) (c .before .before .before .before .before .put-start .ensures .0) (itemBytes (c .before .before .before .before .before .before .before .before .before .before .before .before .before .before .before .before .args .s .now) (c .before .before .before .before .before .before .before .before .before .before .before .before .before .before .before .before .args .file .now) (c .before .before .before .before .before .before .before .before .before .before .before .before .before .before .before .before .args .depth) (c .before .before .before .before .before .before .before .before .before .before .before .before .before .before .before .before .args .place)) (c .before .before .before .before .before .before .before .before .before .before .before .before .before .before .before .before .pre .1 .1 .1 .0) (c .before .before .before .before .before .before .before .before .before .before .before .before .before .before .before .before .pre .1 .1 .1 .1) (by-name (itemBytes (c .before .before .before .before .before .before .before .before .before .before .before .before .before .before .before .before .args .s .now) (c .before .before .before .before .before .before .before .before .before .before .before .before .before .before .before .before .args .file .now) (c .before .before .before .before .before .before .before .before .before .before .before .before .before .before .before .before .args .depth) (c .before .before .before .before .before .before .before .before .before .before .before .before .before .before .before .before .args .place)) (now (c .before .before .before .before .before .before .item-name .result)) (text (c .before .before .before .before .before .before .before .before .before .before .before .before .before .before .before .before .args .s .now) (c .before .before .before .before .before .before .before .before .before .before .before .before .before .before .before .before .args .place + 4)) (c .before .before .before .before .before .before .before .before .before .before .before .item-kind .result) (c .before .before .before .before .before .before .before .before .item-visibility .result) (byte (c .before .before .before .before .before .before .before .before .before .before .before .before .before .before .before .before .args .s .now) (c .before .before .before .before .before .before .before .before .before .before .before .before .before .before .before .before .args .place + 3)) (name-text (c .before .before .before .before .before .before .before .before .before .before .before .before .before .before .before .before .args .s .now) (c .before .before .before .before .before .before .before .before .before .before .before .before .before .before .before .before .args .place) (c .before .before .before .before .before .before .before .before .before .before .before .item-kind .result) (c .before .before .before .before .before .before .before .before .before .before .before .item-kind .ensures) (now (c .before .before .before .before .before .before .item-name .result)) (c .before .before .before .before .before .before .before .before .before .if2 .left) (c .before .before .before .before .before .before .before .before .before .before .if1 .left) (c .before .before .before .before .before .before .item-name .ensures)) (visibility-at (c .before .before .before .before .before .before .before .before .before .before .before .before .before .before .before .before .args .s .now) (c .before .before .before .before .before .before .before .before .before .before .before .before .before .before .before .before .args .place) (c .before .before .before .before .before .before .before .before .item-visibility .result) (c .before .before .before .before .before .before .before .before .item-visibility .ensures)) (flat-bytes (c .before .before .before .before .before .before .before .before .before .before .before .before .before .before .before .before .args .s .now) (c .before .before .before .before .before .before .before .before .before .before .before .before .before .before .before .before .args .place) (c .before .before .before .before .before .before .before .before .before .before .before .item-kind .result) (c .before .before .before .before .before .before .before .before .before .before .before .item-kind .ensures) (c .before .before .before .before .before .before .before .before .before .before .before .before .before .before .before .before .args .file .now) (c .before .before .before .before .before .before .before .before .before .before .before .before .before .before .before .before .args .depth) (c .before .before .if3 .left) (c .before .if4 .taken)))
+write-item-put-two-requires-2 t c κs = leaf-length (begun t (c .before .before .before .before .before)) (leaf t (c .before .before .before .before .before) (flat-bytes (c .before .before .before .before .before .before .before .before .before .before .before .before .before .before .before .before .args .s .now) (c .before .before .before .before .before .before .before .before .before .before .before .before .before .before .before .before .args .place) (c .before .before .before .before .before .before .before .before .before .before .before .item-kind .result) (c .before .before .before .before .before .before .before .before .before .before .before .item-kind .ensures) (c .before .before .before .before .before .before .before .before .before .before .before .before .before .before .before .before .args .file .now) (c .before .before .before .before .before .before .before .before .before .before .before .before .before .before .before .before .args .depth) (c .before .before .if3 .left) (c .before .if4 .taken)))
 
 write-item-same-length-3 : (t : ℕ) → write-item-lts.Need-same-length-3 (
   item-kind-reads.Asked,
@@ -397,7 +428,7 @@ write-item-returns-4 : (t : ℕ) → write-item-lts.Need-returns-4 (
   write-items-below t,
   write-items.Post,
 ) (write-item-at t) write-item.Post
-write-item-returns-4 t c = leaf-done (now (c .before .before .before .before .before .before .before .before .before .before .before .before .before .before .before .before .before .before .before .args .out)) (c .before .before .before .before .before .before .before .before .put-start .last .0) (now (c .before .before .before .before .before .before .before .before .before .item-name .result)) (c .before .before .before .before .before .before .before .before .before .before .before .before .before .before .item-kind .result) (c .before .before .before .before .before .before .before .before .before .before .before .item-visibility .result) (c .before .before .before .before .before .before .before .before .put-start .result) (c .before .before .before .before .before .before .before .before .put-start .ensures .1) (c .before .before .before .before .before .before .before .before .put-start .ensures .0) (itemBytes (c .before .before .before .before .before .before .before .before .before .before .before .before .before .before .before .before .before .before .before .args .s .now) (c .before .before .before .before .before .before .before .before .before .before .before .before .before .before .before .before .before .before .before .args .file .now) (c .before .before .before .before .before .before .before .before .before .before .before .before .before .before .before .before .before .before .before .args .depth) (c .before .before .before .before .before .before .before .before .before .before .before .before .before .before .before .before .before .before .before .args .place)) (c .before .before .before .before .before .before .before .before .before .before .before .before .before .before .before .before .before .before .before .pre .1 .1 .1 .0) (c .before .before .before .before .before .before .before .before .before .before .before .before .before .before .before .before .before .before .before .pre .1 .1 .1 .1) (by-name (itemBytes (c .before .before .before .before .before .before .before .before .before .before .before .before .before .before .before .before .before .before .before .args .s .now) (c .before .before .before .before .before .before .before .before .before .before .before .before .before .before .before .before .before .before .before .args .file .now) (c .before .before .before .before .before .before .before .before .before .before .before .before .before .before .before .before .before .before .before .args .depth) (c .before .before .before .before .before .before .before .before .before .before .before .before .before .before .before .before .before .before .before .args .place)) (now (c .before .before .before .before .before .before .before .before .before .item-name .result)) (text (c .before .before .before .before .before .before .before .before .before .before .before .before .before .before .before .before .before .before .before .args .s .now) (c .before .before .before .before .before .before .before .before .before .before .before .before .before .before .before .before .before .before .before .args .place + 4)) (c .before .before .before .before .before .before .before .before .before .before .before .before .before .before .item-kind .result) (c .before .before .before .before .before .before .before .before .before .before .before .item-visibility .result) (byte (c .before .before .before .before .before .before .before .before .before .before .before .before .before .before .before .before .before .before .before .args .s .now) (c .before .before .before .before .before .before .before .before .before .before .before .before .before .before .before .before .before .before .before .args .place + 3)) (name-text (c .before .before .before .before .before .before .before .before .before .before .before .before .before .before .before .before .before .before .before .args .s .now) (c .before .before .before .before .before .before .before .before .before .before .before .before .before .before .before .before .before .before .before .args .place) (c .before .before .before .before .before .before .before .before .before .before .before .before .before .before .item-kind .result) (c .before .before .before .before .before .before .before .before .before .before .before .before .before .before .item-kind .ensures) (now (c .before .before .before .before .before .before .before .before .before .item-name .result)) (c .before .before .before .before .before .before .before .before .before .before .before .before .if2 .left) (c .before .before .before .before .before .before .before .before .before .before .before .before .before .if1 .left) (c .before .before .before .before .before .before .before .before .before .item-name .ensures)) (visibility-at (c .before .before .before .before .before .before .before .before .before .before .before .before .before .before .before .before .before .before .before .args .s .now) (c .before .before .before .before .before .before .before .before .before .before .before .before .before .before .before .before .before .before .before .args .place) (c .before .before .before .before .before .before .before .before .before .before .before .item-visibility .result) (c .before .before .before .before .before .before .before .before .before .before .before .item-visibility .ensures)) (flat-bytes (c .before .before .before .before .before .before .before .before .before .before .before .before .before .before .before .before .before .before .before .args .s .now) (c .before .before .before .before .before .before .before .before .before .before .before .before .before .before .before .before .before .before .before .args .place) (c .before .before .before .before .before .before .before .before .before .before .before .before .before .before .item-kind .result) (c .before .before .before .before .before .before .before .before .before .before .before .before .before .before .item-kind .ensures) (c .before .before .before .before .before .before .before .before .before .before .before .before .before .before .before .before .before .before .before .args .file .now) (c .before .before .before .before .before .before .before .before .before .before .before .before .before .before .before .before .before .before .before .args .depth) (c .before .before .before .before .before .if3 .left) (c .before .before .before .before .if4 .taken))) (c .before .before .put-two2 .last .0) (c .before .before .put-two2 .ensures)
+write-item-returns-4 t c = leaf-done (begun t (c .before .before .before .before .before .before .before .before)) (leaf t (c .before .before .before .before .before .before .before .before) (flat-bytes (c .before .before .before .before .before .before .before .before .before .before .before .before .before .before .before .before .before .before .before .args .s .now) (c .before .before .before .before .before .before .before .before .before .before .before .before .before .before .before .before .before .before .before .args .place) (c .before .before .before .before .before .before .before .before .before .before .before .before .before .before .item-kind .result) (c .before .before .before .before .before .before .before .before .before .before .before .before .before .before .item-kind .ensures) (c .before .before .before .before .before .before .before .before .before .before .before .before .before .before .before .before .before .before .before .args .file .now) (c .before .before .before .before .before .before .before .before .before .before .before .before .before .before .before .before .before .before .before .args .depth) (c .before .before .before .before .before .if3 .left) (c .before .before .before .before .if4 .taken))) (c .before .before .put-two2 .last .0) (c .before .before .put-two2 .ensures)
 
 write-item-module-items-requires : (t : ℕ) → write-item-lts.Need-module-items-requires (
   item-kind-reads.Asked,
@@ -457,7 +488,7 @@ write-item-sub-write-items-2 : (t : ℕ) → write-item-lts.Need-sub-write-items
   write-items-below t,
   write-items.Post,
 ) (write-item-at t) write-item.Post
-write-item-sub-write-items-2 t c = inside-start (now (c .before .before .before .before .before .before .before .before .before .before .before .before .before .before .before .before .args .out)) (c .before .before .before .before .before .put-start .last .0) (now (c .before .before .before .before .before .before .item-name .result)) (c .before .before .before .before .before .before .before .before .before .before .before .item-kind .result) (c .before .before .before .before .before .before .before .before .item-visibility .result) (c .before .before .before .before .before .put-start .result) (c .before .before .before .before .before .put-start .ensures .1) (c .before .before .before .before .before .put-start .ensures .0) (itemBytes (c .before .before .before .before .before .before .before .before .before .before .before .before .before .before .before .before .args .s .now) (c .before .before .before .before .before .before .before .before .before .before .before .before .before .before .before .before .args .file .now) (c .before .before .before .before .before .before .before .before .before .before .before .before .before .before .before .before .args .depth) (c .before .before .before .before .before .before .before .before .before .before .before .before .before .before .before .before .args .place)) (c .before .before .before .before .before .before .before .before .before .before .before .before .before .before .before .before .pre .1 .1 .1 .0) (c .before .before .before .before .before .before .before .before .before .before .before .before .before .before .before .before .pre .1 .1 .1 .1) (itemsBytes (c .before .before .before .before .before .before .before .before .before .before .before .before .before .before .before .before .args .s .now) (c .before .before .before .before .before .before .before .before .before .before .before .before .before .before .before .before .args .file .now) (c .before .before .before .before .before .before .before .before .before .before .before .before .before .before .before .before .args .depth - 1) (c .module-items .result .end) (c .module-items .result .at)) (by-name-inside (itemBytes (c .before .before .before .before .before .before .before .before .before .before .before .before .before .before .before .before .args .s .now) (c .before .before .before .before .before .before .before .before .before .before .before .before .before .before .before .before .args .file .now) (c .before .before .before .before .before .before .before .before .before .before .before .before .before .before .before .before .args .depth) (c .before .before .before .before .before .before .before .before .before .before .before .before .before .before .before .before .args .place)) (now (c .before .before .before .before .before .before .item-name .result)) (text (c .before .before .before .before .before .before .before .before .before .before .before .before .before .before .before .before .args .s .now) (c .before .before .before .before .before .before .before .before .before .before .before .before .before .before .before .before .args .place + 4)) (itemsBytes (c .before .before .before .before .before .before .before .before .before .before .before .before .before .before .before .before .args .s .now) (c .before .before .before .before .before .before .before .before .before .before .before .before .before .before .before .before .args .file .now) (c .before .before .before .before .before .before .before .before .before .before .before .before .before .before .before .before .args .depth - 1) (c .module-items .result .end) (c .module-items .result .at)) (c .before .before .before .before .before .before .before .before .before .before .before .item-kind .result) (c .before .before .before .before .before .before .before .before .item-visibility .result) (byte (c .before .before .before .before .before .before .before .before .before .before .before .before .before .before .before .before .args .s .now) (c .before .before .before .before .before .before .before .before .before .before .before .before .before .before .before .before .args .place + 3)) (name-text (c .before .before .before .before .before .before .before .before .before .before .before .before .before .before .before .before .args .s .now) (c .before .before .before .before .before .before .before .before .before .before .before .before .before .before .before .before .args .place) (c .before .before .before .before .before .before .before .before .before .before .before .item-kind .result) (c .before .before .before .before .before .before .before .before .before .before .before .item-kind .ensures) (now (c .before .before .before .before .before .before .item-name .result)) (c .before .before .before .before .before .before .before .before .before .if2 .left) (c .before .before .before .before .before .before .before .before .before .before .if1 .left) (c .before .before .before .before .before .before .item-name .ensures)) (visibility-at (c .before .before .before .before .before .before .before .before .before .before .before .before .before .before .before .before .args .s .now) (c .before .before .before .before .before .before .before .before .before .before .before .before .before .before .before .before .args .place) (c .before .before .before .before .before .before .before .before .item-visibility .result) (c .before .before .before .before .before .before .before .before .item-visibility .ensures)) (module-bytes (c .before .before .before .before .before .before .before .before .before .before .before .before .before .before .before .before .args .s .now) (c .before .before .before .before .before .before .before .before .before .before .before .before .before .before .before .before .args .place) (c .before .before .before .before .before .before .before .before .before .before .before .item-kind .result) (c .before .before .before .before .before .before .before .before .before .before .before .item-kind .ensures) (c .before .before .before .before .before .before .before .before .before .before .before .before .before .before .before .before .args .file .now) (c .before .before .before .before .before .before .before .before .before .before .before .before .before .before .before .before .args .depth) (c .module-items .result .end) (c .module-items .result .at) (c .before .before .if3 .left) (c .before .if4 .left) (c .module-items .ensures .0)))
+write-item-sub-write-items-2 t c = inside-start (inside t c)
 
 write-item-part-write-items-start : (t : ℕ) → write-item-lts.Need-part-write-items-start (
   item-kind-reads.Asked,
@@ -477,7 +508,7 @@ write-item-part-write-items-start : (t : ℕ) → write-item-lts.Need-part-write
   write-items-below t,
   write-items.Post,
 ) (write-item-at t) write-item.Post
-write-item-part-write-items-start t c = let h = inside-start (now (c .before .before .before .before .before .before .before .before .before .before .before .before .before .before .before .before .args .out)) (c .before .before .before .before .before .put-start .last .0) (now (c .before .before .before .before .before .before .item-name .result)) (c .before .before .before .before .before .before .before .before .before .before .before .item-kind .result) (c .before .before .before .before .before .before .before .before .item-visibility .result) (c .before .before .before .before .before .put-start .result) (c .before .before .before .before .before .put-start .ensures .1) (c .before .before .before .before .before .put-start .ensures .0) (itemBytes (c .before .before .before .before .before .before .before .before .before .before .before .before .before .before .before .before .args .s .now) (c .before .before .before .before .before .before .before .before .before .before .before .before .before .before .before .before .args .file .now) (c .before .before .before .before .before .before .before .before .before .before .before .before .before .before .before .before .args .depth) (c .before .before .before .before .before .before .before .before .before .before .before .before .before .before .before .before .args .place)) (c .before .before .before .before .before .before .before .before .before .before .before .before .before .before .before .before .pre .1 .1 .1 .0) (c .before .before .before .before .before .before .before .before .before .before .before .before .before .before .before .before .pre .1 .1 .1 .1) (itemsBytes (c .before .before .before .before .before .before .before .before .before .before .before .before .before .before .before .before .args .s .now) (c .before .before .before .before .before .before .before .before .before .before .before .before .before .before .before .before .args .file .now) (c .before .before .before .before .before .before .before .before .before .before .before .before .before .before .before .before .args .depth - 1) (c .module-items .result .end) (c .module-items .result .at)) (by-name-inside (itemBytes (c .before .before .before .before .before .before .before .before .before .before .before .before .before .before .before .before .args .s .now) (c .before .before .before .before .before .before .before .before .before .before .before .before .before .before .before .before .args .file .now) (c .before .before .before .before .before .before .before .before .before .before .before .before .before .before .before .before .args .depth) (c .before .before .before .before .before .before .before .before .before .before .before .before .before .before .before .before .args .place)) (now (c .before .before .before .before .before .before .item-name .result)) (text (c .before .before .before .before .before .before .before .before .before .before .before .before .before .before .before .before .args .s .now) (c .before .before .before .before .before .before .before .before .before .before .before .before .before .before .before .before .args .place + 4)) (itemsBytes (c .before .before .before .before .before .before .before .before .before .before .before .before .before .before .before .before .args .s .now) (c .before .before .before .before .before .before .before .before .before .before .before .before .before .before .before .before .args .file .now) (c .before .before .before .before .before .before .before .before .before .before .before .before .before .before .before .before .args .depth - 1) (c .module-items .result .end) (c .module-items .result .at)) (c .before .before .before .before .before .before .before .before .before .before .before .item-kind .result) (c .before .before .before .before .before .before .before .before .item-visibility .result) (byte (c .before .before .before .before .before .before .before .before .before .before .before .before .before .before .before .before .args .s .now) (c .before .before .before .before .before .before .before .before .before .before .before .before .before .before .before .before .args .place + 3)) (name-text (c .before .before .before .before .before .before .before .before .before .before .before .before .before .before .before .before .args .s .now) (c .before .before .before .before .before .before .before .before .before .before .before .before .before .before .before .before .args .place) (c .before .before .before .before .before .before .before .before .before .before .before .item-kind .result) (c .before .before .before .before .before .before .before .before .before .before .before .item-kind .ensures) (now (c .before .before .before .before .before .before .item-name .result)) (c .before .before .before .before .before .before .before .before .before .if2 .left) (c .before .before .before .before .before .before .before .before .before .before .if1 .left) (c .before .before .before .before .before .before .item-name .ensures)) (visibility-at (c .before .before .before .before .before .before .before .before .before .before .before .before .before .before .before .before .args .s .now) (c .before .before .before .before .before .before .before .before .before .before .before .before .before .before .before .before .args .place) (c .before .before .before .before .before .before .before .before .item-visibility .result) (c .before .before .before .before .before .before .before .before .item-visibility .ensures)) (module-bytes (c .before .before .before .before .before .before .before .before .before .before .before .before .before .before .before .before .args .s .now) (c .before .before .before .before .before .before .before .before .before .before .before .before .before .before .before .before .args .place) (c .before .before .before .before .before .before .before .before .before .before .before .item-kind .result) (c .before .before .before .before .before .before .before .before .before .before .before .item-kind .ensures) (c .before .before .before .before .before .before .before .before .before .before .before .before .before .before .before .before .args .file .now) (c .before .before .before .before .before .before .before .before .before .before .before .before .before .before .before .before .args .depth) (c .module-items .result .end) (c .module-items .result .at) (c .before .before .if3 .left) (c .before .if4 .left) (c .module-items .ensures .0))) in search needs
+write-item-part-write-items-start t c = let h = inside-start (inside t c) in search needs
 
 write-item-part-write-items-end : (t : ℕ) → write-item-lts.Need-part-write-items-end (
   item-kind-reads.Asked,
@@ -517,7 +548,7 @@ write-item-write-items-requires : (t : ℕ) → write-item-lts.Need-write-items-
   write-items-below t,
   write-items.Post,
 ) (write-item-at t) write-item.Post
-write-item-write-items-requires t c κs = (search needs, ((c .before .before .before .before .before .before .before .before .before .before .before .before .before .before .before .before .before .pre .1 .0 .0, search needs), (brief-inside (c .before .before .before .before .before .before .before .before .before .before .before .before .before .before .before .before .before .args .s .now) (c .before .before .before .before .before .before .before .before .before .before .before .before .before .before .before .before .before .args .place) (c .before .before .before .before .before .before .before .before .before .before .before .before .item-kind .result) (c .before .before .before .before .before .before .before .before .before .before .before .before .item-kind .ensures) (c .before .before .before .before .before .before .before .before .before .before .before .before .before .before .before .before .before .args .depth) (c .before .before .before .before .before .before .before .before .before .before .before .before .before .before .before .before .before .pre .1 .1 .0) (c .before .module-items .result .end) (c .before .module-items .result .at) (c .before .before .before .if3 .left) (c .before .before .if4 .left) (c .before .module-items .ensures .0), (inside-room (now (c .before .before .before .before .before .before .before .before .before .before .before .before .before .before .before .before .before .args .out)) (c .before .before .before .before .before .before .put-start .last .0) (now (c .before .before .before .before .before .before .before .item-name .result)) (c .before .before .before .before .before .before .before .before .before .before .before .before .item-kind .result) (c .before .before .before .before .before .before .before .before .before .item-visibility .result) (c .before .before .before .before .before .before .put-start .result) (c .before .before .before .before .before .before .put-start .ensures .1) (c .before .before .before .before .before .before .put-start .ensures .0) (itemBytes (c .before .before .before .before .before .before .before .before .before .before .before .before .before .before .before .before .before .args .s .now) (c .before .before .before .before .before .before .before .before .before .before .before .before .before .before .before .before .before .args .file .now) (c .before .before .before .before .before .before .before .before .before .before .before .before .before .before .before .before .before .args .depth) (c .before .before .before .before .before .before .before .before .before .before .before .before .before .before .before .before .before .args .place)) (c .before .before .before .before .before .before .before .before .before .before .before .before .before .before .before .before .before .pre .1 .1 .1 .0) (c .before .before .before .before .before .before .before .before .before .before .before .before .before .before .before .before .before .pre .1 .1 .1 .1) (itemsBytes (c .before .before .before .before .before .before .before .before .before .before .before .before .before .before .before .before .before .args .s .now) (c .before .before .before .before .before .before .before .before .before .before .before .before .before .before .before .before .before .args .file .now) (c .before .before .before .before .before .before .before .before .before .before .before .before .before .before .before .before .before .args .depth - 1) (c .before .module-items .result .end) (c .before .module-items .result .at)) (by-name-inside (itemBytes (c .before .before .before .before .before .before .before .before .before .before .before .before .before .before .before .before .before .args .s .now) (c .before .before .before .before .before .before .before .before .before .before .before .before .before .before .before .before .before .args .file .now) (c .before .before .before .before .before .before .before .before .before .before .before .before .before .before .before .before .before .args .depth) (c .before .before .before .before .before .before .before .before .before .before .before .before .before .before .before .before .before .args .place)) (now (c .before .before .before .before .before .before .before .item-name .result)) (text (c .before .before .before .before .before .before .before .before .before .before .before .before .before .before .before .before .before .args .s .now) (c .before .before .before .before .before .before .before .before .before .before .before .before .before .before .before .before .before .args .place + 4)) (itemsBytes (c .before .before .before .before .before .before .before .before .before .before .before .before .before .before .before .before .before .args .s .now) (c .before .before .before .before .before .before .before .before .before .before .before .before .before .before .before .before .before .args .file .now) (c .before .before .before .before .before .before .before .before .before .before .before .before .before .before .before .before .before .args .depth - 1) (c .before .module-items .result .end) (c .before .module-items .result .at)) (c .before .before .before .before .before .before .before .before .before .before .before .before .item-kind .result) (c .before .before .before .before .before .before .before .before .before .item-visibility .result) (byte (c .before .before .before .before .before .before .before .before .before .before .before .before .before .before .before .before .before .args .s .now) (c .before .before .before .before .before .before .before .before .before .before .before .before .before .before .before .before .before .args .place + 3)) (name-text (c .before .before .before .before .before .before .before .before .before .before .before .before .before .before .before .before .before .args .s .now) (c .before .before .before .before .before .before .before .before .before .before .before .before .before .before .before .before .before .args .place) (c .before .before .before .before .before .before .before .before .before .before .before .before .item-kind .result) (c .before .before .before .before .before .before .before .before .before .before .before .before .item-kind .ensures) (now (c .before .before .before .before .before .before .before .item-name .result)) (c .before .before .before .before .before .before .before .before .before .before .if2 .left) (c .before .before .before .before .before .before .before .before .before .before .before .if1 .left) (c .before .before .before .before .before .before .before .item-name .ensures)) (visibility-at (c .before .before .before .before .before .before .before .before .before .before .before .before .before .before .before .before .before .args .s .now) (c .before .before .before .before .before .before .before .before .before .before .before .before .before .before .before .before .before .args .place) (c .before .before .before .before .before .before .before .before .before .item-visibility .result) (c .before .before .before .before .before .before .before .before .before .item-visibility .ensures)) (module-bytes (c .before .before .before .before .before .before .before .before .before .before .before .before .before .before .before .before .before .args .s .now) (c .before .before .before .before .before .before .before .before .before .before .before .before .before .before .before .before .before .args .place) (c .before .before .before .before .before .before .before .before .before .before .before .before .item-kind .result) (c .before .before .before .before .before .before .before .before .before .before .before .before .item-kind .ensures) (c .before .before .before .before .before .before .before .before .before .before .before .before .before .before .before .before .before .args .file .now) (c .before .before .before .before .before .before .before .before .before .before .before .before .before .before .before .before .before .args .depth) (c .before .module-items .result .end) (c .before .module-items .result .at) (c .before .before .before .if3 .left) (c .before .before .if4 .left) (c .before .module-items .ensures .0))), inside-short (now (c .before .before .before .before .before .before .before .before .before .before .before .before .before .before .before .before .before .args .out)) (c .before .before .before .before .before .before .put-start .last .0) (now (c .before .before .before .before .before .before .before .item-name .result)) (c .before .before .before .before .before .before .before .before .before .before .before .before .item-kind .result) (c .before .before .before .before .before .before .before .before .before .item-visibility .result) (c .before .before .before .before .before .before .put-start .result) (c .before .before .before .before .before .before .put-start .ensures .1) (c .before .before .before .before .before .before .put-start .ensures .0) (itemBytes (c .before .before .before .before .before .before .before .before .before .before .before .before .before .before .before .before .before .args .s .now) (c .before .before .before .before .before .before .before .before .before .before .before .before .before .before .before .before .before .args .file .now) (c .before .before .before .before .before .before .before .before .before .before .before .before .before .before .before .before .before .args .depth) (c .before .before .before .before .before .before .before .before .before .before .before .before .before .before .before .before .before .args .place)) (c .before .before .before .before .before .before .before .before .before .before .before .before .before .before .before .before .before .pre .1 .1 .1 .0) (c .before .before .before .before .before .before .before .before .before .before .before .before .before .before .before .before .before .pre .1 .1 .1 .1) (itemsBytes (c .before .before .before .before .before .before .before .before .before .before .before .before .before .before .before .before .before .args .s .now) (c .before .before .before .before .before .before .before .before .before .before .before .before .before .before .before .before .before .args .file .now) (c .before .before .before .before .before .before .before .before .before .before .before .before .before .before .before .before .before .args .depth - 1) (c .before .module-items .result .end) (c .before .module-items .result .at)) (by-name-inside (itemBytes (c .before .before .before .before .before .before .before .before .before .before .before .before .before .before .before .before .before .args .s .now) (c .before .before .before .before .before .before .before .before .before .before .before .before .before .before .before .before .before .args .file .now) (c .before .before .before .before .before .before .before .before .before .before .before .before .before .before .before .before .before .args .depth) (c .before .before .before .before .before .before .before .before .before .before .before .before .before .before .before .before .before .args .place)) (now (c .before .before .before .before .before .before .before .item-name .result)) (text (c .before .before .before .before .before .before .before .before .before .before .before .before .before .before .before .before .before .args .s .now) (c .before .before .before .before .before .before .before .before .before .before .before .before .before .before .before .before .before .args .place + 4)) (itemsBytes (c .before .before .before .before .before .before .before .before .before .before .before .before .before .before .before .before .before .args .s .now) (c .before .before .before .before .before .before .before .before .before .before .before .before .before .before .before .before .before .args .file .now) (c .before .before .before .before .before .before .before .before .before .before .before .before .before .before .before .before .before .args .depth - 1) (c .before .module-items .result .end) (c .before .module-items .result .at)) (c .before .before .before .before .before .before .before .before .before .before .before .before .item-kind .result) (c .before .before .before .before .before .before .before .before .before .item-visibility .result) (byte (c .before .before .before .before .before .before .before .before .before .before .before .before .before .before .before .before .before .args .s .now) (c .before .before .before .before .before .before .before .before .before .before .before .before .before .before .before .before .before .args .place + 3)) (name-text (c .before .before .before .before .before .before .before .before .before .before .before .before .before .before .before .before .before .args .s .now) (c .before .before .before .before .before .before .before .before .before .before .before .before .before .before .before .before .before .args .place) (c .before .before .before .before .before .before .before .before .before .before .before .before .item-kind .result) (c .before .before .before .before .before .before .before .before .before .before .before .before .item-kind .ensures) (now (c .before .before .before .before .before .before .before .item-name .result)) (c .before .before .before .before .before .before .before .before .before .before .if2 .left) (c .before .before .before .before .before .before .before .before .before .before .before .if1 .left) (c .before .before .before .before .before .before .before .item-name .ensures)) (visibility-at (c .before .before .before .before .before .before .before .before .before .before .before .before .before .before .before .before .before .args .s .now) (c .before .before .before .before .before .before .before .before .before .before .before .before .before .before .before .before .before .args .place) (c .before .before .before .before .before .before .before .before .before .item-visibility .result) (c .before .before .before .before .before .before .before .before .before .item-visibility .ensures)) (module-bytes (c .before .before .before .before .before .before .before .before .before .before .before .before .before .before .before .before .before .args .s .now) (c .before .before .before .before .before .before .before .before .before .before .before .before .before .before .before .before .before .args .place) (c .before .before .before .before .before .before .before .before .before .before .before .before .item-kind .result) (c .before .before .before .before .before .before .before .before .before .before .before .before .item-kind .ensures) (c .before .before .before .before .before .before .before .before .before .before .before .before .before .before .before .before .before .args .file .now) (c .before .before .before .before .before .before .before .before .before .before .before .before .before .before .before .before .before .args .depth) (c .before .module-items .result .end) (c .before .module-items .result .at) (c .before .before .before .if3 .left) (c .before .before .if4 .left) (c .before .module-items .ensures .0)))))))
+write-item-write-items-requires t c κs = (search needs, ((c .before .before .before .before .before .before .before .before .before .before .before .before .before .before .before .before .before .pre .1 .0 .0, search needs), (brief-inside (c .before .before .before .before .before .before .before .before .before .before .before .before .before .before .before .before .before .args .s .now) (c .before .before .before .before .before .before .before .before .before .before .before .before .before .before .before .before .before .args .place) (c .before .before .before .before .before .before .before .before .before .before .before .before .item-kind .result) (c .before .before .before .before .before .before .before .before .before .before .before .before .item-kind .ensures) (c .before .before .before .before .before .before .before .before .before .before .before .before .before .before .before .before .before .args .depth) (c .before .before .before .before .before .before .before .before .before .before .before .before .before .before .before .before .before .pre .1 .1 .0) (c .before .module-items .result .end) (c .before .module-items .result .at) (c .before .before .before .if3 .left) (c .before .before .if4 .left) (c .before .module-items .ensures .0), (inside-room (inside t (c .before)), inside-short (inside t (c .before))))))
 
 write-item-add-put-two : (t : ℕ) → write-item-lts.Need-add-put-two (
   item-kind-reads.Asked,
@@ -537,7 +568,7 @@ write-item-add-put-two : (t : ℕ) → write-item-lts.Need-add-put-two (
   write-items-below t,
   write-items.Post,
 ) (write-item-at t) write-item.Post
-write-item-add-put-two t c = let h = inside-length (now (c .before .before .before .before .before .before .before .before .before .before .before .before .before .before .before .before .before .before .before .before .before .args .out)) (c .before .before .before .before .before .before .before .before .before .before .put-start .last .0) (now (c .before .before .before .before .before .before .before .before .before .before .before .item-name .result)) (c .before .before .before .before .before .before .before .before .before .before .before .before .before .before .before .before .item-kind .result) (c .before .before .before .before .before .before .before .before .before .before .before .before .before .item-visibility .result) (c .before .before .before .before .before .before .before .before .before .before .put-start .result) (c .before .before .before .before .before .before .before .before .before .before .put-start .ensures .1) (c .before .before .before .before .before .before .before .before .before .before .put-start .ensures .0) (itemBytes (c .before .before .before .before .before .before .before .before .before .before .before .before .before .before .before .before .before .before .before .before .before .args .s .now) (c .before .before .before .before .before .before .before .before .before .before .before .before .before .before .before .before .before .before .before .before .before .args .file .now) (c .before .before .before .before .before .before .before .before .before .before .before .before .before .before .before .before .before .before .before .before .before .args .depth) (c .before .before .before .before .before .before .before .before .before .before .before .before .before .before .before .before .before .before .before .before .before .args .place)) (c .before .before .before .before .before .before .before .before .before .before .before .before .before .before .before .before .before .before .before .before .before .pre .1 .1 .1 .0) (c .before .before .before .before .before .before .before .before .before .before .before .before .before .before .before .before .before .before .before .before .before .pre .1 .1 .1 .1) (itemsBytes (c .before .before .before .before .before .before .before .before .before .before .before .before .before .before .before .before .before .before .before .before .before .args .s .now) (c .before .before .before .before .before .before .before .before .before .before .before .before .before .before .before .before .before .before .before .before .before .args .file .now) (c .before .before .before .before .before .before .before .before .before .before .before .before .before .before .before .before .before .before .before .before .before .args .depth - 1) (c .before .before .before .before .before .module-items .result .end) (c .before .before .before .before .before .module-items .result .at)) (by-name-inside (itemBytes (c .before .before .before .before .before .before .before .before .before .before .before .before .before .before .before .before .before .before .before .before .before .args .s .now) (c .before .before .before .before .before .before .before .before .before .before .before .before .before .before .before .before .before .before .before .before .before .args .file .now) (c .before .before .before .before .before .before .before .before .before .before .before .before .before .before .before .before .before .before .before .before .before .args .depth) (c .before .before .before .before .before .before .before .before .before .before .before .before .before .before .before .before .before .before .before .before .before .args .place)) (now (c .before .before .before .before .before .before .before .before .before .before .before .item-name .result)) (text (c .before .before .before .before .before .before .before .before .before .before .before .before .before .before .before .before .before .before .before .before .before .args .s .now) (c .before .before .before .before .before .before .before .before .before .before .before .before .before .before .before .before .before .before .before .before .before .args .place + 4)) (itemsBytes (c .before .before .before .before .before .before .before .before .before .before .before .before .before .before .before .before .before .before .before .before .before .args .s .now) (c .before .before .before .before .before .before .before .before .before .before .before .before .before .before .before .before .before .before .before .before .before .args .file .now) (c .before .before .before .before .before .before .before .before .before .before .before .before .before .before .before .before .before .before .before .before .before .args .depth - 1) (c .before .before .before .before .before .module-items .result .end) (c .before .before .before .before .before .module-items .result .at)) (c .before .before .before .before .before .before .before .before .before .before .before .before .before .before .before .before .item-kind .result) (c .before .before .before .before .before .before .before .before .before .before .before .before .before .item-visibility .result) (byte (c .before .before .before .before .before .before .before .before .before .before .before .before .before .before .before .before .before .before .before .before .before .args .s .now) (c .before .before .before .before .before .before .before .before .before .before .before .before .before .before .before .before .before .before .before .before .before .args .place + 3)) (name-text (c .before .before .before .before .before .before .before .before .before .before .before .before .before .before .before .before .before .before .before .before .before .args .s .now) (c .before .before .before .before .before .before .before .before .before .before .before .before .before .before .before .before .before .before .before .before .before .args .place) (c .before .before .before .before .before .before .before .before .before .before .before .before .before .before .before .before .item-kind .result) (c .before .before .before .before .before .before .before .before .before .before .before .before .before .before .before .before .item-kind .ensures) (now (c .before .before .before .before .before .before .before .before .before .before .before .item-name .result)) (c .before .before .before .before .before .before .before .before .before .before .before .before .before .before .if2 .left) (c .before .before .before .before .before .before .before .before .before .before .before .before .before .before .before .if1 .left) (c .before .before .before .before .before .before .before .before .before .before .before .item-name .ensures)) (visibility-at (c .before .before .before .before .before .before .before .before .before .before .before .before .before .before .before .before .before .before .before .before .before .args .s .now) (c .before .before .before .before .before .before .before .before .before .before .before .before .before .before .before .before .before .before .before .before .before .args .place) (c .before .before .before .before .before .before .before .before .before .before .before .before .before .item-visibility .result) (c .before .before .before .before .before .before .before .before .before .before .before .before .before .item-visibility .ensures)) (module-bytes (c .before .before .before .before .before .before .before .before .before .before .before .before .before .before .before .before .before .before .before .before .before .args .s .now) (c .before .before .before .before .before .before .before .before .before .before .before .before .before .before .before .before .before .before .before .before .before .args .place) (c .before .before .before .before .before .before .before .before .before .before .before .before .before .before .before .before .item-kind .result) (c .before .before .before .before .before .before .before .before .before .before .before .before .before .before .before .before .item-kind .ensures) (c .before .before .before .before .before .before .before .before .before .before .before .before .before .before .before .before .before .before .before .before .before .args .file .now) (c .before .before .before .before .before .before .before .before .before .before .before .before .before .before .before .before .before .before .before .before .before .args .depth) (c .before .before .before .before .before .module-items .result .end) (c .before .before .before .before .before .module-items .result .at) (c .before .before .before .before .before .before .before .if3 .left) (c .before .before .before .before .before .before .if4 .left) (c .before .before .before .before .before .module-items .ensures .0))) (c .before .before .before .write-items .last .1 .1 .1 .1 .1 .1 .1 .1 .1 .0) (c .before .before .before .write-items .result) (c .before .before .before .write-items .ensures .1) (c .before .before .before .write-items .ensures .0) .1 in let g : Fits w64 (c .before .before .before .before .before .before .before .before .before .before .put-start .result + c .before .before .before .write-items .result) = omega arith in g
+write-item-add-put-two t c = let h = inside-length (inside t (c .before .before .before .before .before)) (c .before .before .before .write-items .last .1 .1 .1 .1 .1 .1 .1 .1 .1 .0) (c .before .before .before .write-items .result) (c .before .before .before .write-items .ensures) .1 in let g : Fits w64 (c .before .before .before .before .before .before .before .before .before .before .put-start .result + c .before .before .before .write-items .result) = omega arith in g
 
 write-item-sub-put-two-3 : (t : ℕ) → write-item-lts.Need-sub-put-two-3 (
   item-kind-reads.Asked,
@@ -577,7 +608,7 @@ write-item-put-two-requires-3 : (t : ℕ) → write-item-lts.Need-put-two-requir
   write-items-below t,
   write-items.Post,
 ) (write-item-at t) write-item.Post
-write-item-put-two-requires-3 t c κs = inside-length (now (c .before .before .before .before .before .before .before .before .before .before .before .before .before .before .before .before .before .before .before .before .before .args .out)) (c .before .before .before .before .before .before .before .before .before .before .put-start .last .0) (now (c .before .before .before .before .before .before .before .before .before .before .before .item-name .result)) (c .before .before .before .before .before .before .before .before .before .before .before .before .before .before .before .before .item-kind .result) (c .before .before .before .before .before .before .before .before .before .before .before .before .before .item-visibility .result) (c .before .before .before .before .before .before .before .before .before .before .put-start .result) (c .before .before .before .before .before .before .before .before .before .before .put-start .ensures .1) (c .before .before .before .before .before .before .before .before .before .before .put-start .ensures .0) (itemBytes (c .before .before .before .before .before .before .before .before .before .before .before .before .before .before .before .before .before .before .before .before .before .args .s .now) (c .before .before .before .before .before .before .before .before .before .before .before .before .before .before .before .before .before .before .before .before .before .args .file .now) (c .before .before .before .before .before .before .before .before .before .before .before .before .before .before .before .before .before .before .before .before .before .args .depth) (c .before .before .before .before .before .before .before .before .before .before .before .before .before .before .before .before .before .before .before .before .before .args .place)) (c .before .before .before .before .before .before .before .before .before .before .before .before .before .before .before .before .before .before .before .before .before .pre .1 .1 .1 .0) (c .before .before .before .before .before .before .before .before .before .before .before .before .before .before .before .before .before .before .before .before .before .pre .1 .1 .1 .1) (itemsBytes (c .before .before .before .before .before .before .before .before .before .before .before .before .before .before .before .before .before .before .before .before .before .args .s .now) (c .before .before .before .before .before .before .before .before .before .before .before .before .before .before .before .before .before .before .before .before .before .args .file .now) (c .before .before .before .before .before .before .before .before .before .before .before .before .before .before .before .before .before .before .before .before .before .args .depth - 1) (c .before .before .before .before .before .module-items .result .end) (c .before .before .before .before .before .module-items .result .at)) (by-name-inside (itemBytes (c .before .before .before .before .before .before .before .before .before .before .before .before .before .before .before .before .before .before .before .before .before .args .s .now) (c .before .before .before .before .before .before .before .before .before .before .before .before .before .before .before .before .before .before .before .before .before .args .file .now) (c .before .before .before .before .before .before .before .before .before .before .before .before .before .before .before .before .before .before .before .before .before .args .depth) (c .before .before .before .before .before .before .before .before .before .before .before .before .before .before .before .before .before .before .before .before .before .args .place)) (now (c .before .before .before .before .before .before .before .before .before .before .before .item-name .result)) (text (c .before .before .before .before .before .before .before .before .before .before .before .before .before .before .before .before .before .before .before .before .before .args .s .now) (c .before .before .before .before .before .before .before .before .before .before .before .before .before .before .before .before .before .before .before .before .before .args .place + 4)) (itemsBytes (c .before .before .before .before .before .before .before .before .before .before .before .before .before .before .before .before .before .before .before .before .before .args .s .now) (c .before .before .before .before .before .before .before .before .before .before .before .before .before .before .before .before .before .before .before .before .before .args .file .now) (c .before .before .before .before .before .before .before .before .before .before .before .before .before .before .before .before .before .before .before .before .before .args .depth - 1) (c .before .before .before .before .before .module-items .result .end) (c .before .before .before .before .before .module-items .result .at)) (c .before .before .before .before .before .before .before .before .before .before .before .before .before .before .before .before .item-kind .result) (c .before .before .before .before .before .before .before .before .before .before .before .before .before .item-visibility .result) (byte (c .before .before .before .before .before .before .before .before .before .before .before .before .before .before .before .before .before .before .before .before .before .args .s .now) (c .before .before .before .before .before .before .before .before .before .before .before .before .before .before .before .before .before .before .before .before .before .args .place + 3)) (name-text (c .before .before .before .before .before .before .before .before .before .before .before .before .before .before .before .before .before .before .before .before .before .args .s .now) (c .before .before .before .before .before .before .before .before .before .before .before .before .before .before .before .before .before .before .before .before .before .args .place) (c .before .before .before .before .before .before .before .before .before .before .before .before .before .before .before .before .item-kind .result) (c .before .before .before .before .before .before .before .before .before .before .before .before .before .before .before .before .item-kind .ensures) (now (c .before .before .before .before .before .before .before .before .before .before .before .item-name .result)) (c .before .before .before .before .before .before .before .before .before .before .before .before .before .before .if2 .left) (c .before .before .before .before .before .before .before .before .before .before .before .before .before .before .before .if1 .left) (c .before .before .before .before .before .before .before .before .before .before .before .item-name .ensures)) (visibility-at (c .before .before .before .before .before .before .before .before .before .before .before .before .before .before .before .before .before .before .before .before .before .args .s .now) (c .before .before .before .before .before .before .before .before .before .before .before .before .before .before .before .before .before .before .before .before .before .args .place) (c .before .before .before .before .before .before .before .before .before .before .before .before .before .item-visibility .result) (c .before .before .before .before .before .before .before .before .before .before .before .before .before .item-visibility .ensures)) (module-bytes (c .before .before .before .before .before .before .before .before .before .before .before .before .before .before .before .before .before .before .before .before .before .args .s .now) (c .before .before .before .before .before .before .before .before .before .before .before .before .before .before .before .before .before .before .before .before .before .args .place) (c .before .before .before .before .before .before .before .before .before .before .before .before .before .before .before .before .item-kind .result) (c .before .before .before .before .before .before .before .before .before .before .before .before .before .before .before .before .item-kind .ensures) (c .before .before .before .before .before .before .before .before .before .before .before .before .before .before .before .before .before .before .before .before .before .args .file .now) (c .before .before .before .before .before .before .before .before .before .before .before .before .before .before .before .before .before .before .before .before .before .args .depth) (c .before .before .before .before .before .module-items .result .end) (c .before .before .before .before .before .module-items .result .at) (c .before .before .before .before .before .before .before .if3 .left) (c .before .before .before .before .before .before .if4 .left) (c .before .before .before .before .before .module-items .ensures .0))) (c .before .before .before .write-items .last .1 .1 .1 .1 .1 .1 .1 .1 .1 .0) (c .before .before .before .write-items .result) (c .before .before .before .write-items .ensures .1) (c .before .before .before .write-items .ensures .0)
+write-item-put-two-requires-3 t c κs = inside-length (inside t (c .before .before .before .before .before)) (c .before .before .before .write-items .last .1 .1 .1 .1 .1 .1 .1 .1 .1 .0) (c .before .before .before .write-items .result) (c .before .before .before .write-items .ensures)
 
 write-item-add-result : (t : ℕ) → write-item-lts.Need-add-result (
   item-kind-reads.Asked,
@@ -597,7 +628,7 @@ write-item-add-result : (t : ℕ) → write-item-lts.Need-add-result (
   write-items-below t,
   write-items.Post,
 ) (write-item-at t) write-item.Post
-write-item-add-result t c = let h = inside-length (now (c .before .before .before .before .before .before .before .before .before .before .before .before .before .before .before .before .before .before .before .before .before .before .before .before .args .out)) (c .before .before .before .before .before .before .before .before .before .before .before .before .before .put-start .last .0) (now (c .before .before .before .before .before .before .before .before .before .before .before .before .before .before .item-name .result)) (c .before .before .before .before .before .before .before .before .before .before .before .before .before .before .before .before .before .before .before .item-kind .result) (c .before .before .before .before .before .before .before .before .before .before .before .before .before .before .before .before .item-visibility .result) (c .before .before .before .before .before .before .before .before .before .before .before .before .before .put-start .result) (c .before .before .before .before .before .before .before .before .before .before .before .before .before .put-start .ensures .1) (c .before .before .before .before .before .before .before .before .before .before .before .before .before .put-start .ensures .0) (itemBytes (c .before .before .before .before .before .before .before .before .before .before .before .before .before .before .before .before .before .before .before .before .before .before .before .before .args .s .now) (c .before .before .before .before .before .before .before .before .before .before .before .before .before .before .before .before .before .before .before .before .before .before .before .before .args .file .now) (c .before .before .before .before .before .before .before .before .before .before .before .before .before .before .before .before .before .before .before .before .before .before .before .before .args .depth) (c .before .before .before .before .before .before .before .before .before .before .before .before .before .before .before .before .before .before .before .before .before .before .before .before .args .place)) (c .before .before .before .before .before .before .before .before .before .before .before .before .before .before .before .before .before .before .before .before .before .before .before .before .pre .1 .1 .1 .0) (c .before .before .before .before .before .before .before .before .before .before .before .before .before .before .before .before .before .before .before .before .before .before .before .before .pre .1 .1 .1 .1) (itemsBytes (c .before .before .before .before .before .before .before .before .before .before .before .before .before .before .before .before .before .before .before .before .before .before .before .before .args .s .now) (c .before .before .before .before .before .before .before .before .before .before .before .before .before .before .before .before .before .before .before .before .before .before .before .before .args .file .now) (c .before .before .before .before .before .before .before .before .before .before .before .before .before .before .before .before .before .before .before .before .before .before .before .before .args .depth - 1) (c .before .before .before .before .before .before .before .before .module-items .result .end) (c .before .before .before .before .before .before .before .before .module-items .result .at)) (by-name-inside (itemBytes (c .before .before .before .before .before .before .before .before .before .before .before .before .before .before .before .before .before .before .before .before .before .before .before .before .args .s .now) (c .before .before .before .before .before .before .before .before .before .before .before .before .before .before .before .before .before .before .before .before .before .before .before .before .args .file .now) (c .before .before .before .before .before .before .before .before .before .before .before .before .before .before .before .before .before .before .before .before .before .before .before .before .args .depth) (c .before .before .before .before .before .before .before .before .before .before .before .before .before .before .before .before .before .before .before .before .before .before .before .before .args .place)) (now (c .before .before .before .before .before .before .before .before .before .before .before .before .before .before .item-name .result)) (text (c .before .before .before .before .before .before .before .before .before .before .before .before .before .before .before .before .before .before .before .before .before .before .before .before .args .s .now) (c .before .before .before .before .before .before .before .before .before .before .before .before .before .before .before .before .before .before .before .before .before .before .before .before .args .place + 4)) (itemsBytes (c .before .before .before .before .before .before .before .before .before .before .before .before .before .before .before .before .before .before .before .before .before .before .before .before .args .s .now) (c .before .before .before .before .before .before .before .before .before .before .before .before .before .before .before .before .before .before .before .before .before .before .before .before .args .file .now) (c .before .before .before .before .before .before .before .before .before .before .before .before .before .before .before .before .before .before .before .before .before .before .before .before .args .depth - 1) (c .before .before .before .before .before .before .before .before .module-items .result .end) (c .before .before .before .before .before .before .before .before .module-items .result .at)) (c .before .before .before .before .before .before .before .before .before .before .before .before .before .before .before .before .before .before .before .item-kind .result) (c .before .before .before .before .before .before .before .before .before .before .before .before .before .before .before .before .item-visibility .result) (byte (c .before .before .before .before .before .before .before .before .before .before .before .before .before .before .before .before .before .before .before .before .before .before .before .before .args .s .now) (c .before .before .before .before .before .before .before .before .before .before .before .before .before .before .before .before .before .before .before .before .before .before .before .before .args .place + 3)) (name-text (c .before .before .before .before .before .before .before .before .before .before .before .before .before .before .before .before .before .before .before .before .before .before .before .before .args .s .now) (c .before .before .before .before .before .before .before .before .before .before .before .before .before .before .before .before .before .before .before .before .before .before .before .before .args .place) (c .before .before .before .before .before .before .before .before .before .before .before .before .before .before .before .before .before .before .before .item-kind .result) (c .before .before .before .before .before .before .before .before .before .before .before .before .before .before .before .before .before .before .before .item-kind .ensures) (now (c .before .before .before .before .before .before .before .before .before .before .before .before .before .before .item-name .result)) (c .before .before .before .before .before .before .before .before .before .before .before .before .before .before .before .before .before .if2 .left) (c .before .before .before .before .before .before .before .before .before .before .before .before .before .before .before .before .before .before .if1 .left) (c .before .before .before .before .before .before .before .before .before .before .before .before .before .before .item-name .ensures)) (visibility-at (c .before .before .before .before .before .before .before .before .before .before .before .before .before .before .before .before .before .before .before .before .before .before .before .before .args .s .now) (c .before .before .before .before .before .before .before .before .before .before .before .before .before .before .before .before .before .before .before .before .before .before .before .before .args .place) (c .before .before .before .before .before .before .before .before .before .before .before .before .before .before .before .before .item-visibility .result) (c .before .before .before .before .before .before .before .before .before .before .before .before .before .before .before .before .item-visibility .ensures)) (module-bytes (c .before .before .before .before .before .before .before .before .before .before .before .before .before .before .before .before .before .before .before .before .before .before .before .before .args .s .now) (c .before .before .before .before .before .before .before .before .before .before .before .before .before .before .before .before .before .before .before .before .before .before .before .before .args .place) (c .before .before .before .before .before .before .before .before .before .before .before .before .before .before .before .before .before .before .before .item-kind .result) (c .before .before .before .before .before .before .before .before .before .before .before .before .before .before .before .before .before .before .before .item-kind .ensures) (c .before .before .before .before .before .before .before .before .before .before .before .before .before .before .before .before .before .before .before .before .before .before .before .before .args .file .now) (c .before .before .before .before .before .before .before .before .before .before .before .before .before .before .before .before .before .before .before .before .before .before .before .before .args .depth) (c .before .before .before .before .before .before .before .before .module-items .result .end) (c .before .before .before .before .before .before .before .before .module-items .result .at) (c .before .before .before .before .before .before .before .before .before .before .if3 .left) (c .before .before .before .before .before .before .before .before .before .if4 .left) (c .before .before .before .before .before .before .before .before .module-items .ensures .0))) (c .before .before .before .before .before .before .write-items .last .1 .1 .1 .1 .1 .1 .1 .1 .1 .0) (c .before .before .before .before .before .before .write-items .result) (c .before .before .before .before .before .before .write-items .ensures .1) (c .before .before .before .before .before .before .write-items .ensures .0) .1 in let g : Fits w64 (c .before .before .before .before .before .before .before .before .before .before .before .before .before .put-start .result + c .before .before .before .before .before .before .write-items .result) = omega arith in g
+write-item-add-result t c = let h = inside-length (inside t (c .before .before .before .before .before .before .before .before)) (c .before .before .before .before .before .before .write-items .last .1 .1 .1 .1 .1 .1 .1 .1 .1 .0) (c .before .before .before .before .before .before .write-items .result) (c .before .before .before .before .before .before .write-items .ensures) .1 in let g : Fits w64 (c .before .before .before .before .before .before .before .before .before .before .before .before .before .put-start .result + c .before .before .before .before .before .before .write-items .result) = omega arith in g
 
 write-item-same-length-4 : (t : ℕ) → write-item-lts.Need-same-length-4 (
   item-kind-reads.Asked,
@@ -637,7 +668,7 @@ write-item-returns-5 : (t : ℕ) → write-item-lts.Need-returns-5 (
   write-items-below t,
   write-items.Post,
 ) (write-item-at t) write-item.Post
-write-item-returns-5 t c = inside-done (now (c .before .before .before .before .before .before .before .before .before .before .before .before .before .before .before .before .before .before .before .before .before .before .before .before .args .out)) (c .before .before .before .before .before .before .before .before .before .before .before .before .before .put-start .last .0) (now (c .before .before .before .before .before .before .before .before .before .before .before .before .before .before .item-name .result)) (c .before .before .before .before .before .before .before .before .before .before .before .before .before .before .before .before .before .before .before .item-kind .result) (c .before .before .before .before .before .before .before .before .before .before .before .before .before .before .before .before .item-visibility .result) (c .before .before .before .before .before .before .before .before .before .before .before .before .before .put-start .result) (c .before .before .before .before .before .before .before .before .before .before .before .before .before .put-start .ensures .1) (c .before .before .before .before .before .before .before .before .before .before .before .before .before .put-start .ensures .0) (itemBytes (c .before .before .before .before .before .before .before .before .before .before .before .before .before .before .before .before .before .before .before .before .before .before .before .before .args .s .now) (c .before .before .before .before .before .before .before .before .before .before .before .before .before .before .before .before .before .before .before .before .before .before .before .before .args .file .now) (c .before .before .before .before .before .before .before .before .before .before .before .before .before .before .before .before .before .before .before .before .before .before .before .before .args .depth) (c .before .before .before .before .before .before .before .before .before .before .before .before .before .before .before .before .before .before .before .before .before .before .before .before .args .place)) (c .before .before .before .before .before .before .before .before .before .before .before .before .before .before .before .before .before .before .before .before .before .before .before .before .pre .1 .1 .1 .0) (c .before .before .before .before .before .before .before .before .before .before .before .before .before .before .before .before .before .before .before .before .before .before .before .before .pre .1 .1 .1 .1) (itemsBytes (c .before .before .before .before .before .before .before .before .before .before .before .before .before .before .before .before .before .before .before .before .before .before .before .before .args .s .now) (c .before .before .before .before .before .before .before .before .before .before .before .before .before .before .before .before .before .before .before .before .before .before .before .before .args .file .now) (c .before .before .before .before .before .before .before .before .before .before .before .before .before .before .before .before .before .before .before .before .before .before .before .before .args .depth - 1) (c .before .before .before .before .before .before .before .before .module-items .result .end) (c .before .before .before .before .before .before .before .before .module-items .result .at)) (by-name-inside (itemBytes (c .before .before .before .before .before .before .before .before .before .before .before .before .before .before .before .before .before .before .before .before .before .before .before .before .args .s .now) (c .before .before .before .before .before .before .before .before .before .before .before .before .before .before .before .before .before .before .before .before .before .before .before .before .args .file .now) (c .before .before .before .before .before .before .before .before .before .before .before .before .before .before .before .before .before .before .before .before .before .before .before .before .args .depth) (c .before .before .before .before .before .before .before .before .before .before .before .before .before .before .before .before .before .before .before .before .before .before .before .before .args .place)) (now (c .before .before .before .before .before .before .before .before .before .before .before .before .before .before .item-name .result)) (text (c .before .before .before .before .before .before .before .before .before .before .before .before .before .before .before .before .before .before .before .before .before .before .before .before .args .s .now) (c .before .before .before .before .before .before .before .before .before .before .before .before .before .before .before .before .before .before .before .before .before .before .before .before .args .place + 4)) (itemsBytes (c .before .before .before .before .before .before .before .before .before .before .before .before .before .before .before .before .before .before .before .before .before .before .before .before .args .s .now) (c .before .before .before .before .before .before .before .before .before .before .before .before .before .before .before .before .before .before .before .before .before .before .before .before .args .file .now) (c .before .before .before .before .before .before .before .before .before .before .before .before .before .before .before .before .before .before .before .before .before .before .before .before .args .depth - 1) (c .before .before .before .before .before .before .before .before .module-items .result .end) (c .before .before .before .before .before .before .before .before .module-items .result .at)) (c .before .before .before .before .before .before .before .before .before .before .before .before .before .before .before .before .before .before .before .item-kind .result) (c .before .before .before .before .before .before .before .before .before .before .before .before .before .before .before .before .item-visibility .result) (byte (c .before .before .before .before .before .before .before .before .before .before .before .before .before .before .before .before .before .before .before .before .before .before .before .before .args .s .now) (c .before .before .before .before .before .before .before .before .before .before .before .before .before .before .before .before .before .before .before .before .before .before .before .before .args .place + 3)) (name-text (c .before .before .before .before .before .before .before .before .before .before .before .before .before .before .before .before .before .before .before .before .before .before .before .before .args .s .now) (c .before .before .before .before .before .before .before .before .before .before .before .before .before .before .before .before .before .before .before .before .before .before .before .before .args .place) (c .before .before .before .before .before .before .before .before .before .before .before .before .before .before .before .before .before .before .before .item-kind .result) (c .before .before .before .before .before .before .before .before .before .before .before .before .before .before .before .before .before .before .before .item-kind .ensures) (now (c .before .before .before .before .before .before .before .before .before .before .before .before .before .before .item-name .result)) (c .before .before .before .before .before .before .before .before .before .before .before .before .before .before .before .before .before .if2 .left) (c .before .before .before .before .before .before .before .before .before .before .before .before .before .before .before .before .before .before .if1 .left) (c .before .before .before .before .before .before .before .before .before .before .before .before .before .before .item-name .ensures)) (visibility-at (c .before .before .before .before .before .before .before .before .before .before .before .before .before .before .before .before .before .before .before .before .before .before .before .before .args .s .now) (c .before .before .before .before .before .before .before .before .before .before .before .before .before .before .before .before .before .before .before .before .before .before .before .before .args .place) (c .before .before .before .before .before .before .before .before .before .before .before .before .before .before .before .before .item-visibility .result) (c .before .before .before .before .before .before .before .before .before .before .before .before .before .before .before .before .item-visibility .ensures)) (module-bytes (c .before .before .before .before .before .before .before .before .before .before .before .before .before .before .before .before .before .before .before .before .before .before .before .before .args .s .now) (c .before .before .before .before .before .before .before .before .before .before .before .before .before .before .before .before .before .before .before .before .before .before .before .before .args .place) (c .before .before .before .before .before .before .before .before .before .before .before .before .before .before .before .before .before .before .before .item-kind .result) (c .before .before .before .before .before .before .before .before .before .before .before .before .before .before .before .before .before .before .before .item-kind .ensures) (c .before .before .before .before .before .before .before .before .before .before .before .before .before .before .before .before .before .before .before .before .before .before .before .before .args .file .now) (c .before .before .before .before .before .before .before .before .before .before .before .before .before .before .before .before .before .before .before .before .before .before .before .before .args .depth) (c .before .before .before .before .before .before .before .before .module-items .result .end) (c .before .before .before .before .before .before .before .before .module-items .result .at) (c .before .before .before .before .before .before .before .before .before .before .if3 .left) (c .before .before .before .before .before .before .before .before .before .if4 .left) (c .before .before .before .before .before .before .before .before .module-items .ensures .0))) (c .before .before .before .before .before .before .write-items .last .1 .1 .1 .1 .1 .1 .1 .1 .1 .0) (c .before .before .before .before .before .before .write-items .result) (c .before .before .before .before .before .before .write-items .ensures .1) (c .before .before .before .before .before .before .write-items .ensures .0) (c .before .before .put-two3 .last .0) (c .before .before .put-two3 .ensures)
+write-item-returns-5 t c = inside-done (inside t (c .before .before .before .before .before .before .before .before)) (c .before .before .before .before .before .before .write-items .last .1 .1 .1 .1 .1 .1 .1 .1 .1 .0) (c .before .before .before .before .before .before .write-items .result) (c .before .before .before .before .before .before .write-items .ensures) (c .before .before .put-two3 .last .0) (c .before .before .put-two3 .ensures)
 
 abbrev write-items-Inv-loop : write-items-lts.InvT-loop
 write-items-Inv-loop s at file index files units from end depth out₀ sum₀ a₀ out sum a = Filled (itemsBytes s file depth end from) (itemsBytes s file depth end a) out₀ out sum × ((length (itemsBytes s file depth end from) ≤ length out₀) × Brief (itemsAt depth s end a))
