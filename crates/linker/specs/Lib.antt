@@ -5,3 +5,4 @@ pub mod Steps
 pub mod Fit
 pub mod Units
 pub mod Join
+pub mod Theorems
