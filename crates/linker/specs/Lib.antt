@@ -6,3 +6,4 @@ pub mod Fit
 pub mod Units
 pub mod Join
 pub mod Theorems
+pub mod Cases
