@@ -7,3 +7,4 @@ pub mod Units
 pub mod Join
 pub mod Theorems
 pub mod Cases
+pub mod Demand
