@@ -1,8 +1,8 @@
 -- The operation: bytes, a lent report buffer and a lent image buffer, and what is answered. Assumes nothing.
+-- the report of steps 3 to 5: one record per fault, or one for the ring alone; none of a program
 use Prim.Native.Nat.{ℕ}
 use mathlib.Core.List.{List, [], _∷_, map}
 use lib.ListN.{length}
-use Rattle.bundle.specs.Bundle.{Items}
 use Rattle.bundle.specs.Read.{Reading, value, refused, read}
 use Rattle.order.specs.Report.{Record, fault, ring, lentReport, reporting}
 use Rattle.order.specs.Call.{padded, cleared, unitFiles}
@@ -14,7 +14,6 @@ use Rattle.assembly.specs.declared.Imaged.{Imaged}
 use Rattle.assembly.specs.declared.Imaged.the-variants as imaged
 use Rattle.assembly.specs.declared.Answer.{Answer}
 
--- the report of steps 3 to 5: one record per fault, or one for the ring alone; none of a program
 abbrev pub recordsOf : Outcome → List Record
 recordsOf (faulty l) = map fault l
 recordsOf (closed r) = ring r ∷ []

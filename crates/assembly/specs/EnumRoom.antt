@@ -1,4 +1,5 @@
 -- Different units have no more enums together than a bundle has items, so that the faults of step 5 fit. Assumes nothing.
+-- an enum is an item
 use Prim.Native.Nat.{ℕ, zero, suc, _+_, _-_, _≤_, _<_}
 use native.Mathlib.Numerals.{add-one}
 use native.Mathlib.Omega.{arith}
@@ -11,26 +12,25 @@ use lib.ListN.{length, getD, take, drop, set, replicate, length-append, length-r
 use lib.Seq.{length-take-le, drop-cons, getD-take, take-at, take-suc-set}
 use Rattle.names.specs.Bytes.{same, same-eq, same-differs, different}
 use Rattle.bundle.specs.Bundle.{Text, Items, none, named, use-of, module-of, ignored, File, Bundle}
-use Rattle.bundle.specs.Form.{WellFormed, itemCount, fileItems}
+use Rattle.bundle.specs.Form.{itemCount, fileItems}
 use Rattle.bundle.specs.Limits.{item-limit}
 use Rattle.bundle.specs.Stand.{Bytes}
 use Rattle.bundle.specs.Decode.{decode}
 use Rattle.bundle.specs.Theorems.{sound, accepted}
-use Rattle.discovery.specs.Discovery.{Fault, programOf, pathsOf}
+use Rattle.discovery.specs.Discovery.{Fault, programOf}
 use Rattle.discovery.specs.Meaning.{faultsIn}
 use Rattle.discovery.specs.Facts.{pathsAt}
 use Rattle.discovery.specs.Reached.{Once, more}
 use Rattle.discovery.specs.Reached as reached
 use Rattle.discovery.specs.Room.{checked-roomy}
 use Rattle.discovery.specs.Weight.{reached-file}
-use Rattle.order.specs.Run.{unitsOf, filesOf}
+use Rattle.order.specs.Run.{filesOf}
 use Rattle.order.specs.Theorems.{first-half}
 use Rattle.order.specs.Writing.{started}
 use Rattle.assembly.specs.Assemble.{enum-kind, itemsOf, enumDeclarations, foreignEnum, hasMain, noMain, assemblyFaults}
 use Rattle.assembly.specs.Faults.{zero-last, once-last, enumsOf, mainFault, faults-are}
-use Rattle.assembly.specs.Linked.{Units, Linked, OneUnit, unit-count, one-unit, below}
+use Rattle.assembly.specs.Linked.{Linked, OneUnit, one-unit}
 
--- an enum is an item
 enums-few : (x : Items) → length (enumDeclarations x) ≤ itemCount x
 unfolding enumDeclarations itemCount
 enums-few none = omega arith

@@ -1,14 +1,15 @@
 -- From the answer of steps 3 and 4 to that of the operation. Assumes nothing.
-use Prim.Native.Nat.{ℕ, zero, suc, _+_, _≤_, _<_}
+-- what is due of an answer and of both buffers
+use Prim.Native.Nat.{ℕ, zero, suc, _≤_, _<_}
 use native.Mathlib.Omega.{arith}
 use mathlib.Core.Path.{_≡_, refl, sym, ap, subst, _∙_}
-use mathlib.Core.List.{List, [], _∷_, _++_, map, List·Memᴰ}
+use mathlib.Core.List.{List, [], _∷_, map}
 use lib.ListN.{length, take, drop, length-append, length-map, replicate}
 use lib.Seq.{take-at}
-use Rattle.bundle.specs.Bundle.{Text, Items, File, Bundle}
+use Rattle.bundle.specs.Bundle.{Text, Bundle}
 use Rattle.bundle.specs.Limits.{file-limit}
 use Rattle.bundle.specs.Decode.{decode}
-use Rattle.bundle.specs.Read.{Reading, value, refused, verdict, read}
+use Rattle.bundle.specs.Read.{verdict}
 use Rattle.bundle.specs.Theorems.{accepted, told}
 use Rattle.bundle.specs.declared.Checked.{Checked}
 use Rattle.bundle.specs.declared.Checked.the-variants.{Ok, Refused}
@@ -31,13 +32,12 @@ use Rattle.order.specs.declared.Reported.{Reported}
 use Rattle.order.specs.declared.Reported.the-variants as reported
 use Rattle.assembly.specs.Assemble.{Outcome, faulty, closed, program, assembled, assemblyFaults, step5, assembleAfter, linearizeAndAssemble}
 use Rattle.assembly.specs.Image.{imaging, lentImage}
-use Rattle.assembly.specs.Call.{recordsOf, telling, reportedTo, imagedTo, answering, imageAfter, answerTo, reportTo, imageTo, assembleAnswer, assembleReport, assembleImage}
+use Rattle.assembly.specs.Call.{recordsOf, telling, reportedTo, imagedTo, answering, imageAfter, assembleAnswer, assembleReport, assembleImage}
 use Rattle.assembly.specs.Faults.{zero-last}
-use Rattle.assembly.specs.Linked.{Units, Linked}
+use Rattle.assembly.specs.Linked.{Linked}
 use Rattle.assembly.specs.declared.Answer.{Answer}
 use Rattle.assembly.specs.declared.Imaged.{Imaged}
 
--- what is due of an answer and of both buffers
 abbrev pub Due : (s report₀ image₀ report₁ image₁ : List ℕ) → Answer → Type 0
 Due s report₀ image₀ report₁ image₁ a =
     (a ≡ assembleAnswer s report₀ image₀) × ((report₁ ≡ assembleReport s report₀) × (image₁ ≡ assembleImage s image₀))
@@ -224,9 +224,9 @@ module _ (s out img : List ℕ) where
           let m = assemble-read ok in
           let t : a ≡ call.linking (unitFiles b) (padded o) = is ∙ (order-read ok .0 ∙ ap (call.answering (unitFiles b) (length out)) (x .order)) in (
             g
-            ∙ (ap (imagedTo (a .units) (a .files) (a .ids)) e
-            ∙ (ap (λ (y : ordering.Answer). imagedTo (y .units) (y .files) (y .ids) (imaging (assembled b o) (length img))) t
-            ∙ (ap (answering (unitFiles b) (length out) (length img)) (sym q) ∙ sym (m .0)))),
+                ∙ (ap (imagedTo (a .units) (a .files) (a .ids)) e
+                ∙ (ap (λ (y : ordering.Answer). imagedTo (y .units) (y .files) (y .ids) (imaging (assembled b o) (length img))) t
+                ∙ (ap (answering (unitFiles b) (length out) (length img)) (sym q) ∙ sym (m .0)))),
             (
               same ∙ (sym (nothing-lent out) ∙ (ap (λ (y : Outcome). lentReport (recordsOf y) out) (sym q) ∙ sym (m .1 .0))),
               k ∙ (ap (λ (y : Outcome). imageAfter y img) (sym q) ∙ sym (m .1 .1)),

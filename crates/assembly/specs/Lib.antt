@@ -19,3 +19,5 @@ pub mod Linked
 pub mod EnumRoom
 pub mod WholeImage
 pub mod Join
+pub mod Demand
+pub mod UseRoom

@@ -1,21 +1,22 @@
 -- The units of a linked order as the code has them: files by their places in the bundle, ids in an array. Assumes nothing.
-use Prim.Native.Nat.{ℕ, zero, suc, _+_, _-_, _≤_, _<_}
+-- THE PREMISES
+-- the files of the units of a checked bundle
+use Prim.Native.Nat.{ℕ, zero, suc, _+_, _≤_, _<_}
 use native.Mathlib.Numerals.{add-one}
 use native.Mathlib.Omega.{arith}
 use mathlib.Core.Bool.{Bool, true, false, cond}
 use mathlib.Core.Path.{_≡_, refl, sym, ap, subst, _∙_}
-use mathlib.Core.List.{List, [], _∷_, _++_, map, append-nil, List·Memᴰ, List·Memᴰ·head, List·Memᴰ·tail, Memᴰ·map, Memᴰ·cast}
+use mathlib.Core.List.{List, [], _∷_, _++_, map, append-nil, List·Memᴰ, List·Memᴰ·head, List·Memᴰ·tail, Memᴰ·cast}
 use lib.Dec.{eqb}
 use lib.ListN.{length, getD, take, drop, length-map, length-append, List·getD-map}
 use lib.Seq.{length-take-le, getD-take, drop-cons}
 use borrow.Author.Tests.{eq-eqb, ne-eqb}
-use Rattle.names.specs.Bytes.{member, same, same-eq, same-differs, different}
+use Rattle.names.specs.Bytes.{same, same-eq, same-differs, different}
 use Rattle.names.specs.Decimal.{unitName}
-use Rattle.bundle.specs.Bundle.{Text, Items, none, File, Bundle}
+use Rattle.bundle.specs.Bundle.{Text, none, File, Bundle}
 use Rattle.bundle.specs.Bundle as bundle
 use Rattle.bundle.specs.Limits.{file-limit, depth-limit, module-kind}
 use Rattle.bundle.specs.Encode.{string, items}
-use Rattle.bundle.specs.Form.{WellFormed}
 use Rattle.bundle.specs.Stand.{Bytes}
 use Rattle.bundle.specs.Decode.{decode, fileAt, itemsAt}
 use Rattle.bundle.specs.Read.{verdict}
@@ -34,14 +35,12 @@ use Rattle.discovery.specs.Weight.{reached-file}
 use Rattle.order.specs.Run.{linked, ordered, unitsOf}
 use Rattle.order.specs.Call.{unitFiles}
 use Rattle.order.specs.Theorems.{LinkedIds, first-half}
-use Rattle.assembly.specs.Assemble.{rewriteUse, rewriteItems, fileOf, itemsOf, localItems, assembled}
+use Rattle.assembly.specs.Assemble.{fileOf, itemsOf, localItems, assembled}
 use Rattle.assembly.specs.Parts.{headBytes}
 use Rattle.assembly.specs.Paths.{program-formed}
 use Rattle.assembly.specs.Targets.{UnitOf}
 use Rattle.assembly.specs.Walk.{itemsBytes, item-form, Brief, formed-brief}
 
--- THE PREMISES
--- the files of the units of a checked bundle
 pub record Units (s files : List ℕ) (units : ℕ) : Type 0 where
   pub checked : verdict s ≡ Ok
   pub files-are : take units files ≡ unitFiles (decode s)

@@ -1,16 +1,14 @@
 -- Buffers that are filled from their start, and parts of them that are lent on. Assumes nothing.
-use Prim.Native.Nat.{ℕ, suc, _+_, _-_, _/_, _%_, _≤_, _<_, min}
-use native.Mathlib.Numerals.{add-one}
+-- w stands at the start, and the buffer is as long as it was
+use Prim.Native.Nat.{ℕ, _+_, _-_, _/_, _%_, _≤_, _<_, min}
 use native.Mathlib.Omega.{arith}
-use mathlib.Core.Path.{_≡_, refl, sym, ap, subst, _∙_}
+use mathlib.Core.Path.{_≡_, refl, sym, ap, _∙_}
 use mathlib.Core.List.{List, [], _∷_, _++_, append-assoc, append-nil}
-use lib.ListN.{length, getD, set, take, drop, length-append, length-drop}
-use lib.Seq.{take-at, drop-at, drop-drop, drop-length, take-all, length-take-le, drop-set-lt, take-suc}
+use lib.ListN.{length, set, take, drop, length-append, length-drop}
+use lib.Seq.{take-at, drop-at, drop-drop, drop-length, take-all, length-take-le}
 use borrow.Rule.Slice.PartMut.{midOf, putMid, post-is}
-use Rattle.bundle.specs.Encode.{two}
 use Rattle.order.specs.Writing.{started, put-one}
 
--- w stands at the start, and the buffer is as long as it was
 pub started-length : (w out : List ℕ) → length w ≤ length out → length (started w out) ≡ length out
 started-length w out h = omega (arith, length-append w (drop (length w) out), length-drop (length w) out)
 
@@ -177,27 +175,41 @@ pub same-filled : (x y out last : List ℕ) (r : ℕ) → x ≡ y → (r ≡ len
 same-filled x y out last r e h = rw e h
 
 -- A FRONT w AND WHAT COMES BEHIND IT: the buffer cur has w at its start, and x goes into the part that is lent from there on
-module _ (w x out cur : List ℕ) (a : ℕ) (e : cur ≡ started w out) (is : a ≡ length w) (room : length (w ++ x) ≤ length out) where
+pub record Front (w x out cur : List ℕ) (a : ℕ) : Type 0 where
+  pub starts : cur ≡ started w out
+  pub is : a ≡ length w
+  pub room : length (w ++ x) ≤ length out
+
+module _ {w x out cur : List ℕ} {a : ℕ} (f : Front w x out cur a) where
   front-few : length w ≤ length out
-  front-few = omega (arith, length-append w x)
+  front-few = let r = f .room in omega (arith, length-append w x)
 
   pub front-long : length cur ≡ length out
-  front-long = ap length e ∙ started-length w out front-few
+  front-long = ap length (f .starts) ∙ started-length w out front-few
 
   pub front-start : a ≤ length cur
-  front-start = let l = front-long in let f = front-few in omega arith
+  front-start = let l = front-long in let h = front-few in let i = f .is in omega arith
 
   pub front-room : length x ≤ length (midOf a (length cur - a) cur)
-  front-room = let l = front-long in let n = lent-length cur a front-start in omega (arith, length-append w x)
+  front-room = let l = front-long in let n = lent-length cur a front-start in let i = f .is in let r = f .room in omega (arith, length-append w x)
 
   pub front-fits : (r : ℕ) → r ≡ length x → a + r ≤ length out
-  front-fits r h = omega (arith, length-append w x)
+  front-fits r h = let i = f .is in let k = f .room in omega (arith, length-append w x)
 
   pub front-sum : (r : ℕ) → r ≡ length x → a + r ≡ length (w ++ x)
-  front-sum r h = omega (arith, length-append w x)
+  front-sum r h = let i = f .is in omega (arith, length-append w x)
 
   pub front-all : (last : List ℕ) → last ≡ started x (midOf a (length cur - a) cur) → putMid a (length cur - a) cur last ≡ started (w ++ x) out
-  front-all last l = then-filled w out front-few x cur last a e is l
+  front-all last l = then-filled w out front-few x cur last a (f .starts) (f .is) l
+
+  -- both, as a writer tells them
+  pub front-done : (last : List ℕ) (r : ℕ) → (r ≡ length x) × (last ≡ started x (midOf a (length cur - a) cur))
+      → (a + r ≡ length (w ++ x)) × (putMid a (length cur - a) cur last ≡ started (w ++ x) out)
+  front-done last r h = (front-sum r (h .0), front-all last (h .1))
+
+-- a front that a function wrote, with what is to come
+pub front-of : (w x out cur all : List ℕ) (a : ℕ) → (a ≡ length w) × (cur ≡ started w out) → all ≡ w ++ x → length all ≤ length out → Front w x out cur a
+front-of w x out cur all a h e r = record { starts = h .1; is = h .0; room = let l = ap length e in omega arith }
 
 -- one number at the start
 pub put-first : (out cur : List ℕ) (v : ℕ) → 0 < length out → cur ≡ set out 0 v → cur ≡ started (v ∷ []) out

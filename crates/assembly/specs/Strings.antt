@@ -4,9 +4,9 @@ use native.Mathlib.Omega.{arith}
 use native.Mathlib.Numerals.{add-one}
 use mathlib.Core.Path.{_≡_, refl, sym, ap, _∙_}
 use mathlib.Core.List.{List, [], _∷_, _++_, append-assoc}
-use lib.ListN.{length, take, drop, set, getD, length-append, length-take, length-set}
+use lib.ListN.{length, take, drop, set, getD, length-take, length-set}
 use lib.Seq.{take-suc, take-length, drop-set-lt, length-take-le}
-use Rattle.bundle.specs.Bundle.{Text, Element}
+use Rattle.bundle.specs.Bundle.{Text}
 use Rattle.bundle.specs.Encode.{string, joined, element}
 use Rattle.bundle.specs.Scan.{byte, text}
 use Rattle.bundle.specs.Stand.{Bytes}
@@ -82,9 +82,9 @@ module _ (t e out₀ : List ℕ) (room : 1 + length t ≤ length e) (start : out
       let k : i ≡ length t = let k = c .few in omega arith in (
         omega arith,
         c .is
-        ∙ (ap (λ (n : ℕ). (length t ∷ take n t) ++ drop (1 + n) out₀) k
-        ∙ (ap (λ (l : List ℕ). (length t ∷ l) ++ drop (1 + length t) out₀) (take-length t)
-        ∙ (ap (λ (l : List ℕ). (length t ∷ t) ++ l) (behind (length t)) ∙ ap (λ (n : ℕ). (length t ∷ t) ++ drop n e) (one-more (length t))))),
+            ∙ (ap (λ (n : ℕ). (length t ∷ take n t) ++ drop (1 + n) out₀) k
+            ∙ (ap (λ (l : List ℕ). (length t ∷ l) ++ drop (1 + length t) out₀) (take-length t)
+            ∙ (ap (λ (l : List ℕ). (length t ∷ t) ++ l) (behind (length t)) ∙ ap (λ (n : ℕ). (length t ∷ t) ++ drop n e) (one-more (length t))))),
       )
     where
       one-more : (n : ℕ) → 1 + n ≡ suc n

@@ -1,5 +1,6 @@
 -- What a use's path becomes, as the code has it: the id of a unit and how many segments are left. Assumes nothing.
-use Prim.Native.Nat.{ℕ, zero, suc, _+_, _-_, _≤_, _<_}
+-- the path that a target stands for
+use Prim.Native.Nat.{ℕ, suc, _+_, _-_, _≤_}
 use native.Mathlib.Omega.{arith}
 use mathlib.Core.Bool.{Bool, true, false, cond}
 use mathlib.Core.Path.{_≡_, refl, sym, ap, subst, _∙_}
@@ -13,7 +14,7 @@ use Rattle.bundle.specs.Limits.{file-limit}
 use Rattle.bundle.specs.Decode.{decode}
 use Rattle.resolution.specs.Lists.{Lists, listsOf}
 use Rattle.resolution.specs.Layouts.{listsAt, Small, Importer}
-use Rattle.resolution.specs.Resolution.{Resolved, to, fails, number, resolvePathInternal}
+use Rattle.resolution.specs.Resolution.{Resolved, to, fails, resolvePathInternal}
 use Rattle.resolution.specs.Call.{answer, position}
 use Rattle.resolution.specs.declared.Layout.{Layout}
 use Rattle.resolution.specs.declared.Resolution.{Resolution}
@@ -26,7 +27,6 @@ use Rattle.assembly.specs.Paths.{LeftOf, left-of}
 use Rattle.assembly.specs.declared.Target.{Target}
 use Rattle.assembly.specs.declared.Target.the-variants.{Unit, Nothing}
 
--- the path that a target stands for
 abbrev pub pathBy : List Text → Target → List Text
 pathBy segments (Unit id left) = ascii "crate" ∷ unitName id ∷ drop (length segments - left) segments
 pathBy segments Nothing = []
@@ -93,6 +93,10 @@ module _ (s : List ℕ) (at : Layout) (file : Text) (index : ℕ) (files : List 
       subst (λ (x : Resolution). Right (targetBy files units x))
       (sym (e ∙ ap (λ (l : Lists). answer l (resolvePathInternal l file segments)) (u .lists)))
       (resolved (resolvePathInternal (listsOf b) file segments) refl)
+
+  -- there is a target
+  pub some-target : (t : Target) × Right t
+  some-target = (targetBy files units (answer (listsOf b) (resolvePathInternal (listsOf b) file segments)), resolved (resolvePathInternal (listsOf b) file segments) refl)
 
   pub to-file : (r : Resolution) (f left id : ℕ) → r ≡ answer (listsAt s at) (resolvePathInternal (listsAt s at) file segments) → r ≡ File f left → id ≡ indexIn f (take units files) → Right (Unit id left)
   to-file r f left id e k h = subst (λ (n : ℕ). Right (Unit n left)) (sym h) (subst (λ (x : Resolution). Right (targetBy files units x)) k (answered r e))

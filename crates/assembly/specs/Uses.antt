@@ -1,13 +1,13 @@
 -- A use as the image has it: its count and segments, its count and elements. Assumes nothing.
-use Prim.Native.Nat.{ℕ, suc, _+_, _-_, _*_, _≤_, _<_}
+use Prim.Native.Nat.{ℕ, suc, _+_, _-_, _*_, _≤_}
 use native.Mathlib.Omega.{arith}
 use mathlib.Core.Path.{_≡_, refl, sym, ap, _∙_}
 use mathlib.Core.List.{List, [], _∷_, _++_}
-use lib.ListN.{length, take, drop, length-append}
+use lib.ListN.{length, take, drop}
 use lib.Seq.{length-take-le}
 use Rattle.names.specs.Bytes.{ascii}
 use Rattle.names.specs.Decimal.{unitName}
-use Rattle.bundle.specs.Bundle.{Text, Element}
+use Rattle.bundle.specs.Bundle.{Text}
 use Rattle.bundle.specs.Encode.{string, joined, counted, element}
 use Rattle.bundle.specs.Scan.{text}
 use Rattle.bundle.specs.Decode.{each, far, after, afterElement, elementAt, decode}

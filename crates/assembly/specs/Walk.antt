@@ -1,10 +1,11 @@
 -- The walk over a unit's items: the bytes of one item as the image has it, and of items one after the other; and their enums.
 -- Assumes nothing.
-use Prim.Native.Nat.{ℕ, zero, suc, _+_, _-_, _*_, _≤_, _<_, _^_}
+-- A USE AT A MARK: its segments, its elements, and its bytes
+use Prim.Native.Nat.{ℕ, zero, suc, _+_, _-_, _≤_, _<_}
 use native.Mathlib.Omega.{arith}
 use mathlib.Core.Bool.{Bool, true, false, cond, _&&_, _||_}
 use mathlib.Core.Path.{_≡_, refl, sym, ap, subst, _∙_}
-use mathlib.Core.List.{List, [], _∷_, _++_, append-nil, append-assoc}
+use mathlib.Core.List.{List, [], _∷_, _++_, append-nil}
 use lib.Dec.{eqb}
 use lib.ListN.{length, length-append}
 use borrow.Author.Tests.{eq-eqb, ne-eqb, eqb-true, eqb-false}
@@ -20,7 +21,6 @@ use Rattle.bundle.specs.Access.{insideOf, items-end, items-step, item-module, i
 use Rattle.assembly.specs.Assemble.{rewriteUse, rewriteItems, function-kind, enum-kind, enumDeclarations, hasMain}
 use Rattle.assembly.specs.Parts.{headBytes}
 
--- A USE AT A MARK: its segments, its elements, and its bytes
 abbrev pub segmentsAt : List ℕ → ℕ → List Text
 segmentsAt s at = decoded.counted (after s) (text s) s (at + 4)
 

@@ -59,8 +59,8 @@ module _ (b : Bundle) (o out : List ℕ) where
         rw (le-leb (itemsLength p) image-limit h, le-leb (imageLength p) (length out) m) (
           ap imaged.Image z,
           x
-          ∙ (ap (λ (i : ℕ). ((1 ∷ (i / 256) ∷ (i % 256) ∷ []) ++ items p) ++ drop (length ((1 ∷ (n / 256) ∷ (n % 256) ∷ []) ++ items p)) out) c
-          ∙ ap (λ (i : ℕ). (1 ∷ ((length (items p) / 256) ∷ (length (items p) % 256) ∷ items p)) ++ drop i out) (three-more (length (items p)) (itemsLength p) l)),
+              ∙ (ap (λ (i : ℕ). ((1 ∷ (i / 256) ∷ (i % 256) ∷ []) ++ items p) ++ drop (length ((1 ∷ (n / 256) ∷ (n % 256) ∷ []) ++ items p)) out) c
+              ∙ ap (λ (i : ℕ). (1 ∷ ((length (items p) / 256) ∷ (length (items p) % 256) ∷ items p)) ++ drop i out) (three-more (length (items p)) (itemsLength p) l)),
         )
       where
         three-more : (i j : ℕ) → i ≡ j → Prim.Native.Nat.suc (Prim.Native.Nat.suc (Prim.Native.Nat.suc i)) ≡ 3 + j

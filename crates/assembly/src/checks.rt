@@ -72,12 +72,7 @@ fn main_there(s: &[u8], files: &[usize], u: usize) -> bool
 
 // The faults of a linked order, in the order of the pushes: unit 0, which alone has a main, is linked last. Ruled out: 28 for an
 // enum of unit 0; 27 before a 28; a nested enum of another unit untold.
-pub fn assembly_faults<'a>(
-    s: &[u8],
-    files: &'a [usize],
-    ids: &'a [u16],
-    units: usize,
-) -> Faults
+pub fn assembly_faults<'a>(s: &[u8], files: &'a [usize], ids: &'a [u16], units: usize) -> Faults
     requires { ⌜ Linked (now s) (now files) (now ids) units ⌝ }
     ensures { λ r. ⌜ (faultsIn (take (r .count) (r .numbers)) (take (r .count) (r .places)) ≡ assemblyFaults (decode (now (s .entry))) (take units (now (ids .entry)))) × (r .count ≤ item-limit + 1) ⌝ }
 {

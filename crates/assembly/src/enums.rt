@@ -35,13 +35,7 @@ fn enum_item(s: &[u8], at: usize, depth: usize, marks: &mut [usize]) -> usize
 }
 
 // The items from `at` to `end`, with modules at most `depth` deep.
-pub fn enum_items(
-    s: &[u8],
-    at: usize,
-    end: usize,
-    depth: usize,
-    marks: &mut [usize],
-) -> usize
+pub fn enum_items(s: &[u8], at: usize, end: usize, depth: usize, marks: &mut [usize]) -> usize
     requires { ⌜ Small end depth × (length (itemsEnums (now s) depth end at) ≤ length (now marks)) ⌝ }
     ensures { λ r. ⌜ (r ≡ length (itemsEnums (now (s .entry)) depth end at)) × (now (marks .exit) ≡ started (itemsEnums (now (s .entry)) depth end at) (now (marks .entry))) ⌝ }
 {

@@ -95,7 +95,17 @@ fn item_length(
         return head;
     }
     let inner = bundle::module_items(s, place);
-    let n = items_length(s, at, file, index, files, units, inner.at, inner.end, depth - 1);
+    let n = items_length(
+        s,
+        at,
+        file,
+        index,
+        files,
+        units,
+        inner.at,
+        inner.end,
+        depth - 1,
+    );
     capped(head, n)
 }
 

@@ -11,7 +11,6 @@ mod writing;
 pub use checks::assembly_faults;
 pub use image::write_image;
 pub use writing::rewrite_use;
-
 ghost use mathlib.Core.Path.{_≡_};
 ghost use Rattle.assembly.specs.Call.{assembleAnswer, assembleReport, assembleImage};
 

@@ -54,33 +54,28 @@ fn tell_ring(report: &[u8]) {
     io::write_all(1, b"\n");
 }
 
-fn digit(n: u8) -> u8
-    requires { ⌜ n < 16 ⌝ }
-    ensures { λ r. ⌜ r < 256 ⌝ }
-{
+fn digit(n: u8) -> u8 {
     if n < 10 {
         return 48 + n;
     }
-    87 + n
+    if n < 16 {
+        return 87 + n;
+    }
+    0
+}
+
+fn tell_byte(b: u8) {
+    let pair = [digit(b / 16), digit(b % 16)];
+    io::write_all(1, &pair);
 }
 
 // Bytes in hexadecimal.
 fn tell_hex(s: &[u8]) {
-    let mut line = [0u8; 512];
-    let mut n = 0;
     let mut at = 0;
     while at < s.len() {
-        let b = s[at];
-        if n >= 512 {
-            io::write_all(1, &line);
-            n = 0;
-        }
-        line[n] = digit(b / 16);
-        line[n + 1] = digit(b % 16);
-        n += 2;
+        tell_byte(s[at]);
         at += 1;
     }
-    io::write_all(1, &line[..n]);
 }
 
 fn tell(s: &[u8]) {

@@ -14,6 +14,7 @@ use Rattle.bundle.specs.Decode.{decode}
 use Rattle.discovery.specs.declared.Graph.{Graph}
 use Rattle.discovery.specs.Turns.{Discovers}
 use Rattle.order.specs.declared.Answer.{Answer}
+use Rattle.assembly.specs.declared.Answer as assembled
 use Rattle.bundle.specs.declared.Checked.{Checked}
 use Rattle.bundle.specs.declared.Checked.the-variants.{Ok, Refused}
 use Rattle.resolution.specs.declared.Resolution.{Resolution}
@@ -46,6 +47,13 @@ unfoldable pub orderTold : Answer → List ℕ → List ℕ
 orderTold a l =
     cond (eqb (a .number) 0)
     (sets (sets (set (set l 0 (a .report)) 1 (a .units)) 2 (take (a .units) (a .files))) 66 (take (a .units) (a .ids)))
+    (set l 0 (a .place))
+
+-- the same with the image's length
+unfoldable pub assembleTold : assembled.Answer → List ℕ → List ℕ
+assembleTold a l =
+    cond (eqb (a .number) 0)
+    (sets (sets (set (set (set l 0 (a .report)) 1 (a .units)) 2 (a .image)) 3 (take (a .units) (a .files))) 67 (take (a .units) (a .ids)))
     (set l 0 (a .place))
 
 -- the number of units, their files, and their lists
@@ -106,6 +114,18 @@ module _ (a : Answer) (l : List ℕ) where
   order-told h m₁ m₂ m₃ e₁ e₂ e₃ =
       rw (eq-eqb (a .number) 0 h)
       (e₃ ∙ ap (λ (m : List ℕ). sets m 66 (take (a .units) (a .ids))) (e₂ ∙ ap (λ (m : List ℕ). sets m 2 (take (a .units) (a .files))) e₁))
+
+module _ (a : assembled.Answer) (l : List ℕ) where
+  pub assemble-refused : (a .number ≡ 0 → ⊥) → (m : List ℕ) → m ≡ set l 0 (a .place) → m ≡ assembleTold a l
+  unfolding assembleTold
+  assemble-refused h m e = rw (ne-eqb (a .number) 0 h) e
+
+  pub assemble-told : a .number ≡ 0 → (m₁ m₂ m₃ m₄ : List ℕ) → m₁ ≡ set (set l 0 (a .report)) 1 (a .units) → m₂ ≡ set m₁ 2 (a .image) → m₃ ≡ sets m₂ 3 (take (a .units) (a .files))
+      → m₄ ≡ sets m₃ 67 (take (a .units) (a .ids)) → m₄ ≡ assembleTold a l
+  unfolding assembleTold
+  assemble-told h m₁ m₂ m₃ m₄ e₁ e₂ e₃ e₄ =
+      rw (eq-eqb (a .number) 0 h)
+      (e₄ ∙ ap (λ (m : List ℕ). sets m 67 (take (a .units) (a .ids))) (e₃ ∙ ap (λ (m : List ℕ). sets m 3 (take (a .units) (a .files))) (e₂ ∙ ap (λ (m : List ℕ). set m 2 (a .image)) e₁)))
 
 pub graph-told : (g : Graph) (l m₁ m₂ m₃ m₄ m₅ : List ℕ) → m₁ ≡ set l 0 (g .units) → m₂ ≡ sets m₁ 1 (take (g .units) (g .files)) → m₃ ≡ sets m₂ 65 (take (g .units) (g .start))
     → m₄ ≡ sets m₃ 129 (take (g .units) (g .len)) → m₅ ≡ sets m₄ 193 (take (g .count) (g .ids)) → m₅ ≡ graphTold g l

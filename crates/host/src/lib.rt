@@ -3,7 +3,8 @@
 ghost use mathlib.Core.Path.{_≡_};
 ghost use Rattle.bundle.specs.Read.{numberOf, verdict};
 ghost use Prim.Native.Nat.{_+_, _<_, _^_};
-ghost use Rattle.host.specs.Told.{bitOf, kindOf, placeTold, resolvedTold, orderTold, GraphTold};
+ghost use Rattle.host.specs.Told.{bitOf, kindOf, placeTold, resolvedTold, orderTold, GraphTold, assembleTold};
+ghost use Rattle.assembly.specs.Call.{assembleAnswer, assembleReport, assembleImage};
 ghost use Rattle.order.specs.Call.{orderAnswer, orderReport};
 ghost use Rattle.resolution.specs.Call.{resolve};
 ghost use lib.ListN.{set, take, length};
@@ -144,6 +145,34 @@ pub extern "C" fn gontsamy_order(s: &[u8], report: &mut [u8], out: &mut [usize])
     tell_both(out, a.report, a.units);
     tell_places(out, 2, &a.files, a.units);
     tell_ids(out, 66, &a.ids, a.units);
+    number
+}
+
+// Steps 1 to 5 and the image: a number from 1 to 15, with its place in out[0]; or 0 with the report's length in out[0], the number
+// of units in out[1], the image's length in out[2], the units' files' indices from out[3] on and the linked order from out[67]
+// on. Ruled out: an image with a report; a byte of the image buffer changed where there is no image.
+#[no_mangle]
+pub extern "C" fn gontsamy_assemble(
+    s: &[u8],
+    report: &mut [u8],
+    image: &mut [u8],
+    out: &mut [usize],
+) -> u8
+    ensures { λ r. ⌜ r ≡ assembleAnswer (now (s .entry)) (now (report .entry)) (now (image .entry)) .number ⌝ }
+    ensures { λ r. ⌜ now (report .exit) ≡ assembleReport (now (s .entry)) (now (report .entry)) ⌝ }
+    ensures { λ r. ⌜ now (image .exit) ≡ assembleImage (now (s .entry)) (now (image .entry)) ⌝ }
+    ensures { λ r. ⌜ now (out .exit) ≡ assembleTold (assembleAnswer (now (s .entry)) (now (report .entry)) (now (image .entry))) (now (out .entry)) ⌝ }
+{
+    let a = assembly::assemble(s, report, image);
+    let number = a.number;
+    if number != 0 {
+        tell(out, 0, a.place);
+        return number;
+    }
+    tell_both(out, a.report, a.units);
+    tell(out, 2, a.image);
+    tell_places(out, 3, &a.files, a.units);
+    tell_ids(out, 67, &a.ids, a.units);
     number
 }
 

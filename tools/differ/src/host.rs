@@ -19,6 +19,16 @@ extern "C" {
         out: *mut usize,
         out_len: usize,
     ) -> u8;
+    fn gontsamy_assemble(
+        s: *const u8,
+        s_len: usize,
+        report: *mut u8,
+        report_len: usize,
+        image: *mut u8,
+        image_len: usize,
+        out: *mut usize,
+        out_len: usize,
+    ) -> u8;
     fn gontsamy_discover(s: *const u8, s_len: usize, out: *mut usize, out_len: usize) -> u8;
     fn gontsamy_is_keyword(s: *const u8, s_len: usize) -> u8;
     fn gontsamy_starts_with(f: *const u8, f_len: usize, p: *const u8, p_len: usize) -> u8;
@@ -101,6 +111,45 @@ pub fn order(bundle: &[u8], report: &mut [u8]) -> crate::order::Told {
         (0, length) if units == 0 => Told::Report(report[..length.min(report.len())].to_vec()),
         (0, _) => Told::Stray(out.to_vec()),
         (number, place) => Told::Refused(number, place),
+    }
+}
+
+/// A number with its place in out[0]; or 0 with the report's length in out[0], the count of units in
+/// out[1], the image's length in out[2], each unit's place among the files from out[3] on, and the
+/// linked order from out[67] on.
+pub fn assemble(bundle: &[u8], report: &mut [u8], image: &mut [u8]) -> crate::assemble::Told {
+    use crate::assemble::Told;
+    let mut out = [usize::MAX; 3 + 64 + 64];
+    // SAFETY: as above.
+    let number = unsafe {
+        gontsamy_assemble(
+            bundle.as_ptr(),
+            bundle.len(),
+            report.as_mut_ptr(),
+            report.len(),
+            image.as_mut_ptr(),
+            image.len(),
+            out.as_mut_ptr(),
+            out.len(),
+        )
+    };
+    let (told, units) = match number {
+        0 => (3, out[1].min(64)),
+        _ => (1, 0),
+    };
+    let rest = [&out[told..3], &out[3 + units..67], &out[67 + units..]];
+    if rest.concat().iter().any(|&number| number != usize::MAX) {
+        return Told::Stray(out.to_vec());
+    }
+    match (number, out[0], out[2]) {
+        (0, 0, length) => Told::Linked(
+            out[3..][..units].to_vec(),
+            out[67..][..units].to_vec(),
+            image[..length.min(image.len())].to_vec(),
+        ),
+        (0, length, 0) if units == 0 => Told::Report(report[..length.min(report.len())].to_vec()),
+        (0, ..) => Told::Stray(out.to_vec()),
+        (number, place, _) => Told::Refused(number, place),
     }
 }
 

@@ -3,6 +3,8 @@
 //! one.
 
 #[cfg(host)]
+mod assemble;
+#[cfg(host)]
 mod bundles;
 #[cfg(host)]
 mod host;
@@ -54,6 +56,20 @@ fn main() -> std::process::ExitCode {
             (Some(seed), Some(count)) => order::generated(seed, count),
             _ => return usage(),
         },
+        ["assemble", seed, count] => match (number(seed), number(count)) {
+            (Some(seed), Some(count)) => assemble::generated(seed, count),
+            _ => return usage(),
+        },
+        ["assemble-sample", length] => {
+            match number(length).map(|length| assemble::sample(length as usize)) {
+                Some(Ok(())) => 0,
+                Some(Err(error)) => {
+                    eprintln!("differ: {error}");
+                    1
+                }
+                None => return usage(),
+            }
+        }
         ["order-sample", form @ ("lists" | "order"), length] => {
             match number(length).map(|length| order::sample(form, length as usize)) {
                 Some(Ok(())) => 0,
@@ -106,6 +122,8 @@ fn usage() -> std::process::ExitCode {
          \x20      differ sample COUNT          the files stdin and stdout of crates/bundle_vectors\n\
          \x20      differ order SEED COUNT      discovery and order of generated bundles\n\
          \x20      differ order-sample FORM LENGTH  stored bundles and answers; FORM is lists or order\n\
+         \x20      differ assemble SEED COUNT   steps 1 to 5 and the image of generated bundles\n\
+         \x20      differ assemble-sample LENGTH  the files stdin and stdout of crates/assembly_vectors\n\
          \x20      differ names SEED COUNT      prefixes and keywords\n\
          \x20      differ measure WHICH WHO TIMES   WHICH is largest, alike or middle, WHO port or tools: checks\n\
          \x20      differ measure names WHO TIMES   WHO is port or original: prefixes and keywords\n\

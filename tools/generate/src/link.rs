@@ -41,6 +41,23 @@ pub fn run(bytes: &[u8], largest: usize) -> Run {
     }
 }
 
+/// Steps 1 to 5 and the image, without step 6: the report's lines, or the units in linked order and
+/// the image; 15 where it is too long.
+pub fn assemble(bytes: &[u8]) -> Result<(Vec<usize>, Vec<usize>, Vec<u8>), String> {
+    let bundle = Bundle::decode(bytes).map_err(|refusal| format!("{refusal}\n"))?;
+    if let Some(refusal) = bundle.check() {
+        return Err(format!("{refusal}\n"));
+    }
+    let mut linker = Linker::new(&bundle);
+    let stopped = |stop| match stop {
+        Stop::Report(text) => text,
+        Stop::Refusal(refusal) => format!("{refusal}\n"),
+    };
+    let (order, _, units) = linker.assemble().map_err(stopped)?;
+    let image = written(&units).map_err(stopped)?;
+    Ok((linker.units, order, image))
+}
+
 /// What steps 3 and 4 make of a bundle.
 #[derive(Clone, Debug, PartialEq, Eq)]
 pub enum Discovered {
@@ -161,6 +178,15 @@ impl<'a> Linker<'a> {
     }
 
     fn run(mut self, tree: &mut Tree) -> Result<(String, Vec<u8>), Stop> {
+        let (_, mut text, units) = self.assemble()?;
+        walk(&units, tree)?;
+        let image = written(&units)?;
+        tree.print(&mut text);
+        Ok((text, image))
+    }
+
+    /// Steps 3 to 5: the linked order, its printed lines, and the units.
+    fn assemble(&mut self) -> Result<(Vec<usize>, String, Vec<Item>), Stop> {
         self.discover();
         self.stop_if_reported()?;
 
@@ -195,16 +221,7 @@ impl<'a> Linker<'a> {
                 },
             });
         }
-        walk(&units, tree)?;
-        // Names and counts fit, so an error is about a length.
-        let image = image(&units).map_err(|_| {
-            Stop::Refusal(Refusal {
-                number: 15,
-                place: 0,
-            })
-        })?;
-        tree.print(&mut text);
-        Ok((text, image))
+        Ok((order, text, units))
     }
 
     fn stop_if_reported(&mut self) -> Result<(), Stop> {
@@ -308,6 +325,16 @@ impl<'a> Linker<'a> {
 }
 
 /// Step 6 over rewritten items.
+/// The image, or 15: names and counts fit, so an error is about a length.
+fn written(units: &[Item]) -> Result<Vec<u8>, Stop> {
+    image(units).map_err(|_| {
+        Stop::Refusal(Refusal {
+            number: 15,
+            place: 0,
+        })
+    })
+}
+
 fn walk(items: &[Item], tree: &mut Tree) -> Result<(), Stop> {
     for item in items {
         let Item { mark, public, body } = item;

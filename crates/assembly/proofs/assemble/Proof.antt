@@ -1,68 +1,49 @@
-use Rattle.assembly.specs.Join.{no-units, units-linked, faults-told, image-told}
+-- `assemble` meets its contract. Assumes nothing.
+use Prim.Native.Nat.{ℕ}
+use native.Mathlib.Omega.{arith}
+use mathlib.Core.List.{List}
+use mathlib.Core.Path.{_≡_, ap, _∙_}
+use lib.ListN.{length}
+use denote.Ref.{now}
+use borrow.Author.Needs.{needs}
 use Rattle.order.specs.Writing.{faultRecords}
 use Rattle.order.specs.Report.{reporting, lentReport}
-use denote.Ref.{now}
-use lib.ListN.{length}
-use mathlib.Core.List.{List}
-use mathlib.Core.Path.{_≡_, refl, sym, ap, subst, _∙_}
-use native.Mathlib.Omega.{arith}
-use Prim.Native.Nat.{ℕ, suc, _+_, _-_, _*_, _≤_, _<_}
-use borrow.Author.Needs.{needs}
+use Rattle.assembly.specs.Join.{no-units, units-linked, faults-told, image-told}
 use Rattle.assembly.proofs.assemble.Statement.{statement}
 use Rattle.assembly.proofs.assemble.Tie as tie
-use Rattle.assembly.proofs.assemble.Reads as reads
-use Rattle.assembly.proofs.assemble.Lts as lts
-use Rattle.assembly.proofs.answers.imaged.Reads as imaged-reads
-use Rattle.assembly.proofs.answers.reported.Reads as reported-reads
-use Rattle.assembly.proofs.answers.told.Reads as told-reads
-use Rattle.assembly.proofs.checks.assembly_faults.Reads as assembly-faults-reads
-use Rattle.assembly.proofs.image.write_image.Reads as write-image-reads
-use Rattle.order.proofs.order.Reads as order-reads
-use Rattle.order.proofs.write_faults.Reads as write-faults-reads
 
--- src/lib.rt:66:9
 order-requires : tie.Need-order-requires
 order-requires c κs = search needs
 
--- src/lib.rt:69:9
 told-requires : tie.Need-told-requires
 told-requires c κs = search needs
 
--- src/lib.rt:69:9
 same-length : tie.Need-same-length
 same-length c = search needs
 
--- src/lib.rt:69:9
 returns : tie.Need-returns
 returns c = let d = no-units (now (c .before .before .before .before .before .before .before .before .before .args .s)) (now (c .before .before .before .before .before .before .before .before .before .args .report)) (now (c .before .before .before .before .before .before .before .before .before .args .image)) (c .before .before .before .before .order .result) (c .before .before .before .before .order .last .1 .0) (c .before .before .before .before .order .ensures .0) (c .before .before .before .before .order .ensures .1) (c .before .if1 .taken) in (c .told .ensures ∙ d .0, d .1)
 
--- src/lib.rt:73:40
 slice-aggregate-assembly-faults : tie.Need-slice-aggregate-assembly-faults
 slice-aggregate-assembly-faults c = search needs
 
--- src/lib.rt:73:48
 slice-aggregate-assembly-faults-2 : tie.Need-slice-aggregate-assembly-faults-2
 slice-aggregate-assembly-faults-2 c = search needs
 
--- src/lib.rt:73:13
 assembly-faults-requires : tie.Need-assembly-faults-requires
 assembly-faults-requires c κs = units-linked (now (c .before .before .before .before .before .before .before .before .before .before .before .before .args .s)) (now (c .before .before .before .before .before .before .before .before .before .before .before .before .args .report)) (now (c .before .before .before .before .before .before .before .before .before .before .before .before .args .image)) (c .before .before .before .before .before .before .before .order .result) (c .before .before .before .before .before .before .before .order .last .1 .0) (c .before .before .before .before .before .before .before .order .ensures .0) (c .before .before .before .before .before .before .before .order .ensures .1) (c .before .before .before .before .if1 .left) .0
 
--- src/lib.rt:76:34
 write-faults-requires : tie.Need-write-faults-requires
 write-faults-requires c κs = search needs
 
--- src/lib.rt:76:9
 reported-requires : tie.Need-reported-requires
 reported-requires c κs = search needs
 
--- src/lib.rt:76:9
 same-length-2 : tie.Need-same-length-2
 same-length-2 c = search needs
 
--- src/lib.rt:76:9
 returns-2 : tie.Need-returns-2
-returns-2 c = 
+returns-2 c =
     let l = units-linked (now (c .before .before .before .before .before .before .before .before .before .before .before .before .before .before .before .before .before .before .before .before .before .before .before .before .args .s)) (now (c .before .before .before .before .before .before .before .before .before .before .before .before .before .before .before .before .before .before .before .before .before .before .before .before .args .report)) (now (c .before .before .before .before .before .before .before .before .before .before .before .before .before .before .before .before .before .before .before .before .before .before .before .before .args .image)) (c .before .before .before .before .before .before .before .before .before .before .before .before .before .before .before .before .before .before .before .order .result) (c .before .before .before .before .before .before .before .before .before .before .before .before .before .before .before .before .before .before .before .order .last .1 .0) (c .before .before .before .before .before .before .before .before .before .before .before .before .before .before .before .before .before .before .before .order .ensures .0) (c .before .before .before .before .before .before .before .before .before .before .before .before .before .before .before .before .before .before .before .order .ensures .1) (c .before .before .before .before .before .before .before .before .before .before .before .before .before .before .before .before .if1 .left) in
     let zn : length (c .before .before .before .before .before .before .before .before .before .before .before .assembly-faults .result .numbers) ≡ 1025 = search (needs, c .before .before .before .before .before .before .before .before .before .before .before .assembly-faults) in
     let zp : length (c .before .before .before .before .before .before .before .before .before .before .before .assembly-faults .result .places) ≡ 1025 = search (needs, c .before .before .before .before .before .before .before .before .before .before .before .assembly-faults) in
@@ -72,33 +53,26 @@ returns-2 c =
     (c .before .before .before .write-faults .ensures .0 ∙ ap (λ (x : List ℕ). reporting (faultRecords (c .before .before .before .before .before .before .before .before .before .before .before .assembly-faults .result .numbers) (c .before .before .before .before .before .before .before .before .before .before .before .assembly-faults .result .places) (c .before .before .before .before .before .before .before .before .before .before .before .assembly-faults .result .count)) (length x)) (l .1)) (c .reported .ensures)
     (c .before .before .before .write-faults .ensures .1 ∙ ap (lentReport (faultRecords (c .before .before .before .before .before .before .before .before .before .before .before .assembly-faults .result .numbers) (c .before .before .before .before .before .before .before .before .before .before .before .assembly-faults .result .places) (c .before .before .before .before .before .before .before .before .before .before .before .assembly-faults .result .count))) (l .1))
 
--- src/lib.rt:78:41
 slice-aggregate-write-image : tie.Need-slice-aggregate-write-image
 slice-aggregate-write-image c = search needs
 
--- src/lib.rt:78:49
 slice-aggregate-write-image-2 : tie.Need-slice-aggregate-write-image-2
 slice-aggregate-write-image-2 c = search needs
 
--- src/lib.rt:78:9
 write-image-requires : tie.Need-write-image-requires
 write-image-requires c κs = units-linked (now (c .before .before .before .before .before .before .before .before .before .before .before .before .before .before .before .before .before .args .s)) (now (c .before .before .before .before .before .before .before .before .before .before .before .before .before .before .before .before .before .args .report)) (now (c .before .before .before .before .before .before .before .before .before .before .before .before .before .before .before .before .before .args .image)) (c .before .before .before .before .before .before .before .before .before .before .before .before .order .result) (c .before .before .before .before .before .before .before .before .before .before .before .before .order .last .1 .0) (c .before .before .before .before .before .before .before .before .before .before .before .before .order .ensures .0) (c .before .before .before .before .before .before .before .before .before .before .before .before .order .ensures .1) (c .before .before .before .before .before .before .before .before .before .if1 .left) .0
 
--- src/lib.rt:79:5
 imaged-requires : tie.Need-imaged-requires
 imaged-requires c κs = search needs
 
--- src/lib.rt:61:1
 same-length-3 : tie.Need-same-length-3
 same-length-3 c = search needs
 
--- src/lib.rt:61:1
 same-length-4 : tie.Need-same-length-4
 same-length-4 c = search needs
 
--- src/lib.rt:61:1
 returns-3 : tie.Need-returns-3
-returns-3 c = 
+returns-3 c =
     let l = units-linked (now (c .before .before .before .before .before .before .before .before .before .before .before .before .before .before .before .before .before .before .before .before .before .args .s)) (now (c .before .before .before .before .before .before .before .before .before .before .before .before .before .before .before .before .before .before .before .before .before .args .report)) (now (c .before .before .before .before .before .before .before .before .before .before .before .before .before .before .before .before .before .before .before .before .before .args .image)) (c .before .before .before .before .before .before .before .before .before .before .before .before .before .before .before .before .order .result) (c .before .before .before .before .before .before .before .before .before .before .before .before .before .before .before .before .order .last .1 .0) (c .before .before .before .before .before .before .before .before .before .before .before .before .before .before .before .before .order .ensures .0) (c .before .before .before .before .before .before .before .before .before .before .before .before .before .before .before .before .order .ensures .1) (c .before .before .before .before .before .before .before .before .before .before .before .before .before .if1 .left) in
     let z : c .before .before .before .before .before .before .before .before .assembly-faults .result .count ≡ 0 = omega (arith, c .before .before .before .before .before .before .before .if2 .left) in
     image-told (now (c .before .before .before .before .before .before .before .before .before .before .before .before .before .before .before .before .before .before .before .before .before .args .s)) (now (c .before .before .before .before .before .before .before .before .before .before .before .before .before .before .before .before .before .before .before .before .before .args .report)) (now (c .before .before .before .before .before .before .before .before .before .before .before .before .before .before .before .before .before .before .before .before .before .args .image)) (c .before .before .before .before .before .before .before .before .before .before .before .before .before .before .before .before .order .result) (c .before .before .before .before .before .before .before .before .before .before .before .before .before .before .before .before .order .last .1 .0) (c .before .before .before .before .before .before .before .before .before .before .before .before .before .before .before .before .order .ensures .0) (c .before .before .before .before .before .before .before .before .before .before .before .before .before .before .before .before .order .ensures .1) (l .0) (c .before .before .before .before .before .before .before .before .assembly-faults .result .numbers) (c .before .before .before .before .before .before .before .before .assembly-faults .result .places) (c .before .before .before .write-image .last .1 .1 .1 .1 .0) (c .before .before .before .before .before .before .before .before .assembly-faults .result .count) (c .before .before .before .write-image .result) (c .imaged .result) z

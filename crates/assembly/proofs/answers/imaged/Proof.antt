@@ -1,28 +1,21 @@
+-- `imaged` meets its contract. Assumes nothing.
 use mathlib.Core.Path.{refl}
 use borrow.Author.Needs.{needs}
 use Rattle.assembly.proofs.answers.imaged.Statement.{statement}
 use Rattle.assembly.proofs.answers.imaged.Tie as tie
-use Rattle.assembly.proofs.answers.imaged.Reads as reads
-use Rattle.assembly.proofs.answers.imaged.Lts as lts
-use Rattle.assembly.proofs.answers.told.Reads as told-reads
 
--- src/answers.rt:36:25
 enum-known-r : tie.Need-enum-known-r
 enum-known-r c = search needs
 
--- src/answers.rt:36:34
 told-requires : tie.Need-told-requires
 told-requires c κs = search needs
 
--- src/answers.rt:37:23
 enum-known-r-2 : tie.Need-enum-known-r-2
 enum-known-r-2 c = search needs
 
--- src/answers.rt:32:1
 returns : tie.Need-returns
 returns c = rw (c .before .before .r .given .1) (c .told .ensures)
 
--- src/answers.rt:32:1
 returns-2 : tie.Need-returns-2
 returns-2 c = rw (c .before .r2 .given .1) refl
 

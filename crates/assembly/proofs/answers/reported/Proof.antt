@@ -1,31 +1,23 @@
+-- `reported` meets its contract. Assumes nothing.
 use borrow.Author.Needs.{needs}
 use Rattle.assembly.proofs.answers.reported.Statement.{statement}
 use Rattle.assembly.proofs.answers.reported.Tie as tie
-use Rattle.assembly.proofs.answers.reported.Reads as reads
-use Rattle.assembly.proofs.answers.reported.Lts as lts
-use Rattle.assembly.proofs.answers.told.Reads as told-reads
 
--- src/answers.rt:27:34
 enum-known-r : tie.Need-enum-known-r
 enum-known-r c = search needs
 
--- src/answers.rt:27:43
 told-requires : tie.Need-told-requires
 told-requires c κs = search needs
 
--- src/answers.rt:28:33
 enum-known-r-2 : tie.Need-enum-known-r-2
 enum-known-r-2 c = search needs
 
--- src/answers.rt:28:44
 told-requires-2 : tie.Need-told-requires-2
 told-requires-2 c κs = search needs
 
--- src/answers.rt:23:1
 returns : tie.Need-returns
 returns c = rw (c .before .before .r .given .1) (c .told .ensures)
 
--- src/answers.rt:23:1
 returns-2 : tie.Need-returns-2
 returns-2 c = rw (c .before .before .r2 .given .1) (c .told2 .ensures)
 

@@ -1,25 +1,20 @@
-use Rattle.assembly.specs.EnumRoom.{enums-step, enums-end}
-use Rattle.assembly.specs.Linked.{OneUnit, one-unit}
-use Rattle.assembly.specs.Assemble.{itemsOf, enumDeclarations}
-use Rattle.order.specs.Writing.{started}
-use Rattle.assembly.specs.Linked.{below}
-use Rattle.assembly.specs.Faults.{enumsOf}
-use Rattle.assembly.specs.Parts.{Filled, lent-length, filled-none, filled-length, filled-start, filled-room, filled-part, filled-more, filled-all}
-use borrow.Rule.Slice.PartMut.{midOf}
-use Rattle.bundle.specs.Decode.{decode}
-use denote.Ref.{now}
-use lib.ListN.{length, getD, take, drop, length-append}
-use mathlib.Core.List.{List, [], _∷_, _++_}
-use mathlib.Core.Path.{_≡_, refl, sym, ap, subst, _∙_}
+-- `all_enums` meets its contract. Assumes nothing.
+use Prim.Native.Nat.{ℕ, _+_, _-_, _≤_}
 use native.Mathlib.Omega.{arith}
-use Prim.Native.Nat.{ℕ, suc, _+_, _-_, _*_, _≤_, _<_, min}
+use mathlib.Core.Path.{_≡_, sym, ap, subst, _∙_}
+use lib.ListN.{length, getD, take, drop}
+use denote.Ref.{now}
+use borrow.Rule.Slice.PartMut.{midOf}
 use borrow.Author.Needs.{needs}
+use Rattle.bundle.specs.Decode.{decode}
+use Rattle.order.specs.Writing.{started}
+use Rattle.assembly.specs.EnumRoom.{enums-step, enums-end}
+use Rattle.assembly.specs.Linked.{OneUnit, one-unit, below}
+use Rattle.assembly.specs.Assemble.{itemsOf, enumDeclarations}
+use Rattle.assembly.specs.Faults.{enumsOf}
+use Rattle.assembly.specs.Parts.{Filled, lent-length, filled-none, filled-length, filled-start, filled-room, filled-more, filled-all}
 use Rattle.assembly.proofs.checks.all_enums.Statement.{statement}
 use Rattle.assembly.proofs.checks.all_enums.Tie as tie
-use Rattle.assembly.proofs.checks.all_enums.Reads as reads
-use Rattle.assembly.proofs.checks.all_enums.Lts as lts
-use Rattle.assembly.proofs.checks.unit_enums.Reads as unit-enums-reads
-use Rattle.assembly.proofs.checks.wide.Reads as wide-reads
 
 abbrev Inv-loop : tie.InvT-loop
 Inv-loop s files ids units marks₀ sum₀ i₀ marks sum i = (i ≤ units) × (Filled (enumsOf (decode s) (take (units - 1) ids)) (enumsOf (decode s) (drop i (take (units - 1) ids))) marks₀ marks sum × (length (enumsOf (decode s) (take (units - 1) ids)) ≤ length marks₀))
@@ -27,53 +22,42 @@ Inv-loop s files ids units marks₀ sum₀ i₀ marks sum i = (i ≤ units) × (
 abbrev μ-loop : tie.MeasureT-loop
 μ-loop s files ids units marks₀ sum₀ i₀ marks sum i = units - i
 
--- src/checks.rt:53:5
 loop-holds : tie.Need-loop-holds Inv-loop μ-loop
 loop-holds c = (omega arith, (filled-none (enumsOf (decode (c .before .before .before .before .args .s .now)) (take ((c .before .before .before .before .args .units) - 1) (c .before .before .before .before .args .ids .now))) (c .before .before .before .before .args .marks .now), c .before .before .before .before .pre .1))
 
--- src/checks.rt:53:11
 add-loop : tie.Need-add-loop Inv-loop μ-loop
 add-loop c = search needs
 
--- src/checks.rt:54:22
 mul-wide : tie.Need-mul-wide Inv-loop μ-loop
 mul-wide c = search needs
 
--- src/checks.rt:54:22
 shared-slice-read-wide : tie.Need-shared-slice-read-wide Inv-loop μ-loop
 shared-slice-read-wide c = search needs
 
--- src/checks.rt:54:13
 wide-requires : tie.Need-wide-requires Inv-loop μ-loop
 wide-requires c κs = search needs
 
--- src/checks.rt:55:41
 mul-unit-enums : tie.Need-mul-unit-enums Inv-loop μ-loop
 mul-unit-enums c = let h = filled-start _ _ _ _ _ (c .before .before .before .loop .inv .1 .0) (c .before .before .before .loop .inv .1 .1) in let n = filled-length _ _ _ _ _ (c .before .before .before .loop .inv .1 .0) (c .before .before .before .loop .inv .1 .1) in search needs
 
--- src/checks.rt:55:41
 sub-unit-enums : tie.Need-sub-unit-enums Inv-loop μ-loop
 sub-unit-enums c = filled-start _ _ _ _ _ (c .before .before .before .loop .inv .1 .0) (c .before .before .before .loop .inv .1 .1)
 
--- src/checks.rt:55:41
 part-unit-enums-start : tie.Need-part-unit-enums-start Inv-loop μ-loop
 part-unit-enums-start c = let h = filled-start _ _ _ _ _ (c .before .before .before .loop .inv .1 .0) (c .before .before .before .loop .inv .1 .1) in search needs
 
--- src/checks.rt:55:41
 part-unit-enums-end : tie.Need-part-unit-enums-end Inv-loop μ-loop
 part-unit-enums-end c = search needs
 
--- src/checks.rt:55:13
 unit-enums-requires : tie.Need-unit-enums-requires Inv-loop μ-loop
-unit-enums-requires c κs = 
+unit-enums-requires c κs =
     let r = filled-room _ _ _ _ _ (c .before .before .before .before .loop .inv .1 .0) (c .before .before .before .before .loop .inv .1 .1) (enumDeclarations (itemsOf (decode (c .before .before .before .before .before .before .before .before .before .args .s .now)) (getD (c .before .before .before .before .before .before .before .before .before .args .ids .now) (c .before .before .before .before .loop .i) 0))) (enumsOf (decode (c .before .before .before .before .before .before .before .before .before .args .s .now)) (drop (c .before .before .before .before .loop .i + 1) (take ((c .before .before .before .before .before .before .before .before .before .args .units) - 1) (c .before .before .before .before .before .before .before .before .before .args .ids .now)))) (enums-step (c .before .before .before .before .before .before .before .before .before .args .s .now) (λ i. omega (arith, c .before .before .before .before .before .before .before .before .shared-slice-known .given i)) (c .before .before .before .before .before .before .before .before .before .args .files .now) (c .before .before .before .before .before .before .before .before .before .args .ids .now) (c .before .before .before .before .before .before .before .before .before .args .units) (c .before .before .before .before .before .before .before .before .before .pre .0) (c .before .before .before .before .loop .i) (c .before .before .before .loop-test .taken)) in
     let b = below (c .before .before .before .before .before .before .before .before .before .args .s .now) (c .before .before .before .before .before .before .before .before .before .args .files .now) (c .before .before .before .before .before .before .before .before .before .args .ids .now) (c .before .before .before .before .before .before .before .before .before .args .units) (c .before .before .before .before .before .before .before .before .before .pre .0) (c .before .before .before .before .loop .i) (let q = c .before .before .before .loop-test .taken in omega arith) in
     let w = c .before .wide .ensures in
     subst (λ (u : ℕ). OneUnit (c .before .before .before .before .before .before .before .before .before .args .s .now) (c .before .before .before .before .before .before .before .before .before .args .files .now) u × (length (enumDeclarations (itemsOf (decode (c .before .before .before .before .before .before .before .before .before .args .s .now)) u)) ≤ length (midOf (c .before .before .before .before .loop .sum) (length (c .before .before .before .before .loop .marks) - c .before .before .before .before .loop .sum) (c .before .before .before .before .loop .marks)))) (sym w) (one-unit (c .before .before .before .before .before .before .before .before .before .args .s .now) (c .before .before .before .before .before .before .before .before .before .args .files .now) (c .before .before .before .before .before .before .before .before .before .args .units) (c .before .before .before .before .before .before .before .before .before .pre .0 .of-units) (getD (c .before .before .before .before .before .before .before .before .before .args .ids .now) (c .before .before .before .before .loop .i) 0) b, r)
 
--- src/checks.rt:56:9
 add-sum : tie.Need-add-sum Inv-loop μ-loop
-add-sum c = 
+add-sum c =
     let r = filled-room _ _ _ _ _ (c .before .before .before .before .before .before .before .loop .inv .1 .0) (c .before .before .before .before .before .before .before .loop .inv .1 .1) (enumDeclarations (itemsOf (decode (c .before .before .before .before .before .before .before .before .before .before .before .before .args .s .now)) (getD (c .before .before .before .before .before .before .before .before .before .before .before .before .args .ids .now) (c .before .before .before .before .before .before .before .loop .i) 0))) (enumsOf (decode (c .before .before .before .before .before .before .before .before .before .before .before .before .args .s .now)) (drop (c .before .before .before .before .before .before .before .loop .i + 1) (take ((c .before .before .before .before .before .before .before .before .before .before .before .before .args .units) - 1) (c .before .before .before .before .before .before .before .before .before .before .before .before .args .ids .now)))) (enums-step (c .before .before .before .before .before .before .before .before .before .before .before .before .args .s .now) (λ i. omega (arith, c .before .before .before .before .before .before .before .before .before .before .before .shared-slice-known .given i)) (c .before .before .before .before .before .before .before .before .before .before .before .before .args .files .now) (c .before .before .before .before .before .before .before .before .before .before .before .before .args .ids .now) (c .before .before .before .before .before .before .before .before .before .before .before .before .args .units) (c .before .before .before .before .before .before .before .before .before .before .before .before .pre .0) (c .before .before .before .before .before .before .before .loop .i) (c .before .before .before .before .before .before .loop-test .taken)) in
     let h = filled-start _ _ _ _ _ (c .before .before .before .before .before .before .before .loop .inv .1 .0) (c .before .before .before .before .before .before .before .loop .inv .1 .1) in
     let l = lent-length (c .before .before .before .before .before .before .before .loop .marks) (c .before .before .before .before .before .before .before .loop .sum) h in
@@ -82,23 +66,18 @@ add-sum c =
     let g : c .before .before .before .before .before .before .before .loop .sum + c .before .before .unit-enums .result ≤ length (c .before .before .before .before .before .before .before .before .before .before .before .before .args .marks .now) = omega arith in
     omega arith
 
--- src/checks.rt:57:9
 add-i : tie.Need-add-i Inv-loop μ-loop
 add-i c = search needs
 
--- src/checks.rt:53:5
 loop-less : tie.Need-loop-less Inv-loop μ-loop
 loop-less c = search needs
 
--- src/checks.rt:53:5
 loop-again : tie.Need-loop-again Inv-loop μ-loop
 loop-again c = (let q = c .before .before .before .before .before .before .loop-test .taken in omega arith, (filled-more _ _ _ _ _ (c .before .before .before .before .before .before .before .loop .inv .1 .0) (c .before .before .before .before .before .before .before .loop .inv .1 .1) (enumDeclarations (itemsOf (decode (c .before .before .before .before .before .before .before .before .before .before .before .before .args .s .now)) (getD (c .before .before .before .before .before .before .before .before .before .before .before .before .args .ids .now) (c .before .before .before .before .before .before .before .loop .i) 0))) (enumsOf (decode (c .before .before .before .before .before .before .before .before .before .before .before .before .args .s .now)) (drop (c .before .before .before .before .before .before .before .loop .i + 1) (take ((c .before .before .before .before .before .before .before .before .before .before .before .before .args .units) - 1) (c .before .before .before .before .before .before .before .before .before .before .before .before .args .ids .now)))) (c .before .before .unit-enums .last .1 .1 .1 .0) (c .before .before .unit-enums .result) (enums-step (c .before .before .before .before .before .before .before .before .before .before .before .before .args .s .now) (λ i. omega (arith, c .before .before .before .before .before .before .before .before .before .before .before .shared-slice-known .given i)) (c .before .before .before .before .before .before .before .before .before .before .before .before .args .files .now) (c .before .before .before .before .before .before .before .before .before .before .before .before .args .ids .now) (c .before .before .before .before .before .before .before .before .before .before .before .before .args .units) (c .before .before .before .before .before .before .before .before .before .before .before .before .pre .0) (c .before .before .before .before .before .before .before .loop .i) (c .before .before .before .before .before .before .loop-test .taken)) (c .before .before .unit-enums .ensures .1 ∙ ap (λ (u : ℕ). started (enumDeclarations (itemsOf (decode (c .before .before .before .before .before .before .before .before .before .before .before .before .args .s .now)) u)) (midOf (c .before .before .before .before .before .before .before .loop .sum) (length (c .before .before .before .before .before .before .before .loop .marks) - c .before .before .before .before .before .before .before .loop .sum) (c .before .before .before .before .before .before .before .loop .marks))) (c .before .before .before .before .wide .ensures)) (c .before .before .unit-enums .ensures .0 ∙ ap (λ (u : ℕ). length (enumDeclarations (itemsOf (decode (c .before .before .before .before .before .before .before .before .before .before .before .before .args .s .now)) u))) (c .before .before .before .before .wide .ensures)), c .before .before .before .before .before .before .before .loop .inv .1 .1))
 
--- src/checks.rt:41:1
 same-length : tie.Need-same-length Inv-loop μ-loop
 same-length c = filled-length _ _ _ _ _ (c .before .loop .inv .1 .0) (c .before .loop .inv .1 .1)
 
--- src/checks.rt:41:1
 returns : tie.Need-returns Inv-loop μ-loop
 returns c = filled-all _ _ _ _ _ (c .before .loop .inv .1 .0) (c .before .loop .inv .1 .1) (enums-end (c .before .before .before .before .before .before .args .s .now) (λ i. omega (arith, c .before .before .before .before .before .shared-slice-known .given i)) (c .before .before .before .before .before .before .args .files .now) (c .before .before .before .before .before .before .args .ids .now) (c .before .before .before .before .before .before .args .units) (c .before .before .before .before .before .before .pre .0) (c .before .loop .i) (c .loop-test .left))
 

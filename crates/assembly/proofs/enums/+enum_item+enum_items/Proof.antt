@@ -1,23 +1,24 @@
-use Rattle.bundle.specs.Decode.{afterLength}
-use Rattle.assembly.specs.Walk.{itemEnums, itemsEnums, enums-end, enums-step, next-enums, enum-here, enums-flat, enums-inside, enums-other}
-use Rattle.assembly.specs.Parts.{Filled, lent-length, filled-none, filled-length, filled-start, filled-room, filled-more, filled-all, none-filled, one-filled, same-filled}
-use denote.Ref.{now}
-use lib.ListN.{length}
-use mathlib.Core.Path.{_≡_, ap}
+-- `enum_item` and `enum_items` meet their contracts. Assumes nothing.
+use Prim.Native.Nat.{_<_, ℕ, _+_, _-_, _*_, _≤_}
 use native.Mathlib.Omega.{arith}
+use mathlib.Core.Path.{_≡_, ap}
+use lib.ListN.{length}
+use denote.Ref.{now}
 use borrow.Author.Needs.{needs}
-use Prim.Native.Nat.{ℕ, _+_, _-_, _*_, _<_, _≤_}
 use borrow.Fn.Kinds.{In}
 use borrow.Fn.PlainCycle.{Measures, is, falls, and}
+use Rattle.bundle.specs.Decode.{afterLength}
+use Rattle.bundle.proofs.item_kind.Reads as item-kind-reads
+use Rattle.bundle.proofs.module_items.Reads as module-items-reads
+use Rattle.bundle.proofs.next_item.Reads as next-item-reads
+use Rattle.assembly.specs.Walk.{itemEnums, itemsEnums, enums-end, enums-step, next-enums, enum-here, enums-flat, enums-inside, enums-other}
+use Rattle.assembly.specs.Parts.{Filled, lent-length, filled-none, filled-length, filled-start, filled-room, filled-more, filled-all, none-filled, one-filled, same-filled}
 use Rattle.assembly.proofs.enums.enum_item.Reads as enum-item
 use Rattle.assembly.proofs.enums.enum_item.Kinds as enum-item-kinds
 use Rattle.assembly.proofs.enums.+enum_item+enum_items.Lts-enum_item as enum-item-lts
 use Rattle.assembly.proofs.enums.enum_items.Reads as enum-items
 use Rattle.assembly.proofs.enums.enum_items.Kinds as enum-items-kinds
 use Rattle.assembly.proofs.enums.+enum_item+enum_items.Lts-enum_items as enum-items-lts
-use Rattle.bundle.proofs.item_kind.Reads as item-kind-reads
-use Rattle.bundle.proofs.module_items.Reads as module-items-reads
-use Rattle.bundle.proofs.next_item.Reads as next-item-reads
 use Rattle.assembly.proofs.enums.+enum_item+enum_items.{statement}
 use Rattle.assembly.proofs.enums.+enum_item+enum_items.Tie.{close}
 
@@ -42,7 +43,6 @@ abbrev enum-items-below : ℕ → In 2 enum-items-kinds.ps
 enum-items-below t =
     and 2 enum-items-kinds.ps (falls 2 enum-items-kinds.ps _<_ μ-enum-items t) enum-items.Pre
 
--- src/enums.rt:22:9
 enum-item-item-kind-requires : (t : ℕ) → enum-item-lts.Need-item-kind-requires (
   item-kind-reads.Asked,
   item-kind-reads.Learnt,
@@ -53,7 +53,6 @@ enum-item-item-kind-requires : (t : ℕ) → enum-item-lts.Need-item-kind-requir
 ) (enum-item-at t) enum-item.Post
 enum-item-item-kind-requires t c κs = search needs
 
--- src/enums.rt:24:9
 enum-item-slice-write-marks : (t : ℕ) → enum-item-lts.Need-slice-write-marks (
   item-kind-reads.Asked,
   item-kind-reads.Learnt,
@@ -64,7 +63,6 @@ enum-item-slice-write-marks : (t : ℕ) → enum-item-lts.Need-slice-write-marks
 ) (enum-item-at t) enum-item.Post
 enum-item-slice-write-marks t c = let e = ap length (enum-here (c .before .before .before .before .args .s .now) (c .before .before .before .before .args .at) (c .before .item-kind .result) (c .before .item-kind .ensures) (c .before .before .before .before .args .depth) (c .if1 .taken)) in let r = c .before .before .before .before .pre .1 .1 in omega arith
 
--- src/enums.rt:25:9
 enum-item-same-length : (t : ℕ) → enum-item-lts.Need-same-length (
   item-kind-reads.Asked,
   item-kind-reads.Learnt,
@@ -75,7 +73,6 @@ enum-item-same-length : (t : ℕ) → enum-item-lts.Need-same-length (
 ) (enum-item-at t) enum-item.Post
 enum-item-same-length t c = search needs
 
--- src/enums.rt:25:9
 enum-item-returns : (t : ℕ) → enum-item-lts.Need-returns (
   item-kind-reads.Asked,
   item-kind-reads.Learnt,
@@ -86,7 +83,6 @@ enum-item-returns : (t : ℕ) → enum-item-lts.Need-returns (
 ) (enum-item-at t) enum-item.Post
 enum-item-returns t c = let e = enum-here (c .before .before .before .before .args .s .now) (c .before .before .before .before .args .at) (c .before .item-kind .result) (c .before .item-kind .ensures) (c .before .before .before .before .args .depth) (c .if1 .taken) in let l = ap length e in let r = c .before .before .before .before .pre .1 .1 in one-filled _ (now (c .before .before .before .before .args .marks)) (c .before .before .before .before .args .at) e (omega arith)
 
--- src/enums.rt:29:13
 enum-item-returns-2 : (t : ℕ) → enum-item-lts.Need-returns-2 (
   item-kind-reads.Asked,
   item-kind-reads.Learnt,
@@ -97,7 +93,6 @@ enum-item-returns-2 : (t : ℕ) → enum-item-lts.Need-returns-2 (
 ) (enum-item-at t) enum-item.Post
 enum-item-returns-2 t c = none-filled _ (now (c .before .before .before .before .before .before .args .marks)) (enums-flat (c .before .before .before .before .before .before .args .s .now) (c .before .before .before .before .before .before .args .at) (c .before .before .before .item-kind .result) (c .before .before .before .item-kind .ensures) (c .before .before .before .before .before .before .args .depth) (c .before .if2 .taken) (c .if3 .taken))
 
--- src/enums.rt:31:13
 enum-item-module-items-requires : (t : ℕ) → enum-item-lts.Need-module-items-requires (
   item-kind-reads.Asked,
   item-kind-reads.Learnt,
@@ -108,7 +103,6 @@ enum-item-module-items-requires : (t : ℕ) → enum-item-lts.Need-module-items-
 ) (enum-item-at t) enum-item.Post
 enum-item-module-items-requires t c κs = search needs
 
--- src/enums.rt:32:51
 enum-item-sub-enum-items : (t : ℕ) → enum-item-lts.Need-sub-enum-items (
   item-kind-reads.Asked,
   item-kind-reads.Learnt,
@@ -119,7 +113,6 @@ enum-item-sub-enum-items : (t : ℕ) → enum-item-lts.Need-sub-enum-items (
 ) (enum-item-at t) enum-item.Post
 enum-item-sub-enum-items t c = search needs
 
--- src/enums.rt:32:9
 enum-item-enum-items-requires : (t : ℕ) → enum-item-lts.Need-enum-items-requires (
   item-kind-reads.Asked,
   item-kind-reads.Learnt,
@@ -130,7 +123,6 @@ enum-item-enum-items-requires : (t : ℕ) → enum-item-lts.Need-enum-items-requ
 ) (enum-item-at t) enum-item.Post
 enum-item-enum-items-requires t c κs = let e = ap length (enums-inside (c .before .before .before .before .before .before .before .before .args .s .now) (c .before .before .before .before .before .before .before .before .args .at) (c .before .before .before .before .before .item-kind .result) (c .before .before .before .before .before .item-kind .ensures) (c .before .before .before .before .before .before .before .before .args .depth) (c .before .module-items .result .end) (c .before .module-items .result .at) (c .before .before .before .if2 .taken) (c .before .before .if3 .left) (c .before .module-items .ensures .0)) in let r = c .before .before .before .before .before .before .before .before .pre .1 .1 in let g : length (itemsEnums (c .before .before .before .before .before .before .before .before .args .s .now) (c .before .before .before .before .before .before .before .before .args .depth - 1) (c .before .module-items .result .end) (c .before .module-items .result .at)) ≤ length (c .before .before .before .before .before .before .before .before .args .marks .now) = omega arith in (search needs, (search needs, g))
 
--- src/enums.rt:32:9
 enum-item-same-length-2 : (t : ℕ) → enum-item-lts.Need-same-length-2 (
   item-kind-reads.Asked,
   item-kind-reads.Learnt,
@@ -141,7 +133,6 @@ enum-item-same-length-2 : (t : ℕ) → enum-item-lts.Need-same-length-2 (
 ) (enum-item-at t) enum-item.Post
 enum-item-same-length-2 t c = search needs
 
--- src/enums.rt:32:9
 enum-item-returns-3 : (t : ℕ) → enum-item-lts.Need-returns-3 (
   item-kind-reads.Asked,
   item-kind-reads.Learnt,
@@ -152,7 +143,6 @@ enum-item-returns-3 : (t : ℕ) → enum-item-lts.Need-returns-3 (
 ) (enum-item-at t) enum-item.Post
 enum-item-returns-3 t c = same-filled _ _ (now (c .before .before .before .before .before .before .before .before .before .before .before .args .marks)) (c .before .before .enum-items .last .1 .1 .1 .1 .0) (c .before .before .enum-items .result) (enums-inside (c .before .before .before .before .before .before .before .before .before .before .before .args .s .now) (c .before .before .before .before .before .before .before .before .before .before .before .args .at) (c .before .before .before .before .before .before .before .before .item-kind .result) (c .before .before .before .before .before .before .before .before .item-kind .ensures) (c .before .before .before .before .before .before .before .before .before .before .before .args .depth) (c .before .before .before .before .module-items .result .end) (c .before .before .before .before .module-items .result .at) (c .before .before .before .before .before .before .if2 .taken) (c .before .before .before .before .before .if3 .left) (c .before .before .before .before .module-items .ensures .0)) (c .before .before .enum-items .ensures)
 
--- src/enums.rt:18:1
 enum-item-returns-4 : (t : ℕ) → enum-item-lts.Need-returns-4 (
   item-kind-reads.Asked,
   item-kind-reads.Learnt,
@@ -169,7 +159,6 @@ enum-items-Inv-loop s at end depth marks₀ sum₀ a₀ marks sum a = Filled (it
 abbrev enum-items-μ-loop : enum-items-lts.MeasureT-loop
 enum-items-μ-loop s at end depth marks₀ sum₀ a₀ marks sum a = end - a
 
--- src/enums.rt:50:5
 enum-items-loop-holds : (t : ℕ) → enum-items-lts.Need-loop-holds (
   enum-item-below t,
   enum-item.Post,
@@ -178,7 +167,6 @@ enum-items-loop-holds : (t : ℕ) → enum-items-lts.Need-loop-holds (
 ) (enum-items-at t) enum-items.Post enum-items-Inv-loop enum-items-μ-loop
 enum-items-loop-holds t c = (filled-none (itemsEnums (c .before .before .args .s .now) (c .before .before .args .depth) (c .before .before .args .end) (c .before .before .args .at)) (c .before .before .args .marks .now), c .before .before .pre .1 .1)
 
--- src/enums.rt:51:40
 enum-items-mul-enum-item : (t : ℕ) → enum-items-lts.Need-mul-enum-item (
   enum-item-below t,
   enum-item.Post,
@@ -187,7 +175,6 @@ enum-items-mul-enum-item : (t : ℕ) → enum-items-lts.Need-mul-enum-item (
 ) (enum-items-at t) enum-items.Post enum-items-Inv-loop enum-items-μ-loop
 enum-items-mul-enum-item t c = let h = filled-start _ _ _ _ _ (c .before .loop .inv .0) (c .before .loop .inv .1) in let n = filled-length _ _ _ _ _ (c .before .loop .inv .0) (c .before .loop .inv .1) in search needs
 
--- src/enums.rt:51:40
 enum-items-sub-enum-item : (t : ℕ) → enum-items-lts.Need-sub-enum-item (
   enum-item-below t,
   enum-item.Post,
@@ -196,7 +183,6 @@ enum-items-sub-enum-item : (t : ℕ) → enum-items-lts.Need-sub-enum-item (
 ) (enum-items-at t) enum-items.Post enum-items-Inv-loop enum-items-μ-loop
 enum-items-sub-enum-item t c = filled-start _ _ _ _ _ (c .before .loop .inv .0) (c .before .loop .inv .1)
 
--- src/enums.rt:51:40
 enum-items-part-enum-item-start : (t : ℕ) → enum-items-lts.Need-part-enum-item-start (
   enum-item-below t,
   enum-item.Post,
@@ -205,7 +191,6 @@ enum-items-part-enum-item-start : (t : ℕ) → enum-items-lts.Need-part-enum-it
 ) (enum-items-at t) enum-items.Post enum-items-Inv-loop enum-items-μ-loop
 enum-items-part-enum-item-start t c = let h = filled-start _ _ _ _ _ (c .before .loop .inv .0) (c .before .loop .inv .1) in search needs
 
--- src/enums.rt:51:40
 enum-items-part-enum-item-end : (t : ℕ) → enum-items-lts.Need-part-enum-item-end (
   enum-item-below t,
   enum-item.Post,
@@ -214,7 +199,6 @@ enum-items-part-enum-item-end : (t : ℕ) → enum-items-lts.Need-part-enum-item
 ) (enum-items-at t) enum-items.Post enum-items-Inv-loop enum-items-μ-loop
 enum-items-part-enum-item-end t c = let h = filled-start _ _ _ _ _ (c .before .loop .inv .0) (c .before .loop .inv .1) in search needs
 
--- src/enums.rt:51:13
 enum-items-enum-item-requires : (t : ℕ) → enum-items-lts.Need-enum-item-requires (
   enum-item-below t,
   enum-item.Post,
@@ -223,14 +207,13 @@ enum-items-enum-item-requires : (t : ℕ) → enum-items-lts.Need-enum-item-requ
 ) (enum-items-at t) enum-items.Post enum-items-Inv-loop enum-items-μ-loop
 enum-items-enum-item-requires t c κs = (search needs, (search needs, filled-room _ _ _ _ _ (c .before .before .loop .inv .0) (c .before .before .loop .inv .1) (itemEnums (c .before .before .before .before .before .args .s .now) (c .before .before .before .before .before .args .depth) (c .before .before .loop .a)) (itemsEnums (c .before .before .before .before .before .args .s .now) (c .before .before .before .before .before .args .depth) (c .before .before .before .before .before .args .end) (afterLength (c .before .before .before .before .before .args .s .now) (c .before .before .loop .a))) (enums-step (c .before .before .before .before .before .args .s .now) (c .before .before .before .before .before .args .depth) (c .before .before .before .before .before .args .end) (c .before .before .loop .a) (c .before .loop-test .taken))))
 
--- src/enums.rt:52:9
 enum-items-add-sum : (t : ℕ) → enum-items-lts.Need-add-sum (
   enum-item-below t,
   enum-item.Post,
   next-item-reads.Asked,
   next-item-reads.Learnt,
 ) (enum-items-at t) enum-items.Post enum-items-Inv-loop enum-items-μ-loop
-enum-items-add-sum t c = 
+enum-items-add-sum t c =
     let r = filled-room _ _ _ _ _ (c .before .before .before .before .before .loop .inv .0) (c .before .before .before .before .before .loop .inv .1) (itemEnums (c .before .before .before .before .before .before .before .before .args .s .now) (c .before .before .before .before .before .before .before .before .args .depth) (c .before .before .before .before .before .loop .a)) (itemsEnums (c .before .before .before .before .before .before .before .before .args .s .now) (c .before .before .before .before .before .before .before .before .args .depth) (c .before .before .before .before .before .before .before .before .args .end) (afterLength (c .before .before .before .before .before .before .before .before .args .s .now) (c .before .before .before .before .before .loop .a))) (enums-step (c .before .before .before .before .before .before .before .before .args .s .now) (c .before .before .before .before .before .before .before .before .args .depth) (c .before .before .before .before .before .before .before .before .args .end) (c .before .before .before .before .before .loop .a) (c .before .before .before .before .loop-test .taken)) in
     let h = filled-start _ _ _ _ _ (c .before .before .before .before .before .loop .inv .0) (c .before .before .before .before .before .loop .inv .1) in
     let l = lent-length (c .before .before .before .before .before .loop .marks) (c .before .before .before .before .before .loop .sum) h in
@@ -239,7 +222,6 @@ enum-items-add-sum t c =
     let g : c .before .before .before .before .before .loop .sum + c .before .before .enum-item .result ≤ length (c .before .before .before .before .before .before .before .before .args .marks .now) = omega arith in
     omega arith
 
--- src/enums.rt:53:9
 enum-items-next-item-requires : (t : ℕ) → enum-items-lts.Need-next-item-requires (
   enum-item-below t,
   enum-item.Post,
@@ -248,7 +230,6 @@ enum-items-next-item-requires : (t : ℕ) → enum-items-lts.Need-next-item-requ
 ) (enum-items-at t) enum-items.Post enum-items-Inv-loop enum-items-μ-loop
 enum-items-next-item-requires t c κs = search needs
 
--- src/enums.rt:50:5
 enum-items-loop-less : (t : ℕ) → enum-items-lts.Need-loop-less (
   enum-item-below t,
   enum-item.Post,
@@ -257,7 +238,6 @@ enum-items-loop-less : (t : ℕ) → enum-items-lts.Need-loop-less (
 ) (enum-items-at t) enum-items.Post enum-items-Inv-loop enum-items-μ-loop
 enum-items-loop-less t c = search needs
 
--- src/enums.rt:50:5
 enum-items-loop-again : (t : ℕ) → enum-items-lts.Need-loop-again (
   enum-item-below t,
   enum-item.Post,
@@ -266,7 +246,6 @@ enum-items-loop-again : (t : ℕ) → enum-items-lts.Need-loop-again (
 ) (enum-items-at t) enum-items.Post enum-items-Inv-loop enum-items-μ-loop
 enum-items-loop-again t c = (filled-more _ _ _ _ _ (c .before .before .before .before .before .before .loop .inv .0) (c .before .before .before .before .before .before .loop .inv .1) (itemEnums (c .before .before .before .before .before .before .before .before .before .args .s .now) (c .before .before .before .before .before .before .before .before .before .args .depth) (c .before .before .before .before .before .before .loop .a)) (itemsEnums (c .before .before .before .before .before .before .before .before .before .args .s .now) (c .before .before .before .before .before .before .before .before .before .args .depth) (c .before .before .before .before .before .before .before .before .before .args .end) (c .next-item .result)) (c .before .before .before .enum-item .last .1 .1 .1 .0) (c .before .before .before .enum-item .result) (next-enums (c .before .before .before .before .before .before .before .before .before .args .s .now) (c .before .before .before .before .before .before .before .before .before .args .depth) (c .before .before .before .before .before .before .before .before .before .args .end) (c .before .before .before .before .before .before .loop .a) (c .next-item .result) (c .before .before .before .before .before .loop-test .taken) (c .next-item .ensures .0)) (c .before .before .before .enum-item .ensures .1) (c .before .before .before .enum-item .ensures .0), c .before .before .before .before .before .before .loop .inv .1)
 
--- src/enums.rt:38:1
 enum-items-same-length : (t : ℕ) → enum-items-lts.Need-same-length (
   enum-item-below t,
   enum-item.Post,
@@ -275,7 +254,6 @@ enum-items-same-length : (t : ℕ) → enum-items-lts.Need-same-length (
 ) (enum-items-at t) enum-items.Post enum-items-Inv-loop enum-items-μ-loop
 enum-items-same-length t c = filled-length _ _ _ _ _ (c .before .loop .inv .0) (c .before .loop .inv .1)
 
--- src/enums.rt:38:1
 enum-items-returns : (t : ℕ) → enum-items-lts.Need-returns (
   enum-item-below t,
   enum-item.Post,

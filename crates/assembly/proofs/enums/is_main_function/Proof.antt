@@ -1,43 +1,34 @@
-use Rattle.assembly.specs.Walk.{no-function, a-function, name-text}
-use Rattle.names.specs.Keywords.{isMain}
-use Rattle.names.specs.Bytes.{ascii, same}
-use denote.Ref.{now}
+-- `is_main_function` meets its contract. Assumes nothing.
+use Prim.Native.Nat.{ℕ}
+use native.Mathlib.Omega.{arith}
 use mathlib.Core.List.{List}
 use mathlib.Core.Path.{_≡_, refl, sym, ap, _∙_}
-use native.Mathlib.Omega.{arith}
-use Prim.Native.Nat.{ℕ}
+use denote.Ref.{now}
 use borrow.Author.Needs.{needs}
+use Rattle.names.specs.Keywords.{isMain}
+use Rattle.names.specs.Bytes.{ascii, same}
+use Rattle.assembly.specs.Walk.{no-function, a-function, name-text}
 use Rattle.assembly.proofs.enums.is_main_function.Statement.{statement}
 use Rattle.assembly.proofs.enums.is_main_function.Tie as tie
-use Rattle.assembly.proofs.enums.is_main_function.Reads as reads
-use Rattle.assembly.proofs.enums.is_main_function.Lts as lts
-use Rattle.bundle.proofs.item_kind.Reads as item-kind-reads
-use Rattle.bundle.proofs.item_name.Reads as item-name-reads
-use Rattle.names.proofs.is_main.Reads as is-main-reads
 
 main-text : (t : List ℕ) → isMain t ≡ same t (ascii "main")
 unfolding isMain
 main-text t = refl
 
--- src/enums.rt:63:8
 item-kind-requires : tie.Need-item-kind-requires
 item-kind-requires c κs = search needs
 
--- src/enums.rt:64:9
 returns : tie.Need-returns
 returns c = sym (no-function (c .before .before .before .args .s .now) (c .before .before .before .args .at) (c .before .item-kind .result) (c .before .item-kind .ensures) (c .if1 .taken))
 
--- src/enums.rt:66:20
 item-name-requires : tie.Need-item-name-requires
 item-name-requires c κs = search needs
 
--- src/enums.rt:66:5
 is-main-requires : tie.Need-is-main-requires
 is-main-requires c κs = search needs
 
--- src/enums.rt:59:1
 returns-2 : tie.Need-returns-2
-returns-2 c = 
+returns-2 c =
     let k = c .before .before .if1 .left in
     let n3 : c .before .before .before .item-kind .result ≡ 3 → ⊥ = λ (e : c .before .before .before .item-kind .result ≡ 3). omega arith in
     let n6 : c .before .before .before .item-kind .result ≡ 6 → ⊥ = λ (e : c .before .before .before .item-kind .result ≡ 6). omega arith in

@@ -1,78 +1,57 @@
+-- `write_image` meets its contract. Assumes nothing.
+use Prim.Native.Nat.{min}
+use native.Mathlib.Omega.{arith}
+use mathlib.Core.Path.{_≡_}
+use lib.ListN.{length, take}
+use denote.Ref.{now}
+use borrow.Author.Needs.{needs}
+use Rattle.bundle.specs.Decode.{decode}
 use Rattle.assembly.specs.WholeImage.{too-long, too-small, all-written}
 use Rattle.assembly.specs.Linked.{programBytes}
-use Rattle.bundle.specs.Decode.{decode}
-use denote.Ref.{now}
-use lib.ListN.{length, getD, take, drop, length-append}
-use mathlib.Core.List.{List, [], _∷_, _++_}
-use mathlib.Core.Path.{_≡_, refl, sym, ap, subst, _∙_}
-use native.Mathlib.Omega.{arith}
-use Prim.Native.Nat.{ℕ, suc, _+_, _-_, _*_, _≤_, _<_, min}
-use borrow.Author.Needs.{needs}
 use Rattle.assembly.proofs.image.write_image.Statement.{statement}
 use Rattle.assembly.proofs.image.write_image.Tie as tie
-use Rattle.assembly.proofs.image.write_image.Reads as reads
-use Rattle.assembly.proofs.image.write_image.Lts as lts
-use Rattle.assembly.proofs.bytes.put.Reads as put-reads
-use Rattle.assembly.proofs.bytes.put_two.Reads as put-two-reads
-use Rattle.assembly.proofs.lengths.program_length.Reads as program-length-reads
-use Rattle.assembly.proofs.writing.write_program.Reads as write-program-reads
-use Rattle.resolution.proofs.layout_of.Reads as layout-of-reads
 
--- src/image.rt:35:9
 layout-of-requires : tie.Need-layout-of-requires
 layout-of-requires c κs = search needs
 
--- src/image.rt:36:9
 program-length-requires : tie.Need-program-length-requires
 program-length-requires c κs = search needs
 
--- src/image.rt:38:9
 returns : tie.Need-returns
 returns c = too-long (decode (c .before .before .before .before .before .before .before .args .s .now)) (take (c .before .before .before .before .before .before .before .args .units) (c .before .before .before .before .before .before .before .args .ids .now)) (now (c .before .before .before .before .before .before .before .args .out)) (c .before .program-length .result) (c .before .program-length .ensures) (c .if1 .taken)
 
--- src/image.rt:40:8
 add-if2 : tie.Need-add-if2
 add-if2 c = search needs
 
--- src/image.rt:41:9
 returns-2 : tie.Need-returns-2
 returns-2 c = too-small (decode (c .before .before .before .before .before .before .before .before .args .s .now)) (take (c .before .before .before .before .before .before .before .before .args .units) (c .before .before .before .before .before .before .before .before .args .ids .now)) (now (c .before .before .before .before .before .before .before .before .args .out)) (c .before .before .program-length .result) (c .before .before .program-length .ensures) (c .before .if1 .left) (c .if2 .taken)
 
--- src/image.rt:43:53
 sub-write-program : tie.Need-sub-write-program
 sub-write-program c = search needs
 
--- src/image.rt:43:53
 part-write-program-start : tie.Need-part-write-program-start
 part-write-program-start c = search needs
 
--- src/image.rt:43:53
 part-write-program-end : tie.Need-part-write-program-end
 part-write-program-end c = search needs
 
--- src/image.rt:43:9
 write-program-requires : tie.Need-write-program-requires
 write-program-requires c κs = search needs
 
--- src/image.rt:44:5
 put-requires : tie.Need-put-requires
 put-requires c κs = search needs
 
--- src/image.rt:45:5
 put-two-requires : tie.Need-put-two-requires
 put-two-requires c κs = search needs
 
--- src/image.rt:46:19
 add-t11 : tie.Need-add-t11
 add-t11 c = search needs
 
--- src/image.rt:24:1
 same-length : tie.Need-same-length
 same-length c = search needs
 
--- src/image.rt:24:1
 returns-3 : tie.Need-returns-3
-returns-3 c = 
+returns-3 c =
     let e : c .before .before .before .before .before .before .before .before .before .before .before .before .before .before .program-length .result ≡ min (length (programBytes (decode (c .before .before .before .before .before .before .before .before .before .before .before .before .before .before .before .before .before .before .before .before .args .s .now)) (take (c .before .before .before .before .before .before .before .before .before .before .before .before .before .before .before .before .before .before .before .before .args .units) (c .before .before .before .before .before .before .before .before .before .before .before .before .before .before .before .before .before .before .before .before .args .ids .now)))) 65536 = c .before .before .before .before .before .before .before .before .before .before .before .before .before .before .program-length .ensures in
     let n = c .before .before .before .before .before .before .before .before .before .before .before .before .before .if1 .left in
     let k = c .before .before .before .before .before .before .before .before .before .before .before .before .if2 .left in

@@ -1,20 +1,24 @@
+-- `item_length` and `items_length` meet their contracts. Assumes nothing.
+use Prim.Native.Nat.{_<_, ℕ, _+_, _-_, _*_, min}
+use native.Mathlib.Omega.{arith}
+use mathlib.Core.Path.{_≡_, ap}
+use lib.ListN.{length, length-append}
+use denote.Ref.{now}
+use borrow.Author.Needs.{needs}
+use borrow.Fn.Kinds.{In}
+use borrow.Fn.PlainCycle.{Measures, is, falls, and}
+use Rattle.bundle.specs.Scan.{text}
+use Rattle.bundle.specs.Encode.{string, counted, element}
+use Rattle.bundle.proofs.item_kind.Reads as item-kind-reads
+use Rattle.bundle.proofs.item_name.Reads as item-name-reads
+use Rattle.bundle.proofs.module_items.Reads as module-items-reads
+use Rattle.bundle.proofs.next_item.Reads as next-item-reads
+use Rattle.discovery.specs.Walk.{use-mark}
 use Rattle.assembly.specs.Uses.{use-form}
 use Rattle.assembly.specs.Targets.{pathBy}
 use Rattle.assembly.specs.Strings.{text-short, string-length}
-use Rattle.discovery.specs.Walk.{use-mark}
-use Rattle.bundle.specs.Scan.{text}
-use Rattle.bundle.specs.Encode.{string, counted, element}
-use Rattle.assembly.specs.Walk.{itemBytes, itemsBytes, useBytes, segmentsAt, elementsAt, bytes-end, next-bytes, ignored-bytes, use-bytes, named-bytes, flat-bytes, module-bytes, name-text}
-use Rattle.assembly.specs.Parts.{Counted, counted-none, counted-more, counted-all, headBytes}
-use denote.Ref.{now}
-use lib.ListN.{length, length-append}
-use mathlib.Core.List.{List, [], _∷_, _++_}
-use mathlib.Core.Path.{_≡_, refl, sym, ap, subst, _∙_}
-use native.Mathlib.Omega.{arith}
-use borrow.Author.Needs.{needs}
-use Prim.Native.Nat.{ℕ, suc, _+_, _-_, _*_, _<_, _≤_, min}
-use borrow.Fn.Kinds.{In}
-use borrow.Fn.PlainCycle.{Measures, is, falls, and}
+use Rattle.assembly.specs.Walk.{itemBytes, itemsBytes, segmentsAt, elementsAt, bytes-end, next-bytes, ignored-bytes, use-bytes, named-bytes, flat-bytes, module-bytes, name-text}
+use Rattle.assembly.specs.Parts.{Counted, counted-none, counted-more, counted-all}
 use Rattle.assembly.proofs.lengths.item_length.Reads as item-length
 use Rattle.assembly.proofs.lengths.item_length.Kinds as item-length-kinds
 use Rattle.assembly.proofs.lengths.+item_length+items_length.Lts-item_length as item-length-lts
@@ -25,10 +29,6 @@ use Rattle.assembly.proofs.lengths.capped.Reads as capped-reads
 use Rattle.assembly.proofs.lengths.elements_length.Reads as elements-length-reads
 use Rattle.assembly.proofs.lengths.path_length.Reads as path-length-reads
 use Rattle.assembly.proofs.targets.target_of.Reads as target-of-reads
-use Rattle.bundle.proofs.item_kind.Reads as item-kind-reads
-use Rattle.bundle.proofs.item_name.Reads as item-name-reads
-use Rattle.bundle.proofs.module_items.Reads as module-items-reads
-use Rattle.bundle.proofs.next_item.Reads as next-item-reads
 use Rattle.assembly.proofs.lengths.+item_length+items_length.{statement}
 use Rattle.assembly.proofs.lengths.+item_length+items_length.Tie.{close}
 
@@ -58,7 +58,6 @@ items-length-below t =
     (falls 3 items-length-kinds.ps _<_ μ-items-length t)
     items-length.Pre
 
--- src/lengths.rt:79:9
 item-length-item-kind-requires : (t : ℕ) → item-length-lts.Need-item-kind-requires (
   item-kind-reads.Asked,
   item-kind-reads.Learnt,
@@ -79,7 +78,6 @@ item-length-item-kind-requires : (t : ℕ) → item-length-lts.Need-item-kind-re
 ) (item-length-at t) item-length.Post
 item-length-item-kind-requires t c κs = search needs
 
--- src/lengths.rt:81:9
 item-length-returns : (t : ℕ) → item-length-lts.Need-returns (
   item-kind-reads.Asked,
   item-kind-reads.Learnt,
@@ -100,7 +98,6 @@ item-length-returns : (t : ℕ) → item-length-lts.Need-returns (
 ) (item-length-at t) item-length.Post
 item-length-returns t c = let e = ap length (ignored-bytes (c .before .before .before .before .before .args .s .now) (c .before .before .before .before .before .args .place) (c .before .item-kind .result) (c .before .item-kind .ensures) (c .before .before .before .before .before .args .file .now) (c .before .before .before .before .before .args .depth) (c .if1 .taken)) in omega arith
 
--- src/lengths.rt:84:13
 item-length-target-of-requires : (t : ℕ) → item-length-lts.Need-target-of-requires (
   item-kind-reads.Asked,
   item-kind-reads.Learnt,
@@ -121,7 +118,6 @@ item-length-target-of-requires : (t : ℕ) → item-length-lts.Need-target-of-re
 ) (item-length-at t) item-length.Post
 item-length-target-of-requires t c κs = (c .before .before .before .before .before .before .pre .1 .0, use-mark (c .before .before .before .before .before .before .args .depth) (c .before .before .before .before .before .before .args .s .now) (c .before .before .before .before .before .before .args .place) (c .before .before .item-kind .result) (c .before .before .item-kind .ensures) (c .if2 .taken) (let q = c .before .before .before .before .before .before .pre .1 .1 in omega arith))
 
--- src/lengths.rt:85:27
 item-length-path-length-requires : (t : ℕ) → item-length-lts.Need-path-length-requires (
   item-kind-reads.Asked,
   item-kind-reads.Learnt,
@@ -142,7 +138,6 @@ item-length-path-length-requires : (t : ℕ) → item-length-lts.Need-path-lengt
 ) (item-length-at t) item-length.Post
 item-length-path-length-requires t c κs = (use-mark (c .before .before .before .before .before .before .before .args .depth) (c .before .before .before .before .before .before .before .args .s .now) (c .before .before .before .before .before .before .before .args .place) (c .before .before .before .item-kind .result) (c .before .before .before .item-kind .ensures) (c .before .if2 .taken) (let q = c .before .before .before .before .before .before .before .pre .1 .1 in omega arith), c .target-of .ensures .1)
 
--- src/lengths.rt:85:23
 item-length-add-capped : (t : ℕ) → item-length-lts.Need-add-capped (
   item-kind-reads.Asked,
   item-kind-reads.Learnt,
@@ -163,7 +158,6 @@ item-length-add-capped : (t : ℕ) → item-length-lts.Need-add-capped (
 ) (item-length-at t) item-length.Post
 item-length-add-capped t c = search needs
 
--- src/lengths.rt:85:58
 item-length-elements-length-requires : (t : ℕ) → item-length-lts.Need-elements-length-requires (
   item-kind-reads.Asked,
   item-kind-reads.Learnt,
@@ -184,7 +178,6 @@ item-length-elements-length-requires : (t : ℕ) → item-length-lts.Need-elemen
 ) (item-length-at t) item-length.Post
 item-length-elements-length-requires t c κs = use-mark (c .before .before .before .before .before .before .before .before .args .depth) (c .before .before .before .before .before .before .before .before .args .s .now) (c .before .before .before .before .before .before .before .before .args .place) (c .before .before .before .before .item-kind .result) (c .before .before .before .before .item-kind .ensures) (c .before .before .if2 .taken) (let q = c .before .before .before .before .before .before .before .before .pre .1 .1 in omega arith)
 
--- src/lengths.rt:85:9
 item-length-capped-requires : (t : ℕ) → item-length-lts.Need-capped-requires (
   item-kind-reads.Asked,
   item-kind-reads.Learnt,
@@ -205,7 +198,6 @@ item-length-capped-requires : (t : ℕ) → item-length-lts.Need-capped-requires
 ) (item-length-at t) item-length.Post
 item-length-capped-requires t c κs = search needs
 
--- src/lengths.rt:85:9
 item-length-returns-2 : (t : ℕ) → item-length-lts.Need-returns-2 (
   item-kind-reads.Asked,
   item-kind-reads.Learnt,
@@ -224,7 +216,7 @@ item-length-returns-2 : (t : ℕ) → item-length-lts.Need-returns-2 (
   items-length-below t,
   items-length.Post,
 ) (item-length-at t) item-length.Post
-item-length-returns-2 t c = 
+item-length-returns-2 t c =
     let e = ap length (use-bytes (c .before .before .before .before .before .before .before .before .before .before .args .s .now) (c .before .before .before .before .before .before .before .before .before .before .args .place) (c .before .before .before .before .before .before .item-kind .result) (c .before .before .before .before .before .before .item-kind .ensures) (c .before .before .before .before .before .before .before .before .before .before .args .file .now) (c .before .before .before .before .before .before .before .before .before .before .args .depth) (c .before .before .before .before .if2 .taken)) in
     let u = ap length (use-form (c .before .before .before .before .before .before .before .before .before .before .args .s .now) (c .before .before .before .before .before .before .before .before .before .before .args .place) (c .before .before .before .before .before .before .before .before .before .before .args .file .now) (c .before .before .before .target-of .result) (c .before .before .before .target-of .ensures .0)) in
     let p : c .before .before .path-length .result ≡ length (counted string (pathBy (segmentsAt (c .before .before .before .before .before .before .before .before .before .before .args .s .now) (c .before .before .before .before .before .before .before .before .before .before .args .place)) (c .before .before .before .target-of .result))) = c .before .before .path-length .ensures .0 in
@@ -232,7 +224,6 @@ item-length-returns-2 t c =
     let r = c .capped .ensures in
     omega (arith, length-append (counted string (pathBy (segmentsAt (c .before .before .before .before .before .before .before .before .before .before .args .s .now) (c .before .before .before .before .before .before .before .before .before .before .args .place)) (c .before .before .before .target-of .result))) (counted element (elementsAt (c .before .before .before .before .before .before .before .before .before .before .args .s .now) (c .before .before .before .before .before .before .before .before .before .before .args .place))))
 
--- src/lengths.rt:87:20
 item-length-item-name-requires : (t : ℕ) → item-length-lts.Need-item-name-requires (
   item-kind-reads.Asked,
   item-kind-reads.Learnt,
@@ -253,7 +244,6 @@ item-length-item-name-requires : (t : ℕ) → item-length-lts.Need-item-name-re
 ) (item-length-at t) item-length.Post
 item-length-item-name-requires t c κs = search needs
 
--- src/lengths.rt:87:16
 item-length-add-head : (t : ℕ) → item-length-lts.Need-add-head (
   item-kind-reads.Asked,
   item-kind-reads.Learnt,
@@ -274,7 +264,6 @@ item-length-add-head : (t : ℕ) → item-length-lts.Need-add-head (
 ) (item-length-at t) item-length.Post
 item-length-add-head t c = search needs
 
--- src/lengths.rt:89:9
 item-length-returns-3 : (t : ℕ) → item-length-lts.Need-returns-3 (
   item-kind-reads.Asked,
   item-kind-reads.Learnt,
@@ -293,13 +282,12 @@ item-length-returns-3 : (t : ℕ) → item-length-lts.Need-returns-3 (
   items-length-below t,
   items-length.Post,
 ) (item-length-at t) item-length.Post
-item-length-returns-3 t c = 
+item-length-returns-3 t c =
     let e = ap length (named-bytes (c .before .before .before .before .before .before .before .before .args .s .now) (c .before .before .before .before .before .before .before .before .args .place) (c .before .before .before .before .item-kind .result) (c .before .before .before .before .item-kind .ensures) (c .before .before .before .before .before .before .before .before .args .file .now) (c .before .before .before .before .before .before .before .before .args .depth) (c .if3 .taken) (c .before .before .if2 .left) (c .before .before .before .if1 .left)) in
     let n = ap length (name-text (c .before .before .before .before .before .before .before .before .args .s .now) (c .before .before .before .before .before .before .before .before .args .place) (c .before .before .before .before .item-kind .result) (c .before .before .before .before .item-kind .ensures) (now (c .before .item-name .result)) (c .before .before .if2 .left) (c .before .before .before .if1 .left) (c .before .item-name .ensures)) in
     let b = text-short (c .before .before .before .before .before .before .before .before .args .s .now) (λ i. omega (arith, c .before .before .before .before .before .before .before .shared-slice-known .given i)) (c .before .before .before .before .before .before .before .before .args .place + 4) in
     omega (arith, string-length (text (c .before .before .before .before .before .before .before .before .args .s .now) (c .before .before .before .before .before .before .before .before .args .place + 4)))
 
--- src/lengths.rt:92:9
 item-length-returns-4 : (t : ℕ) → item-length-lts.Need-returns-4 (
   item-kind-reads.Asked,
   item-kind-reads.Learnt,
@@ -318,13 +306,12 @@ item-length-returns-4 : (t : ℕ) → item-length-lts.Need-returns-4 (
   items-length-below t,
   items-length.Post,
 ) (item-length-at t) item-length.Post
-item-length-returns-4 t c = 
+item-length-returns-4 t c =
     let e = ap length (flat-bytes (c .before .before .before .before .before .before .before .before .before .args .s .now) (c .before .before .before .before .before .before .before .before .before .args .place) (c .before .before .before .before .before .item-kind .result) (c .before .before .before .before .before .item-kind .ensures) (c .before .before .before .before .before .before .before .before .before .args .file .now) (c .before .before .before .before .before .before .before .before .before .args .depth) (c .before .if3 .left) (c .if4 .taken)) in
     let n = ap length (name-text (c .before .before .before .before .before .before .before .before .before .args .s .now) (c .before .before .before .before .before .before .before .before .before .args .place) (c .before .before .before .before .before .item-kind .result) (c .before .before .before .before .before .item-kind .ensures) (now (c .before .before .item-name .result)) (c .before .before .before .if2 .left) (c .before .before .before .before .if1 .left) (c .before .before .item-name .ensures)) in
     let b = text-short (c .before .before .before .before .before .before .before .before .before .args .s .now) (λ i. omega (arith, c .before .before .before .before .before .before .before .before .shared-slice-known .given i)) (c .before .before .before .before .before .before .before .before .before .args .place + 4) in
     omega (arith, string-length (text (c .before .before .before .before .before .before .before .before .before .args .s .now) (c .before .before .before .before .before .before .before .before .before .args .place + 4)))
 
--- src/lengths.rt:94:9
 item-length-module-items-requires : (t : ℕ) → item-length-lts.Need-module-items-requires (
   item-kind-reads.Asked,
   item-kind-reads.Learnt,
@@ -345,7 +332,6 @@ item-length-module-items-requires : (t : ℕ) → item-length-lts.Need-module-it
 ) (item-length-at t) item-length.Post
 item-length-module-items-requires t c κs = search needs
 
--- src/lengths.rt:95:81
 item-length-sub-items-length : (t : ℕ) → item-length-lts.Need-sub-items-length (
   item-kind-reads.Asked,
   item-kind-reads.Learnt,
@@ -366,7 +352,6 @@ item-length-sub-items-length : (t : ℕ) → item-length-lts.Need-sub-items-leng
 ) (item-length-at t) item-length.Post
 item-length-sub-items-length t c = search needs
 
--- src/lengths.rt:95:9
 item-length-items-length-requires : (t : ℕ) → item-length-lts.Need-items-length-requires (
   item-kind-reads.Asked,
   item-kind-reads.Learnt,
@@ -387,7 +372,6 @@ item-length-items-length-requires : (t : ℕ) → item-length-lts.Need-items-len
 ) (item-length-at t) item-length.Post
 item-length-items-length-requires t c κs = (search needs, (c .before .before .before .before .before .before .before .before .before .before .pre .1 .0, search needs))
 
--- src/lengths.rt:96:5
 item-length-capped-requires-2 : (t : ℕ) → item-length-lts.Need-capped-requires-2 (
   item-kind-reads.Asked,
   item-kind-reads.Learnt,
@@ -406,13 +390,12 @@ item-length-capped-requires-2 : (t : ℕ) → item-length-lts.Need-capped-requir
   items-length-below t,
   items-length.Post,
 ) (item-length-at t) item-length.Post
-item-length-capped-requires-2 t c κs = 
+item-length-capped-requires-2 t c κs =
     let n = ap length (name-text (c .before .before .before .before .before .before .before .before .before .before .before .args .s .now) (c .before .before .before .before .before .before .before .before .before .before .before .args .place) (c .before .before .before .before .before .before .before .item-kind .result) (c .before .before .before .before .before .before .before .item-kind .ensures) (now (c .before .before .before .before .item-name .result)) (c .before .before .before .before .before .if2 .left) (c .before .before .before .before .before .before .if1 .left) (c .before .before .before .before .item-name .ensures)) in
     let b = text-short (c .before .before .before .before .before .before .before .before .before .before .before .args .s .now) (λ i. omega (arith, c .before .before .before .before .before .before .before .before .before .before .shared-slice-known .given i)) (c .before .before .before .before .before .before .before .before .before .before .before .args .place + 4) in
     let m = c .items-length .ensures in
     (omega arith, omega arith)
 
--- src/lengths.rt:66:1
 item-length-returns-5 : (t : ℕ) → item-length-lts.Need-returns-5 (
   item-kind-reads.Asked,
   item-kind-reads.Learnt,
@@ -431,7 +414,7 @@ item-length-returns-5 : (t : ℕ) → item-length-lts.Need-returns-5 (
   items-length-below t,
   items-length.Post,
 ) (item-length-at t) item-length.Post
-item-length-returns-5 t c = 
+item-length-returns-5 t c =
     let e = ap length (module-bytes (c .before .before .before .before .before .before .before .before .before .before .before .before .args .s .now) (c .before .before .before .before .before .before .before .before .before .before .before .before .args .place) (c .before .before .before .before .before .before .before .before .item-kind .result) (c .before .before .before .before .before .before .before .before .item-kind .ensures) (c .before .before .before .before .before .before .before .before .before .before .before .before .args .file .now) (c .before .before .before .before .before .before .before .before .before .before .before .before .args .depth) (c .before .before .module-items .result .end) (c .before .before .module-items .result .at) (c .before .before .before .before .if3 .left) (c .before .before .before .if4 .left) (c .before .before .module-items .ensures .0)) in
     let n = ap length (name-text (c .before .before .before .before .before .before .before .before .before .before .before .before .args .s .now) (c .before .before .before .before .before .before .before .before .before .before .before .before .args .place) (c .before .before .before .before .before .before .before .before .item-kind .result) (c .before .before .before .before .before .before .before .before .item-kind .ensures) (now (c .before .before .before .before .before .item-name .result)) (c .before .before .before .before .before .before .if2 .left) (c .before .before .before .before .before .before .before .if1 .left) (c .before .before .before .before .before .item-name .ensures)) in
     let m : c .before .items-length .result ≡ min (length (itemsBytes (c .before .before .before .before .before .before .before .before .before .before .before .before .args .s .now) (c .before .before .before .before .before .before .before .before .before .before .before .before .args .file .now) (c .before .before .before .before .before .before .before .before .before .before .before .before .args .depth - 1) (c .before .before .module-items .result .end) (c .before .before .module-items .result .at))) 65536 = c .before .items-length .ensures in
@@ -444,7 +427,6 @@ items-length-Inv-loop s at file index files units from end depth sum₀ a₀ sum
 abbrev items-length-μ-loop : items-length-lts.MeasureT-loop
 items-length-μ-loop s at file index files units from end depth sum₀ a₀ sum a = end - a
 
--- src/lengths.rt:116:5
 items-length-loop-holds : (t : ℕ) → items-length-lts.Need-loop-holds (
   item-length-below t,
   item-length.Post,
@@ -455,7 +437,6 @@ items-length-loop-holds : (t : ℕ) → items-length-lts.Need-loop-holds (
 ) (items-length-at t) items-length.Post items-length-Inv-loop items-length-μ-loop
 items-length-loop-holds t c = counted-none (itemsBytes (c .before .before .before .args .s .now) (c .before .before .before .args .file .now) (c .before .before .before .args .depth) (c .before .before .before .args .end) (c .before .before .before .args .from)) 65536
 
--- src/lengths.rt:117:13
 items-length-item-length-requires : (t : ℕ) → items-length-lts.Need-item-length-requires (
   item-length-below t,
   item-length.Post,
@@ -466,7 +447,6 @@ items-length-item-length-requires : (t : ℕ) → items-length-lts.Need-item-len
 ) (items-length-at t) items-length.Post items-length-Inv-loop items-length-μ-loop
 items-length-item-length-requires t c κs = search needs
 
--- src/lengths.rt:118:9
 items-length-capped-requires : (t : ℕ) → items-length-lts.Need-capped-requires (
   item-length-below t,
   item-length.Post,
@@ -477,7 +457,6 @@ items-length-capped-requires : (t : ℕ) → items-length-lts.Need-capped-requir
 ) (items-length-at t) items-length.Post items-length-Inv-loop items-length-μ-loop
 items-length-capped-requires t c κs = search needs
 
--- src/lengths.rt:119:9
 items-length-next-item-requires : (t : ℕ) → items-length-lts.Need-next-item-requires (
   item-length-below t,
   item-length.Post,
@@ -488,7 +467,6 @@ items-length-next-item-requires : (t : ℕ) → items-length-lts.Need-next-item-
 ) (items-length-at t) items-length.Post items-length-Inv-loop items-length-μ-loop
 items-length-next-item-requires t c κs = search needs
 
--- src/lengths.rt:116:5
 items-length-loop-less : (t : ℕ) → items-length-lts.Need-loop-less (
   item-length-below t,
   item-length.Post,
@@ -499,7 +477,6 @@ items-length-loop-less : (t : ℕ) → items-length-lts.Need-loop-less (
 ) (items-length-at t) items-length.Post items-length-Inv-loop items-length-μ-loop
 items-length-loop-less t c = search needs
 
--- src/lengths.rt:116:5
 items-length-loop-again : (t : ℕ) → items-length-lts.Need-loop-again (
   item-length-below t,
   item-length.Post,
@@ -510,7 +487,6 @@ items-length-loop-again : (t : ℕ) → items-length-lts.Need-loop-again (
 ) (items-length-at t) items-length.Post items-length-Inv-loop items-length-μ-loop
 items-length-loop-again t c = counted-more _ _ _ _ (c .before .before .before .before .loop .inv) (itemBytes (c .before .before .before .before .before .before .before .before .args .s .now) (c .before .before .before .before .before .before .before .before .args .file .now) (c .before .before .before .before .before .before .before .before .args .depth) (c .before .before .before .before .loop .a)) (itemsBytes (c .before .before .before .before .before .before .before .before .args .s .now) (c .before .before .before .before .before .before .before .before .args .file .now) (c .before .before .before .before .before .before .before .before .args .depth) (c .before .before .before .before .before .before .before .before .args .end) (c .next-item .result)) (c .before .before .item-length .result) (c .before .capped .result) (next-bytes (c .before .before .before .before .before .before .before .before .args .s .now) (c .before .before .before .before .before .before .before .before .args .file .now) (c .before .before .before .before .before .before .before .before .args .depth) (c .before .before .before .before .before .before .before .before .args .end) (c .before .before .before .before .loop .a) (c .next-item .result) (c .before .before .before .loop-test .taken) (c .next-item .ensures .0)) (c .before .before .item-length .ensures) (c .before .capped .ensures)
 
--- src/lengths.rt:100:1
 items-length-returns : (t : ℕ) → items-length-lts.Need-returns (
   item-length-below t,
   item-length.Post,

@@ -1,77 +1,58 @@
+-- `path_length` meets its contract. Assumes nothing.
+use native.Mathlib.Omega.{arith}
+use mathlib.Core.List.{_++_}
+use mathlib.Core.Path.{sym, ap, subst, _∙_}
+use lib.ListN.{length, length-append}
+use denote.Ref.{now}
+use borrow.Author.Needs.{needs}
+use Rattle.names.specs.Decimal.{unitName}
+use Rattle.names.specs.Bytes.{ascii}
+use Rattle.bundle.specs.Encode.{string, counted}
 use Rattle.assembly.specs.Walk.{segmentsAt, segments-read}
 use Rattle.assembly.specs.Targets.{pathBy, Within}
 use Rattle.assembly.specs.Strings.{stringBytes}
-use Rattle.bundle.specs.Encode.{string, counted}
-use Rattle.names.specs.Decimal.{unitName}
-use Rattle.names.specs.Bytes.{ascii}
 use Rattle.assembly.specs.Uses.{crate-length, name-length, count-is, path-form, no-path}
-use denote.Ref.{now}
-use lib.ListN.{length, length-append}
-use mathlib.Core.List.{List, [], _∷_, _++_}
-use mathlib.Core.Path.{_≡_, refl, sym, ap, subst, _∙_}
-use native.Mathlib.Omega.{arith}
-use Prim.Native.Nat.{ℕ, suc, _+_, _-_, _*_, _≤_, _<_}
-use borrow.Author.Needs.{needs}
 use Rattle.assembly.proofs.lengths.path_length.Statement.{statement}
 use Rattle.assembly.proofs.lengths.path_length.Tie as tie
-use Rattle.assembly.proofs.lengths.path_length.Reads as reads
-use Rattle.assembly.proofs.lengths.path_length.Lts as lts
-use Rattle.assembly.proofs.bytes.strings_end.Reads as strings-end-reads
-use Rattle.assembly.proofs.bytes.strings_length.Reads as strings-length-reads
-use Rattle.bundle.proofs.use_segments.Reads as use-segments-reads
-use Rattle.names.proofs.unit_name.Reads as unit-name-reads
 
--- src/lengths.rt:45:28
 enum-told : tie.Need-enum-told
 enum-told c = search needs
 
--- src/lengths.rt:46:22
 enum-known-target : tie.Need-enum-known-target
 enum-known-target c = search needs
 
--- src/lengths.rt:47:17
 use-segments-requires : tie.Need-use-segments-requires
 use-segments-requires c κs = search needs
 
--- src/lengths.rt:48:27
 sub-skipped : tie.Need-sub-skipped
 sub-skipped c = let w = subst (Within (segmentsAt (c .before .before .before .before .before .before .args .s .now) (c .before .before .before .before .before .before .args .mark))) (c .before .before .before .target .given .1) (c .before .before .before .before .before .before .pre .1) in let n = count-is (c .before .before .before .before .before .before .args .s .now) (c .before .before .before .before .before .before .args .mark) (c .before .use-segments .result .first) (c .before .use-segments .result .count) (c .before .before .before .target .given .0 .1 .0) (segments-read (c .before .before .before .before .before .before .args .s .now) (c .before .before .before .before .before .before .args .mark) (c .before .before .before .before .before .before .pre .0 .kind) (c .before .use-segments .result .first) (c .before .use-segments .result .count) (c .before .use-segments .ensures .0)) (w .0) in omega arith
 
--- src/lengths.rt:49:17
 strings-end-requires : tie.Need-strings-end-requires
 strings-end-requires c κs = search needs
 
--- src/lengths.rt:50:17
 unit-name-requires : tie.Need-unit-name-requires
 unit-name-requires c κs = search needs
 
--- src/lengths.rt:51:13
 add-result : tie.Need-add-result
 add-result c = search needs
 
--- src/lengths.rt:51:13
 add-result-2 : tie.Need-add-result-2
 add-result-2 c = search needs
 
--- src/lengths.rt:51:13
 add-result-3 : tie.Need-add-result-3
 add-result-3 c = search needs
 
--- src/lengths.rt:51:36
 strings-length-requires : tie.Need-strings-length-requires
 strings-length-requires c κs = let w = subst (Within (segmentsAt (c .before .before .before .before .before .before .before .before .before .args .s .now) (c .before .before .before .before .before .before .before .before .before .args .mark))) (c .before .before .before .before .before .before .target .given .1) (c .before .before .before .before .before .before .before .before .before .pre .1) in let n = count-is (c .before .before .before .before .before .before .before .before .before .args .s .now) (c .before .before .before .before .before .before .before .before .before .args .mark) (c .before .before .before .before .use-segments .result .first) (c .before .before .before .before .use-segments .result .count) (c .before .before .before .before .before .before .target .given .0 .1 .0) (segments-read (c .before .before .before .before .before .before .before .before .before .args .s .now) (c .before .before .before .before .before .before .before .before .before .args .mark) (c .before .before .before .before .before .before .before .before .before .pre .0 .kind) (c .before .before .before .before .use-segments .result .first) (c .before .before .before .before .use-segments .result .count) (c .before .before .before .before .use-segments .ensures .0)) (w .0) in let k = c .before .before .before .before .use-segments .ensures .1 in let e = c .before .before .strings-end .ensures .1 in let m = c .before .before .before .before .before .before .before .before .before .pre .0 .small in (omega arith, omega arith)
 
--- src/lengths.rt:51:13
 add-result-4 : tie.Need-add-result-4
 add-result-4 c = let w = subst (Within (segmentsAt (c .before .before .before .before .before .before .before .before .before .before .args .s .now) (c .before .before .before .before .before .before .before .before .before .before .args .mark))) (c .before .before .before .before .before .before .before .target .given .1) (c .before .before .before .before .before .before .before .before .before .before .pre .1) in let n = count-is (c .before .before .before .before .before .before .before .before .before .before .args .s .now) (c .before .before .before .before .before .before .before .before .before .before .args .mark) (c .before .before .before .before .before .use-segments .result .first) (c .before .before .before .before .before .use-segments .result .count) (c .before .before .before .before .before .before .before .target .given .0 .1 .0) (segments-read (c .before .before .before .before .before .before .before .before .before .before .args .s .now) (c .before .before .before .before .before .before .before .before .before .before .args .mark) (c .before .before .before .before .before .before .before .before .before .before .pre .0 .kind) (c .before .before .before .before .before .use-segments .result .first) (c .before .before .before .before .before .use-segments .result .count) (c .before .before .before .before .before .use-segments .ensures .0)) (w .0) in let k = c .before .before .before .before .before .use-segments .ensures .1 in search needs
 
--- src/lengths.rt:40:1
 returns : tie.Need-returns
 returns c = let e = ap (λ t. length (counted string (pathBy (segmentsAt (c .before .before .before .args .s .now) (c .before .before .before .args .mark)) t))) (c .enum-told .given .1) ∙ ap length (no-path (c .before .before .before .args .s .now) (c .before .before .before .args .mark)) in (sym e, omega arith)
 
--- src/lengths.rt:40:1
 returns-2 : tie.Need-returns-2
-returns-2 c = 
+returns-2 c =
     let w = subst (Within (segmentsAt (c .before .before .before .before .before .before .before .before .before .before .args .s .now) (c .before .before .before .before .before .before .before .before .before .before .args .mark))) (c .before .before .before .before .before .before .before .target .given .1) (c .before .before .before .before .before .before .before .before .before .before .pre .1) in
     let n = count-is (c .before .before .before .before .before .before .before .before .before .before .args .s .now) (c .before .before .before .before .before .before .before .before .before .before .args .mark) (c .before .before .before .before .before .use-segments .result .first) (c .before .before .before .before .before .use-segments .result .count) (c .before .before .before .before .before .before .before .target .given .0 .1 .0) (segments-read (c .before .before .before .before .before .before .before .before .before .before .args .s .now) (c .before .before .before .before .before .before .before .before .before .before .args .mark) (c .before .before .before .before .before .before .before .before .before .before .pre .0 .kind) (c .before .before .before .before .before .use-segments .result .first) (c .before .before .before .before .before .use-segments .result .count) (c .before .before .before .before .before .use-segments .ensures .0)) (w .0) in
     let k = c .before .before .before .before .before .use-segments .ensures .1 in

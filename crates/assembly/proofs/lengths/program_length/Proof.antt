@@ -1,20 +1,15 @@
+-- `program_length` meets its contract. Assumes nothing.
+use Prim.Native.Nat.{ℕ, _+_, _-_, _≤_, min}
+use native.Mathlib.Omega.{arith}
+use mathlib.Core.Path.{ap, _∙_}
+use lib.ListN.{length, getD, take, drop}
+use denote.Ref.{now}
+use borrow.Author.Needs.{needs}
+use Rattle.bundle.specs.Decode.{decode}
 use Rattle.assembly.specs.Linked.{programBytes, unitBytes, below, order-step, order-end}
 use Rattle.assembly.specs.Parts.{Counted, counted-none, counted-more, counted-all}
-use Rattle.bundle.specs.Decode.{decode}
-use denote.Ref.{now}
-use lib.ListN.{length, getD, take, drop, length-append}
-use mathlib.Core.List.{List, [], _∷_, _++_}
-use mathlib.Core.Path.{_≡_, refl, sym, ap, subst, _∙_}
-use native.Mathlib.Omega.{arith}
-use Prim.Native.Nat.{ℕ, suc, _+_, _-_, _*_, _≤_, _<_, min}
-use borrow.Author.Needs.{needs}
 use Rattle.assembly.proofs.lengths.program_length.Statement.{statement}
 use Rattle.assembly.proofs.lengths.program_length.Tie as tie
-use Rattle.assembly.proofs.lengths.program_length.Reads as reads
-use Rattle.assembly.proofs.lengths.program_length.Lts as lts
-use Rattle.assembly.proofs.lengths.capped.Reads as capped-reads
-use Rattle.assembly.proofs.lengths.unit_length.Reads as unit-length-reads
-use Rattle.assembly.proofs.lengths.wide.Reads as wide-reads
 
 abbrev Inv-loop : tie.InvT-loop
 Inv-loop s at files ids units sum₀ i₀ sum i = (i ≤ units) × Counted (programBytes (decode s) (take units ids)) (programBytes (decode s) (drop i (take units ids))) 65536 sum
@@ -22,43 +17,33 @@ Inv-loop s at files ids units sum₀ i₀ sum i = (i ≤ units) × Counted (prog
 abbrev μ-loop : tie.MeasureT-loop
 μ-loop s at files ids units sum₀ i₀ sum i = units - i
 
--- src/lengths.rt:163:5
 loop-holds : tie.Need-loop-holds Inv-loop μ-loop
 loop-holds c = (omega arith, counted-none (programBytes (decode (c .before .before .before .args .s .now)) (take (c .before .before .before .args .units) (c .before .before .before .args .ids .now))) 65536)
 
--- src/lengths.rt:164:55
 mul-wide : tie.Need-mul-wide Inv-loop μ-loop
 mul-wide c = search needs
 
--- src/lengths.rt:164:55
 shared-slice-read-wide : tie.Need-shared-slice-read-wide Inv-loop μ-loop
 shared-slice-read-wide c = search needs
 
--- src/lengths.rt:164:50
 wide-requires : tie.Need-wide-requires Inv-loop μ-loop
 wide-requires c κs = search needs
 
--- src/lengths.rt:164:13
 unit-length-requires : tie.Need-unit-length-requires Inv-loop μ-loop
 unit-length-requires c κs = let b = below (c .before .before .before .before .before .before .before .args .s .now) (c .before .before .before .before .before .before .before .args .files .now) (c .before .before .before .before .before .before .before .args .ids .now) (c .before .before .before .before .before .before .before .args .units) (c .before .before .before .before .before .before .before .pre .1) (c .before .before .before .loop .i) (c .before .before .loop-test .taken) in let w = c .wide .ensures in ((c .before .before .before .before .before .before .before .pre .0, c .before .before .before .before .before .before .before .pre .1 .of-units), omega arith)
 
--- src/lengths.rt:165:9
 capped-requires : tie.Need-capped-requires Inv-loop μ-loop
 capped-requires c κs = search needs
 
--- src/lengths.rt:166:9
 add-i : tie.Need-add-i Inv-loop μ-loop
 add-i c = search needs
 
--- src/lengths.rt:163:5
 loop-less : tie.Need-loop-less Inv-loop μ-loop
 loop-less c = search needs
 
--- src/lengths.rt:163:5
 loop-again : tie.Need-loop-again Inv-loop μ-loop
 loop-again c = (omega arith, counted-more _ _ _ _ (c .before .before .before .before .before .loop .inv .1) (unitBytes (decode (c .before .before .before .before .before .before .before .before .before .args .s .now)) (getD (c .before .before .before .before .before .before .before .before .before .args .ids .now) (c .before .before .before .before .before .loop .i) 0)) (programBytes (decode (c .before .before .before .before .before .before .before .before .before .args .s .now)) (drop (c .before .before .before .before .before .loop .i + 1) (take (c .before .before .before .before .before .before .before .before .before .args .units) (c .before .before .before .before .before .before .before .before .before .args .ids .now)))) (c .before .unit-length .result) (c .capped .result) (order-step (c .before .before .before .before .before .before .before .before .before .args .s .now) (c .before .before .before .before .before .before .before .before .before .args .files .now) (c .before .before .before .before .before .before .before .before .before .args .ids .now) (c .before .before .before .before .before .before .before .before .before .args .units) (c .before .before .before .before .before .before .before .before .before .pre .1) (c .before .before .before .before .before .loop .i) (c .before .before .before .before .loop-test .taken)) (c .before .unit-length .ensures ∙ ap (λ (u : ℕ). min (length (unitBytes (decode (c .before .before .before .before .before .before .before .before .before .args .s .now)) u)) 65536) (c .before .before .wide .ensures)) (c .capped .ensures))
 
--- src/lengths.rt:151:1
 returns : tie.Need-returns Inv-loop μ-loop
 returns c = counted-all _ _ _ _ (c .before .loop .inv .1) (order-end (c .before .before .before .before .before .args .s .now) (c .before .before .before .before .before .args .files .now) (c .before .before .before .before .before .args .ids .now) (c .before .before .before .before .before .args .units) (c .before .before .before .before .before .pre .1) (c .before .loop .i) (c .loop-test .left))
 

@@ -1,66 +1,47 @@
+-- `unit_length` meets its contract. Assumes nothing.
+use Prim.Native.Nat.{min}
+use native.Mathlib.Omega.{arith}
+use mathlib.Core.Path.{_≡_, ap, _∙_}
+use lib.ListN.{length, length-append}
+use denote.Ref.{now}
+use borrow.Author.Needs.{needs}
+use Rattle.names.specs.Decimal.{unitName}
+use Rattle.bundle.specs.Encode.{string}
 use Rattle.assembly.specs.Linked.{index-small, items-are, path-is, one-unit, unit-of, unit-form}
 use Rattle.assembly.specs.Uses.{name-length}
 use Rattle.assembly.specs.Walk.{itemsBytes}
-use Rattle.bundle.specs.Encode.{string}
-use Rattle.names.specs.Decimal.{unitName}
-use Rattle.bundle.specs.Decode.{decode}
-use denote.Ref.{now}
-use lib.ListN.{length, getD, take, drop, length-append}
-use mathlib.Core.List.{List, [], _∷_, _++_}
-use mathlib.Core.Path.{_≡_, refl, sym, ap, subst, _∙_}
-use native.Mathlib.Omega.{arith}
-use Prim.Native.Nat.{ℕ, suc, _+_, _-_, _*_, _≤_, _<_, min}
-use borrow.Author.Needs.{needs}
 use Rattle.assembly.proofs.lengths.unit_length.Statement.{statement}
 use Rattle.assembly.proofs.lengths.unit_length.Tie as tie
-use Rattle.assembly.proofs.lengths.unit_length.Reads as reads
-use Rattle.assembly.proofs.lengths.unit_length.Lts as lts
-use Rattle.assembly.proofs.lengths.capped.Reads as capped-reads
-use Rattle.assembly.proofs.lengths.items_length.Reads as items-length-reads
-use Rattle.bundle.proofs.file_at.Reads as file-at-reads
-use Rattle.bundle.proofs.file_items.Reads as file-items-reads
-use Rattle.bundle.proofs.file_path.Reads as file-path-reads
-use Rattle.names.proofs.unit_name.Reads as unit-name-reads
 
--- src/lengths.rt:132:17
 mul-index : tie.Need-mul-index
 mul-index c = search needs
 
--- src/lengths.rt:132:17
 shared-slice-read-index : tie.Need-shared-slice-read-index
 shared-slice-read-index c = search needs
 
--- src/lengths.rt:133:9
 file-at-requires : tie.Need-file-at-requires
 file-at-requires c κs = index-small (c .before .before .before .args .s .now) (c .before .before .before .args .files .now) (c .before .before .before .args .u) (one-unit (c .before .before .before .args .s .now) (c .before .before .before .args .files .now) (c .before .before .before .args .units) (c .before .before .before .pre .0 .1) (c .before .before .before .args .u) (c .before .before .before .pre .1))
 
--- src/lengths.rt:134:9
 file-items-requires : tie.Need-file-items-requires
 file-items-requires c κs = search needs
 
--- src/lengths.rt:135:9
 unit-name-requires : tie.Need-unit-name-requires
 unit-name-requires c κs = search needs
 
--- src/lengths.rt:139:9
 file-path-requires : tie.Need-file-path-requires
 file-path-requires c κs = search needs
 
--- src/lengths.rt:136:9
 items-length-requires : tie.Need-items-length-requires
 items-length-requires c κs = (unit-of (c .before .before .before .before .before .before .before .args .s .now) (c .before .before .before .before .before .before .before .args .files .now) (c .before .before .before .before .before .before .before .args .units) (c .before .before .before .before .before .before .before .pre .0 .1) (c .before .before .before .before .before .before .before .args .at) (now (c .file-path .result)) (c .before .before .before .before .before .before .before .args .u) (c .before .before .before .before .before .before .before .pre .0 .0) (c .before .before .before .before .before .before .before .pre .1) (c .file-path .ensures ∙ path-is (c .before .before .before .before .before .before .before .args .s .now) (c .before .before .before .before .before .before .before .args .files .now) (c .before .before .before .before .before .before .before .args .u) (one-unit (c .before .before .before .before .before .before .before .args .s .now) (c .before .before .before .before .before .before .before .args .files .now) (c .before .before .before .before .before .before .before .args .units) (c .before .before .before .before .before .before .before .pre .0 .1) (c .before .before .before .before .before .before .before .args .u) (c .before .before .before .before .before .before .before .pre .1)) (c .before .before .before .file-at .result) (c .before .before .before .file-at .ensures .0)), (let x = c .before .before .file-items .ensures .1 in let y = c .before .before .before .file-at .ensures .1 in omega arith))
 
--- src/lengths.rt:147:12
 add-capped : tie.Need-add-capped
 add-capped c = search needs
 
--- src/lengths.rt:147:5
 capped-requires : tie.Need-capped-requires
 capped-requires c κs = search needs
 
--- src/lengths.rt:128:1
 returns : tie.Need-returns
-returns c = 
+returns c =
     let f = ap length (unit-form (c .before .before .before .before .before .before .before .before .before .before .args .s .now) (now (c .before .before .before .file-path .result)) (c .before .before .before .before .before .before .before .before .before .before .args .u) (c .before .before .before .before .before .file-items .result .end) (c .before .before .before .before .before .file-items .result .at) (c .before .before .before .file-path .ensures ∙ path-is (c .before .before .before .before .before .before .before .before .before .before .args .s .now) (c .before .before .before .before .before .before .before .before .before .before .args .files .now) (c .before .before .before .before .before .before .before .before .before .before .args .u) (one-unit (c .before .before .before .before .before .before .before .before .before .before .args .s .now) (c .before .before .before .before .before .before .before .before .before .before .args .files .now) (c .before .before .before .before .before .before .before .before .before .before .args .units) (c .before .before .before .before .before .before .before .before .before .before .pre .0 .1) (c .before .before .before .before .before .before .before .before .before .before .args .u) (c .before .before .before .before .before .before .before .before .before .before .pre .1)) (c .before .before .before .before .before .before .file-at .result) (c .before .before .before .before .before .before .file-at .ensures .0)) (c .before .before .before .before .before .file-items .ensures .0 ∙ items-are (c .before .before .before .before .before .before .before .before .before .before .args .s .now) (c .before .before .before .before .before .before .before .before .before .before .args .files .now) (c .before .before .before .before .before .before .before .before .before .before .args .u) (one-unit (c .before .before .before .before .before .before .before .before .before .before .args .s .now) (c .before .before .before .before .before .before .before .before .before .before .args .files .now) (c .before .before .before .before .before .before .before .before .before .before .args .units) (c .before .before .before .before .before .before .before .before .before .before .pre .0 .1) (c .before .before .before .before .before .before .before .before .before .before .args .u) (c .before .before .before .before .before .before .before .before .before .before .pre .1)) (c .before .before .before .before .before .before .file-at .result) (c .before .before .before .before .before .before .file-at .ensures .0))) in
     let l = name-length (c .before .before .before .before .unit-name .result .bytes) (c .before .before .before .before .unit-name .result .len) (c .before .before .before .before .before .before .before .before .before .before .args .u) (c .before .before .before .before .unit-name .ensures .0) (let x = c .before .before .before .before .unit-name .ensures .1 in let y = c .before .before .before .before .unit-name .ensures .2 in omega arith) in
     let m : c .before .before .items-length .result ≡ min (length (itemsBytes (c .before .before .before .before .before .before .before .before .before .before .args .s .now) (now (c .before .before .before .file-path .result)) 8 (c .before .before .before .before .before .file-items .result .end) (c .before .before .before .before .before .file-items .result .at))) 65536 = c .before .before .items-length .ensures in

@@ -1,57 +1,42 @@
-use Rattle.assembly.specs.Walk.{segmentsAt, segments-read}
-use Rattle.assembly.specs.Targets.{to-file, to-folder, to-nothing}
+-- `target_of` meets its contract. Assumes nothing.
+use native.Mathlib.Omega.{arith}
+use mathlib.Core.List.{List}
+use mathlib.Core.Path.{ap, _∙_}
+use denote.Ref.{now}
+use borrow.Author.Needs.{needs}
+use Rattle.bundle.specs.Bundle.{Text}
 use Rattle.resolution.specs.Call.{answer}
 use Rattle.resolution.specs.Resolution.{resolvePathInternal}
 use Rattle.resolution.specs.Layouts.{listsAt}
-use Rattle.bundle.specs.Bundle.{Text}
-use denote.Ref.{now}
-use lib.ListN.{length, length-append}
-use mathlib.Core.List.{List, [], _∷_, _++_}
-use mathlib.Core.Path.{_≡_, refl, sym, ap, subst, _∙_}
-use native.Mathlib.Omega.{arith}
-use Prim.Native.Nat.{ℕ, suc, _+_, _-_, _*_, _≤_, _<_}
-use borrow.Author.Needs.{needs}
+use Rattle.assembly.specs.Walk.{segmentsAt, segments-read}
+use Rattle.assembly.specs.Targets.{to-file, to-folder, to-nothing}
 use Rattle.assembly.proofs.targets.target_of.Statement.{statement}
 use Rattle.assembly.proofs.targets.target_of.Tie as tie
-use Rattle.assembly.proofs.targets.target_of.Reads as reads
-use Rattle.assembly.proofs.targets.target_of.Lts as lts
-use Rattle.assembly.proofs.targets.index_of.Reads as index-of-reads
-use Rattle.bundle.proofs.use_segments.Reads as use-segments-reads
-use Rattle.resolution.proofs.resolve_path_internal.Reads as resolve-path-internal-reads
 
--- src/targets.rt:43:9
 use-segments-requires : tie.Need-use-segments-requires
 use-segments-requires c κs = search needs
 
--- src/targets.rt:46:9
 resolve-path-internal-requires : tie.Need-resolve-path-internal-requires
 resolve-path-internal-requires c κs = let k = c .use-segments .ensures .1 in let m = c .before .before .before .before .pre .1 .small in ((c .before .before .before .before .pre .0 .small, c .before .before .before .before .pre .0 .importer), (omega arith, omega arith))
 
--- src/targets.rt:48:26
 enum-known-found : tie.Need-enum-known-found
 enum-known-found c = search needs
 
--- src/targets.rt:49:17
 index-of-requires : tie.Need-index-of-requires
 index-of-requires c κs = c .before .before .before .before .before .before .before .before .pre .0 .fits
 
--- src/targets.rt:52:31
 enum-known-found-2 : tie.Need-enum-known-found-2
 enum-known-found-2 c = search needs
 
--- src/targets.rt:53:38
 enum-told : tie.Need-enum-told
 enum-told c = search needs
 
--- src/targets.rt:31:1
 returns : tie.Need-returns
 returns c = to-file (c .before .before .before .before .before .before .before .before .before .args .s .now) (c .before .before .before .before .before .before .before .before .before .args .at) (c .before .before .before .before .before .before .before .before .before .args .file .now) (c .before .before .before .before .before .before .before .before .before .args .index) (c .before .before .before .before .before .before .before .before .before .args .files .now) (c .before .before .before .before .before .before .before .before .before .args .units) (c .before .before .before .before .before .before .before .before .before .pre .0) (segmentsAt (c .before .before .before .before .before .before .before .before .before .args .s .now) (c .before .before .before .before .before .before .before .before .before .args .mark)) (c .before .before .before .before .resolve-path-internal .result) _ _ (c .index-of .result) (c .before .before .before .before .resolve-path-internal .ensures ∙ ap (λ (l : List Text). answer (listsAt (c .before .before .before .before .before .before .before .before .before .args .s .now) (c .before .before .before .before .before .before .before .before .before .args .at)) (resolvePathInternal (listsAt (c .before .before .before .before .before .before .before .before .before .args .s .now) (c .before .before .before .before .before .before .before .before .before .args .at)) (c .before .before .before .before .before .before .before .before .before .args .file .now) l)) (segments-read (c .before .before .before .before .before .before .before .before .before .args .s .now) (c .before .before .before .before .before .before .before .before .before .args .mark) (c .before .before .before .before .before .before .before .before .before .pre .1 .kind) (c .before .before .before .before .before .use-segments .result .first) (c .before .before .before .before .before .use-segments .result .count) (c .before .before .before .before .before .use-segments .ensures .0))) (c .before .before .found .given .1) (c .index-of .ensures)
 
--- src/targets.rt:31:1
 returns-2 : tie.Need-returns-2
 returns-2 c = to-folder (c .before .before .before .before .before .before .before .before .args .s .now) (c .before .before .before .before .before .before .before .before .args .at) (c .before .before .before .before .before .before .before .before .args .file .now) (c .before .before .before .before .before .before .before .before .args .index) (c .before .before .before .before .before .before .before .before .args .files .now) (c .before .before .before .before .before .before .before .before .args .units) (c .before .before .before .before .before .before .before .before .pre .0) (segmentsAt (c .before .before .before .before .before .before .before .before .args .s .now) (c .before .before .before .before .before .before .before .before .args .mark)) (c .before .before .before .resolve-path-internal .result) _ _ (c .before .before .before .resolve-path-internal .ensures ∙ ap (λ (l : List Text). answer (listsAt (c .before .before .before .before .before .before .before .before .args .s .now) (c .before .before .before .before .before .before .before .before .args .at)) (resolvePathInternal (listsAt (c .before .before .before .before .before .before .before .before .args .s .now) (c .before .before .before .before .before .before .before .before .args .at)) (c .before .before .before .before .before .before .before .before .args .file .now) l)) (segments-read (c .before .before .before .before .before .before .before .before .args .s .now) (c .before .before .before .before .before .before .before .before .args .mark) (c .before .before .before .before .before .before .before .before .pre .1 .kind) (c .before .before .before .before .use-segments .result .first) (c .before .before .before .before .use-segments .result .count) (c .before .before .before .before .use-segments .ensures .0))) (c .before .found2 .given .1)
 
--- src/targets.rt:31:1
 returns-3 : tie.Need-returns-3
 returns-3 c = to-nothing (c .before .before .before .before .before .before .before .args .s .now) (c .before .before .before .before .before .before .before .args .at) (c .before .before .before .before .before .before .before .args .file .now) (c .before .before .before .before .before .before .before .args .index) (c .before .before .before .before .before .before .before .args .files .now) (c .before .before .before .before .before .before .before .args .units) (c .before .before .before .before .before .before .before .pre .0) (segmentsAt (c .before .before .before .before .before .before .before .args .s .now) (c .before .before .before .before .before .before .before .args .mark)) (c .before .before .resolve-path-internal .result) _ _ (c .before .before .resolve-path-internal .ensures ∙ ap (λ (l : List Text). answer (listsAt (c .before .before .before .before .before .before .before .args .s .now) (c .before .before .before .before .before .before .before .args .at)) (resolvePathInternal (listsAt (c .before .before .before .before .before .before .before .args .s .now) (c .before .before .before .before .before .before .before .args .at)) (c .before .before .before .before .before .before .before .args .file .now) l)) (segments-read (c .before .before .before .before .before .before .before .args .s .now) (c .before .before .before .before .before .before .before .args .mark) (c .before .before .before .before .before .before .before .pre .1 .kind) (c .before .before .before .use-segments .result .first) (c .before .before .before .use-segments .result .count) (c .before .before .before .use-segments .ensures .0))) (c .enum-told .given .1)
 

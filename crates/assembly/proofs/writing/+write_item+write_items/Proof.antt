@@ -1,23 +1,31 @@
+-- `write_item` and `write_items` meet their contracts. Assumes nothing.
+use Prim.Native.Nat.{_<_, ℕ, _+_, _-_, _*_, _≤_}
+use native.Mathlib.Omega.{arith}
+use mathlib.Core.List.{List, _++_}
+use mathlib.Core.Path.{_≡_, sym, ap, _∙_}
+use lib.ListN.{length}
 use mir.Syntax.{w64}
 use mir.Val.{Fits}
-use Rattle.assembly.specs.Written.{by-name, by-name-inside, leaf-length, leaf-done, inside-start, inside-room, inside-short, inside-fits, inside-length, inside-done}
-use Rattle.assembly.specs.Strings.{text-short, string-length}
-use Rattle.order.specs.Writing.{started}
-use Rattle.discovery.specs.Walk.{use-mark}
-use Rattle.bundle.specs.Scan.{byte, text}
-use Rattle.bundle.specs.Encode.{string}
-use Rattle.assembly.specs.Walk.{Brief, itemBytes, itemsBytes, useBytes, segmentsAt, elementsAt, bytes-end, bytes-step, next-bytes, ignored-bytes, use-bytes, named-bytes, start-room, flat-bytes, module-bytes, name-text, visibility-at, kind-byte, brief-here, brief-next, brief-use, brief-inside}
-use Rattle.assembly.specs.Parts.{Filled, lent-length, filled-none, filled-length, filled-start, filled-room, filled-part, filled-more, filled-all, none-filled, headBytes}
-use Rattle.bundle.specs.Decode.{afterLength, itemsAt}
 use denote.Ref.{now}
-use lib.ListN.{length, length-append}
-use mathlib.Core.List.{List, [], _∷_, _++_}
-use mathlib.Core.Path.{_≡_, refl, sym, ap, subst, _∙_}
-use native.Mathlib.Omega.{arith}
 use borrow.Author.Needs.{needs}
-use Prim.Native.Nat.{ℕ, suc, _+_, _-_, _*_, _<_, _≤_, min}
 use borrow.Fn.Kinds.{In}
 use borrow.Fn.PlainCycle.{Measures, is, falls, and}
+use Rattle.bundle.specs.Scan.{byte, text}
+use Rattle.bundle.specs.Encode.{string}
+use Rattle.bundle.specs.Decode.{afterLength, itemsAt}
+use Rattle.bundle.proofs.item_kind.Reads as item-kind-reads
+use Rattle.bundle.proofs.item_name.Reads as item-name-reads
+use Rattle.bundle.proofs.item_visibility.Reads as item-visibility-reads
+use Rattle.bundle.proofs.module_items.Reads as module-items-reads
+use Rattle.bundle.proofs.next_item.Reads as next-item-reads
+use Rattle.discovery.specs.Walk.{use-mark}
+use Rattle.order.specs.Writing.{started}
+use Rattle.assembly.specs.Written.{Begun, Inside, by-name, by-name-inside, leaf-length, leaf-done, inside-start, inside-room, inside-short, inside-length, inside-done}
+use Rattle.assembly.specs.Strings.{text-short}
+use Rattle.assembly.specs.Walk.{Brief, itemBytes, itemsBytes, useBytes, bytes-end, bytes-step, next-bytes, ignored-bytes, use-bytes, named-bytes, start-room, flat-bytes, module-bytes, name-text, visibility-at, kind-byte, brief-here, brief-next, brief-use, brief-inside}
+use Rattle.assembly.specs.Parts.{Filled, lent-length, filled-none, filled-length, filled-start, filled-room, filled-part, filled-more, filled-all, none-filled, headBytes}
+use Rattle.assembly.proofs.writing.+write_item+write_items.{statement}
+use Rattle.assembly.proofs.writing.+write_item+write_items.Tie.{close}
 use Rattle.assembly.proofs.writing.write_item.Reads as write-item
 use Rattle.assembly.proofs.writing.write_item.Kinds as write-item-kinds
 use Rattle.assembly.proofs.writing.+write_item+write_items.Lts-write_item as write-item-lts
@@ -27,13 +35,6 @@ use Rattle.assembly.proofs.writing.+write_item+write_items.Lts-write_it
 use Rattle.assembly.proofs.bytes.put_two.Reads as put-two-reads
 use Rattle.assembly.proofs.writing.put_start.Reads as put-start-reads
 use Rattle.assembly.proofs.writing.write_use.Reads as write-use-reads
-use Rattle.bundle.proofs.item_kind.Reads as item-kind-reads
-use Rattle.bundle.proofs.item_name.Reads as item-name-reads
-use Rattle.bundle.proofs.item_visibility.Reads as item-visibility-reads
-use Rattle.bundle.proofs.module_items.Reads as module-items-reads
-use Rattle.bundle.proofs.next_item.Reads as next-item-reads
-use Rattle.assembly.proofs.writing.+write_item+write_items.{statement}
-use Rattle.assembly.proofs.writing.+write_item+write_items.Tie.{close}
 
 abbrev μ-write-item : Measures 4 write-item-kinds.ps ℕ
 μ-write-item κs a = 2 * a .1 .1 .1 .1 .1 .1 .1 .0
@@ -57,7 +58,37 @@ abbrev write-items-below : ℕ → In 4 write-items-kinds.ps
 write-items-below t =
     and 4 write-items-kinds.ps (falls 4 write-items-kinds.ps _<_ μ-write-items t) write-items.Pre
 
--- src/writing.rt:166:9
+-- after the start of an item, and after a module's items are found
+abbrev Started : ℕ → Type 0
+Started t = write-item-lts.After-put-start (item-kind-reads.Asked, item-kind-reads.Learnt, write-use-reads.Asked, write-use-reads.Learnt, item-visibility-reads.Asked, item-visibility-reads.Learnt, item-name-reads.Asked, item-name-reads.Learnt, put-start-reads.Asked, put-start-reads.Learnt, put-two-reads.Asked, put-two-reads.Learnt, module-items-reads.Asked, module-items-reads.Learnt, write-items-below t, write-items.Post) (write-item-at t) write-item.Post
+
+abbrev Opened : ℕ → Type 0
+Opened t = write-item-lts.After-module-items (item-kind-reads.Asked, item-kind-reads.Learnt, write-use-reads.Asked, write-use-reads.Learnt, item-visibility-reads.Asked, item-visibility-reads.Learnt, item-name-reads.Asked, item-name-reads.Learnt, put-start-reads.Asked, put-start-reads.Learnt, put-two-reads.Asked, put-two-reads.Learnt, module-items-reads.Asked, module-items-reads.Learnt, write-items-below t, write-items.Post) (write-item-at t) write-item.Post
+
+-- the item's name and visibility as they were read
+its-name : (t : ℕ) (p : Started t) → now (p .before .item-name .result) ≡ text (p .before .before .before .before .before .before .before .before .before .before .before .args .s .now) (p .before .before .before .before .before .before .before .before .before .before .before .args .place + 4)
+its-name t p = name-text (p .before .before .before .before .before .before .before .before .before .before .before .args .s .now) (p .before .before .before .before .before .before .before .before .before .before .before .args .place) (p .before .before .before .before .before .before .item-kind .result) (p .before .before .before .before .before .before .item-kind .ensures) (now (p .before .item-name .result)) (p .before .before .before .before .if2 .left) (p .before .before .before .before .before .if1 .left) (p .before .item-name .ensures)
+
+its-visibility : (t : ℕ) (p : Started t) → p .before .before .before .item-visibility .result ≡ byte (p .before .before .before .before .before .before .before .before .before .before .before .args .s .now) (p .before .before .before .before .before .before .before .before .before .before .before .args .place + 3)
+its-visibility t p = visibility-at (p .before .before .before .before .before .before .before .before .before .before .before .args .s .now) (p .before .before .before .before .before .before .before .before .before .before .before .args .place) (p .before .before .before .item-visibility .result) (p .before .before .before .item-visibility .ensures)
+
+begun : (t : ℕ) (p : Started t) → Begun (now (p .before .before .before .before .before .before .before .before .before .before .before .args .out)) (p .put-start .last .0) (now (p .before .item-name .result)) (itemBytes (p .before .before .before .before .before .before .before .before .before .before .before .args .s .now) (p .before .before .before .before .before .before .before .before .before .before .before .args .file .now) (p .before .before .before .before .before .before .before .before .before .before .before .args .depth) (p .before .before .before .before .before .before .before .before .before .before .before .args .place)) (p .before .before .before .before .before .before .item-kind .result) (p .before .before .before .item-visibility .result) (p .put-start .result)
+begun t p = record { start = p .put-start .ensures .1; is = p .put-start .ensures .0; few = p .before .before .before .before .before .before .before .before .before .before .before .pre .1 .1 .1 .0; short = p .before .before .before .before .before .before .before .before .before .before .before .pre .1 .1 .1 .1 }
+
+-- an item with nothing inside
+leaf : (t : ℕ) (p : Started t) → itemBytes (p .before .before .before .before .before .before .before .before .before .before .before .args .s .now) (p .before .before .before .before .before .before .before .before .before .before .before .args .file .now) (p .before .before .before .before .before .before .before .before .before .before .before .args .depth) (p .before .before .before .before .before .before .before .before .before .before .before .args .place)
+    ≡ headBytes (2 + length (string (text (p .before .before .before .before .before .before .before .before .before .before .before .args .s .now) (p .before .before .before .before .before .before .before .before .before .before .before .args .place + 4)))) (p .before .before .before .before .before .before .item-kind .result) (byte (p .before .before .before .before .before .before .before .before .before .before .before .args .s .now) (p .before .before .before .before .before .before .before .before .before .before .before .args .place + 3)) ++ string (text (p .before .before .before .before .before .before .before .before .before .before .before .args .s .now) (p .before .before .before .before .before .before .before .before .before .before .before .args .place + 4))
+    → itemBytes (p .before .before .before .before .before .before .before .before .before .before .before .args .s .now) (p .before .before .before .before .before .before .before .before .before .before .before .args .file .now) (p .before .before .before .before .before .before .before .before .before .before .before .args .depth) (p .before .before .before .before .before .before .before .before .before .before .before .args .place) ≡ headBytes (2 + length (string (now (p .before .item-name .result)))) (p .before .before .before .before .before .before .item-kind .result) (p .before .before .before .item-visibility .result) ++ string (now (p .before .item-name .result))
+leaf t p h = by-name _ _ _ _ _ _ (its-name t p) (its-visibility t p) h
+
+-- a module
+inside : (t : ℕ) (p : Opened t) → Inside (now (p .before .before .before .before .before .before .before .before .before .before .before .before .before .before .before .before .args .out)) (p .before .before .before .before .before .put-start .last .0) (now (p .before .before .before .before .before .before .item-name .result)) (itemBytes (p .before .before .before .before .before .before .before .before .before .before .before .before .before .before .before .before .args .s .now) (p .before .before .before .before .before .before .before .before .before .before .before .before .before .before .before .before .args .file .now) (p .before .before .before .before .before .before .before .before .before .before .before .before .before .before .before .before .args .depth) (p .before .before .before .before .before .before .before .before .before .before .before .before .before .before .before .before .args .place))
+    (itemsBytes (p .before .before .before .before .before .before .before .before .before .before .before .before .before .before .before .before .args .s .now) (p .before .before .before .before .before .before .before .before .before .before .before .before .before .before .before .before .args .file .now) (p .before .before .before .before .before .before .before .before .before .before .before .before .before .before .before .before .args .depth - 1) (p .module-items .result .end) (p .module-items .result .at)) (p .before .before .before .before .before .before .before .before .before .before .before .item-kind .result) (p .before .before .before .before .before .before .before .before .item-visibility .result) (p .before .before .before .before .before .put-start .result)
+inside t p = record {
+  begun = begun t (p .before .before .before .before .before);
+  form = by-name-inside _ _ _ _ _ _ _ (its-name t (p .before .before .before .before .before)) (its-visibility t (p .before .before .before .before .before)) (module-bytes (p .before .before .before .before .before .before .before .before .before .before .before .before .before .before .before .before .args .s .now) (p .before .before .before .before .before .before .before .before .before .before .before .before .before .before .before .before .args .place) (p .before .before .before .before .before .before .before .before .before .before .before .item-kind .result) (p .before .before .before .before .before .before .before .before .before .before .before .item-kind .ensures) (p .before .before .before .before .before .before .before .before .before .before .before .before .before .before .before .before .args .file .now) (p .before .before .before .before .before .before .before .before .before .before .before .before .before .before .before .before .args .depth) (p .module-items .result .end) (p .module-items .result .at) (p .before .before .if3 .left) (p .before .if4 .left) (p .module-items .ensures .0));
+}
+
 write-item-item-kind-requires : (t : ℕ) → write-item-lts.Need-item-kind-requires (
   item-kind-reads.Asked,
   item-kind-reads.Learnt,
@@ -78,7 +109,6 @@ write-item-item-kind-requires : (t : ℕ) → write-item-lts.Need-item-kind-requ
 ) (write-item-at t) write-item.Post
 write-item-item-kind-requires t c κs = search needs
 
--- src/writing.rt:168:9
 write-item-returns : (t : ℕ) → write-item-lts.Need-returns (
   item-kind-reads.Asked,
   item-kind-reads.Learnt,
@@ -99,7 +129,6 @@ write-item-returns : (t : ℕ) → write-item-lts.Need-returns (
 ) (write-item-at t) write-item.Post
 write-item-returns t c = none-filled _ (now (c .before .before .before .before .before .before .args .out)) (ignored-bytes (c .before .before .before .before .before .before .args .s .now) (c .before .before .before .before .before .before .args .place) (c .before .item-kind .result) (c .before .item-kind .ensures) (c .before .before .before .before .before .before .args .file .now) (c .before .before .before .before .before .before .args .depth) (c .if1 .taken))
 
--- src/writing.rt:171:9
 write-item-write-use-requires : (t : ℕ) → write-item-lts.Need-write-use-requires (
   item-kind-reads.Asked,
   item-kind-reads.Learnt,
@@ -118,14 +147,13 @@ write-item-write-use-requires : (t : ℕ) → write-item-lts.Need-write-use-requ
   write-items-below t,
   write-items.Post,
 ) (write-item-at t) write-item.Post
-write-item-write-use-requires t c κs = 
+write-item-write-use-requires t c κs =
     let e = ap length (use-bytes (c .before .before .before .before .before .before .before .before .args .s .now) (c .before .before .before .before .before .before .before .before .args .place) (c .before .before .before .item-kind .result) (c .before .before .before .item-kind .ensures) (c .before .before .before .before .before .before .before .before .args .file .now) (c .before .before .before .before .before .before .before .before .args .depth) (c .before .if2 .taken)) in
     let r = c .before .before .before .before .before .before .before .before .pre .1 .1 .1 .0 in
     let h = c .before .before .before .before .before .before .before .before .pre .1 .1 .1 .1 in
     let g : 4 + length (useBytes (c .before .before .before .before .before .before .before .before .args .s .now) (c .before .before .before .before .before .before .before .before .args .file .now) (c .before .before .before .before .before .before .before .before .args .place)) ≤ length (now (c .before .before .before .before .before .before .before .before .args .out)) = omega arith in
     ((c .before .before .before .before .before .before .before .before .pre .1 .0 .0, use-mark (c .before .before .before .before .before .before .before .before .args .depth) (c .before .before .before .before .before .before .before .before .args .s .now) (c .before .before .before .before .before .before .before .before .args .place) (c .before .before .before .item-kind .result) (c .before .before .before .item-kind .ensures) (c .before .if2 .taken) (let q = c .before .before .before .before .before .before .before .before .pre .1 .0 .1 in omega arith)), (brief-use (c .before .before .before .before .before .before .before .before .args .s .now) (c .before .before .before .before .before .before .before .before .args .place) (c .before .before .before .item-kind .result) (c .before .before .before .item-kind .ensures) (c .before .before .before .before .before .before .before .before .args .depth) (c .before .before .before .before .before .before .before .before .pre .1 .1 .0) (c .before .if2 .taken), (g, omega arith)))
 
--- src/writing.rt:171:9
 write-item-same-length : (t : ℕ) → write-item-lts.Need-same-length (
   item-kind-reads.Asked,
   item-kind-reads.Learnt,
@@ -146,7 +174,6 @@ write-item-same-length : (t : ℕ) → write-item-lts.Need-same-length (
 ) (write-item-at t) write-item.Post
 write-item-same-length t c = search needs
 
--- src/writing.rt:171:9
 write-item-returns-2 : (t : ℕ) → write-item-lts.Need-returns-2 (
   item-kind-reads.Asked,
   item-kind-reads.Learnt,
@@ -165,13 +192,12 @@ write-item-returns-2 : (t : ℕ) → write-item-lts.Need-returns-2 (
   write-items-below t,
   write-items.Post,
 ) (write-item-at t) write-item.Post
-write-item-returns-2 t c = 
+write-item-returns-2 t c =
     let e = use-bytes (c .before .before .before .before .before .before .before .before .before .before .before .args .s .now) (c .before .before .before .before .before .before .before .before .before .before .before .args .place) (c .before .before .before .before .before .before .item-kind .result) (c .before .before .before .before .before .before .item-kind .ensures) (c .before .before .before .before .before .before .before .before .before .before .before .args .file .now) (c .before .before .before .before .before .before .before .before .before .before .before .args .depth) (c .before .before .before .before .if2 .taken) ∙ ap (λ (k : ℕ). headBytes (2 + length (useBytes (c .before .before .before .before .before .before .before .before .before .before .before .args .s .now) (c .before .before .before .before .before .before .before .before .before .before .before .args .file .now) (c .before .before .before .before .before .before .before .before .before .before .before .args .place))) k (byte (c .before .before .before .before .before .before .before .before .before .before .before .args .s .now) (c .before .before .before .before .before .before .before .before .before .before .before .args .place + 3)) ++ useBytes (c .before .before .before .before .before .before .before .before .before .before .before .args .s .now) (c .before .before .before .before .before .before .before .before .before .before .before .args .file .now) (c .before .before .before .before .before .before .before .before .before .before .before .args .place)) (c .before .before .before .before .if2 .taken) in
     let n = ap length e in
     let r : c .before .before .write-use .result ≡ 4 + length (useBytes (c .before .before .before .before .before .before .before .before .before .before .before .args .s .now) (c .before .before .before .before .before .before .before .before .before .before .before .args .file .now) (c .before .before .before .before .before .before .before .before .before .before .before .args .place)) = c .before .before .write-use .ensures .0 in
     (omega arith, c .before .before .write-use .ensures .1 ∙ ap (λ (l : List ℕ). started l (now (c .before .before .before .before .before .before .before .before .before .before .before .args .out))) (sym e))
 
--- src/writing.rt:173:9
 write-item-item-visibility-requires : (t : ℕ) → write-item-lts.Need-item-visibility-requires (
   item-kind-reads.Asked,
   item-kind-reads.Learnt,
@@ -192,7 +218,6 @@ write-item-item-visibility-requires : (t : ℕ) → write-item-lts.Need-item-vis
 ) (write-item-at t) write-item.Post
 write-item-item-visibility-requires t c κs = search needs
 
--- src/writing.rt:174:46
 write-item-item-name-requires : (t : ℕ) → write-item-lts.Need-item-name-requires (
   item-kind-reads.Asked,
   item-kind-reads.Learnt,
@@ -213,7 +238,6 @@ write-item-item-name-requires : (t : ℕ) → write-item-lts.Need-item-name-requ
 ) (write-item-at t) write-item.Post
 write-item-item-name-requires t c κs = search needs
 
--- src/writing.rt:174:9
 write-item-put-start-requires : (t : ℕ) → write-item-lts.Need-put-start-requires (
   item-kind-reads.Asked,
   item-kind-reads.Learnt,
@@ -232,7 +256,7 @@ write-item-put-start-requires : (t : ℕ) → write-item-lts.Need-put-start-requ
   write-items-below t,
   write-items.Post,
 ) (write-item-at t) write-item.Post
-write-item-put-start-requires t c κs = 
+write-item-put-start-requires t c κs =
     let n = (name-text (c .before .before .before .before .before .before .before .before .before .before .args .s .now) (c .before .before .before .before .before .before .before .before .before .before .args .place) (c .before .before .before .before .before .item-kind .result) (c .before .before .before .before .before .item-kind .ensures) (now (c .item-name .result)) (c .before .before .before .if2 .left) (c .before .before .before .before .if1 .left) (c .item-name .ensures)) in
     let v = (visibility-at (c .before .before .before .before .before .before .before .before .before .before .args .s .now) (c .before .before .before .before .before .before .before .before .before .before .args .place) (c .before .before .item-visibility .result) (c .before .before .item-visibility .ensures)) in
     let kb = kind-byte (c .before .before .before .before .before .before .before .before .before .before .args .s .now) (c .before .before .before .before .before .before .before .before .before .before .args .place) (c .before .before .before .before .before .item-kind .result) (c .before .before .before .before .before .item-kind .ensures) in
@@ -246,7 +270,6 @@ write-item-put-start-requires t c κs =
     let g : 4 + length (string (now (c .item-name .result))) ≤ length (now (c .before .before .before .before .before .before .before .before .before .before .args .out)) = omega arith in
     ((omega arith, omega arith), (omega arith, g))
 
--- src/writing.rt:176:25
 write-item-sub-put-two : (t : ℕ) → write-item-lts.Need-sub-put-two (
   item-kind-reads.Asked,
   item-kind-reads.Learnt,
@@ -267,7 +290,6 @@ write-item-sub-put-two : (t : ℕ) → write-item-lts.Need-sub-put-two (
 ) (write-item-at t) write-item.Post
 write-item-sub-put-two t c = search needs
 
--- src/writing.rt:176:9
 write-item-put-two-requires : (t : ℕ) → write-item-lts.Need-put-two-requires (
   item-kind-reads.Asked,
   item-kind-reads.Learnt,
@@ -286,9 +308,8 @@ write-item-put-two-requires : (t : ℕ) → write-item-lts.Need-put-two-requires
   write-items-below t,
   write-items.Post,
 ) (write-item-at t) write-item.Post
-write-item-put-two-requires t c κs = leaf-length (now (c .before .before .before .before .before .before .before .before .before .before .before .before .before .before .before .args .out)) (c .before .before .before .before .put-start .last .0) (now (c .before .before .before .before .before .item-name .result)) (c .before .before .before .before .before .before .before .before .before .before .item-kind .result) (c .before .before .before .before .before .before .before .item-visibility .result) (c .before .before .before .before .put-start .result) (c .before .before .before .before .put-start .ensures .1) (c .before .before .before .before .put-start .ensures .0) (itemBytes (c .before .before .before .before .before .before .before .before .before .before .before .before .before .before .before .args .s .now) (c .before .before .before .before .before .before .before .before .before .before .before .before .before .before .before .args .file .now) (c .before .before .before .before .before .before .before .before .before .before .before .before .before .before .before .args .depth) (c .before .before .before .before .before .before .before .before .before .before .before .before .before .before .before .args .place)) (c .before .before .before .before .before .before .before .before .before .before .before .before .before .before .before .pre .1 .1 .1 .0) (c .before .before .before .before .before .before .before .before .before .before .before .before .before .before .before .pre .1 .1 .1 .1) (by-name (itemBytes (c .before .before .before .before .before .before .before .before .before .before .before .before .before .before .before .args .s .now) (c .before .before .before .before .before .before .before .before .before .before .before .before .before .before .before .args .file .now) (c .before .before .before .before .before .before .before .before .before .before .before .before .before .before .before .args .depth) (c .before .before .before .before .before .before .before .before .before .before .before .before .before .before .before .args .place)) (now (c .before .before .before .before .before .item-name .result)) (text (c .before .before .before .before .before .before .before .before .before .before .before .before .before .before .before .args .s .now) (c .before .before .before .before .before .before .before .before .before .before .before .before .before .before .before .args .place + 4)) (c .before .before .before .before .before .before .before .before .before .before .item-kind .result) (c .before .before .before .before .before .before .before .item-visibility .result) (byte (c .before .before .before .before .before .before .before .before .before .before .before .before .before .before .before .args .s .now) (c .before .before .before .before .before .before .before .before .before .before .before .before .before .before .before .args .place + 3)) (name-text (c .before .before .before .before .before .before .before .before .before .before .before .before .before .before .before .args .s .now) (c .before .before .before .before .before .before .before .before .before .before .before .before .before .before .before .args .place) (c .before .before .before .before .before .before .before .before .before .before .item-kind .result) (c .before .before .before .before .before .before .before .before .before .before .item-kind .ensures) (now (c .before .before .before .before .before .item-name .result)) (c .before .before .before .before .before .before .before .before .if2 .left) (c .before .before .before .before .before .before .before .before .before .if1 .left) (c .before .before .before .before .before .item-name .ensures)) (visibility-at (c .before .before .before .before .before .before .before .before .before .before .before .before .before .before .before .args .s .now) (c .before .before .before .before .before .before .before .before .before .before .before .before .before .before .before .args .place) (c .before .before .before .before .before .before .before .item-visibility .result) (c .before .before .before .before .before .before .before .item-visibility .ensures)) (named-bytes (c .before .before .before .before .before .before .before .before .before .before .before .before .before .before .before .args .s .now) (c .before .before .before .before .before .before .before .before .before .before .before .before .before .before .before .args .place) (c .before .before .before .before .before .before .before .before .before .before .item-kind .result) (c .before .before .before .before .before .before .before .before .before .before .item-kind .ensures) (c .before .before .before .before .before .before .before .before .before .before .before .before .before .before .before .args .file .now) (c .before .before .before .before .before .before .before .before .before .before .before .before .before .before .before .args .depth) (c .before .if3 .taken) (c .before .before .before .before .before .before .before .before .if2 .left) (c .before .before .before .before .before .before .before .before .before .if1 .left)))
+write-item-put-two-requires t c κs = leaf-length (begun t (c .before .before .before .before)) (leaf t (c .before .before .before .before) (named-bytes (c .before .before .before .before .before .before .before .before .before .before .before .before .before .before .before .args .s .now) (c .before .before .before .before .before .before .before .before .before .before .before .before .before .before .before .args .place) (c .before .before .before .before .before .before .before .before .before .before .item-kind .result) (c .before .before .before .before .before .before .before .before .before .before .item-kind .ensures) (c .before .before .before .before .before .before .before .before .before .before .before .before .before .before .before .args .file .now) (c .before .before .before .before .before .before .before .before .before .before .before .before .before .before .before .args .depth) (c .before .if3 .taken) (c .before .before .before .before .before .before .before .before .if2 .left) (c .before .before .before .before .before .before .before .before .before .if1 .left)))
 
--- src/writing.rt:177:9
 write-item-same-length-2 : (t : ℕ) → write-item-lts.Need-same-length-2 (
   item-kind-reads.Asked,
   item-kind-reads.Learnt,
@@ -309,7 +330,6 @@ write-item-same-length-2 : (t : ℕ) → write-item-lts.Need-same-length-2 (
 ) (write-item-at t) write-item.Post
 write-item-same-length-2 t c = search needs
 
--- src/writing.rt:177:9
 write-item-returns-3 : (t : ℕ) → write-item-lts.Need-returns-3 (
   item-kind-reads.Asked,
   item-kind-reads.Learnt,
@@ -328,9 +348,8 @@ write-item-returns-3 : (t : ℕ) → write-item-lts.Need-returns-3 (
   write-items-below t,
   write-items.Post,
 ) (write-item-at t) write-item.Post
-write-item-returns-3 t c = leaf-done (now (c .before .before .before .before .before .before .before .before .before .before .before .before .before .before .before .before .before .before .args .out)) (c .before .before .before .before .before .before .before .put-start .last .0) (now (c .before .before .before .before .before .before .before .before .item-name .result)) (c .before .before .before .before .before .before .before .before .before .before .before .before .before .item-kind .result) (c .before .before .before .before .before .before .before .before .before .before .item-visibility .result) (c .before .before .before .before .before .before .before .put-start .result) (c .before .before .before .before .before .before .before .put-start .ensures .1) (c .before .before .before .before .before .before .before .put-start .ensures .0) (itemBytes (c .before .before .before .before .before .before .before .before .before .before .before .before .before .before .before .before .before .before .args .s .now) (c .before .before .before .before .before .before .before .before .before .before .before .before .before .before .before .before .before .before .args .file .now) (c .before .before .before .before .before .before .before .before .before .before .before .before .before .before .before .before .before .before .args .depth) (c .before .before .before .before .before .before .before .before .before .before .before .before .before .before .before .before .before .before .args .place)) (c .before .before .before .before .before .before .before .before .before .before .before .before .before .before .before .before .before .before .pre .1 .1 .1 .0) (c .before .before .before .before .before .before .before .before .before .before .before .before .before .before .before .before .before .before .pre .1 .1 .1 .1) (by-name (itemBytes (c .before .before .before .before .before .before .before .before .before .before .before .before .before .before .before .before .before .before .args .s .now) (c .before .before .before .before .before .before .before .before .before .before .before .before .before .before .before .before .before .before .args .file .now) (c .before .before .before .before .before .before .before .before .before .before .before .before .before .before .before .before .before .before .args .depth) (c .before .before .before .before .before .before .before .before .before .before .before .before .before .before .before .before .before .before .args .place)) (now (c .before .before .before .before .before .before .before .before .item-name .result)) (text (c .before .before .before .before .before .before .before .before .before .before .before .before .before .before .before .before .before .before .args .s .now) (c .before .before .before .before .before .before .before .before .before .before .before .before .before .before .before .before .before .before .args .place + 4)) (c .before .before .before .before .before .before .before .before .before .before .before .before .before .item-kind .result) (c .before .before .before .before .before .before .before .before .before .before .item-visibility .result) (byte (c .before .before .before .before .before .before .before .before .before .before .before .before .before .before .before .before .before .before .args .s .now) (c .before .before .before .before .before .before .before .before .before .before .before .before .before .before .before .before .before .before .args .place + 3)) (name-text (c .before .before .before .before .before .before .before .before .before .before .before .before .before .before .before .before .before .before .args .s .now) (c .before .before .before .before .before .before .before .before .before .before .before .before .before .before .before .before .before .before .args .place) (c .before .before .before .before .before .before .before .before .before .before .before .before .before .item-kind .result) (c .before .before .before .before .before .before .before .before .before .before .before .before .before .item-kind .ensures) (now (c .before .before .before .before .before .before .before .before .item-name .result)) (c .before .before .before .before .before .before .before .before .before .before .before .if2 .left) (c .before .before .before .before .before .before .before .before .before .before .before .before .if1 .left) (c .before .before .before .before .before .before .before .before .item-name .ensures)) (visibility-at (c .before .before .before .before .before .before .before .before .before .before .before .before .before .before .before .before .before .before .args .s .now) (c .before .before .before .before .before .before .before .before .before .before .before .before .before .before .before .before .before .before .args .place) (c .before .before .before .before .before .before .before .before .before .before .item-visibility .result) (c .before .before .before .before .before .before .before .before .before .before .item-visibility .ensures)) (named-bytes (c .before .before .before .before .before .before .before .before .before .before .before .before .before .before .before .before .before .before .args .s .now) (c .before .before .before .before .before .before .before .before .before .before .before .before .before .before .before .before .before .before .args .place) (c .before .before .before .before .before .before .before .before .before .before .before .before .before .item-kind .result) (c .before .before .before .before .before .before .before .before .before .before .before .before .before .item-kind .ensures) (c .before .before .before .before .before .before .before .before .before .before .before .before .before .before .before .before .before .before .args .file .now) (c .before .before .before .before .before .before .before .before .before .before .before .before .before .before .before .before .before .before .args .depth) (c .before .before .before .before .if3 .taken) (c .before .before .before .before .before .before .before .before .before .before .before .if2 .left) (c .before .before .before .before .before .before .before .before .before .before .before .before .if1 .left))) (c .before .before .put-two .last .0) (c .before .before .put-two .ensures)
+write-item-returns-3 t c = leaf-done (begun t (c .before .before .before .before .before .before .before)) (leaf t (c .before .before .before .before .before .before .before) (named-bytes (c .before .before .before .before .before .before .before .before .before .before .before .before .before .before .before .before .before .before .args .s .now) (c .before .before .before .before .before .before .before .before .before .before .before .before .before .before .before .before .before .before .args .place) (c .before .before .before .before .before .before .before .before .before .before .before .before .before .item-kind .result) (c .before .before .before .before .before .before .before .before .before .before .before .before .before .item-kind .ensures) (c .before .before .before .before .before .before .before .before .before .before .before .before .before .before .before .before .before .before .args .file .now) (c .before .before .before .before .before .before .before .before .before .before .before .before .before .before .before .before .before .before .args .depth) (c .before .before .before .before .if3 .taken) (c .before .before .before .before .before .before .before .before .before .before .before .if2 .left) (c .before .before .before .before .before .before .before .before .before .before .before .before .if1 .left))) (c .before .before .put-two .last .0) (c .before .before .put-two .ensures)
 
--- src/writing.rt:180:25
 write-item-sub-put-two-2 : (t : ℕ) → write-item-lts.Need-sub-put-two-2 (
   item-kind-reads.Asked,
   item-kind-reads.Learnt,
@@ -351,7 +370,6 @@ write-item-sub-put-two-2 : (t : ℕ) → write-item-lts.Need-sub-put-two-2 (
 ) (write-item-at t) write-item.Post
 write-item-sub-put-two-2 t c = search needs
 
--- src/writing.rt:180:9
 write-item-put-two-requires-2 : (t : ℕ) → write-item-lts.Need-put-two-requires-2 (
   item-kind-reads.Asked,
   item-kind-reads.Learnt,
@@ -370,9 +388,8 @@ write-item-put-two-requires-2 : (t : ℕ) → write-item-lts.Need-put-two-requir
   write-items-below t,
   write-items.Post,
 ) (write-item-at t) write-item.Post
-write-item-put-two-requires-2 t c κs = leaf-length (now (c .before .before .before .before .before .before .before .before .before .before .before .before .before .before .before .before .args .out)) (c .before .before .before .before .before .put-start .last .0) (now (c .before .before .before .before .before .before .item-name .result)) (c .before .before .before .before .before .before .before .before .before .before .before .item-kind .result) (c .before .before .before .before .before .before .before .before .item-visibility .result) (c .before .before .before .before .before .put-start .result) (c .before .before .before .before .before .put-start .ensures .1) (c .before .before .before .before .before .put-start .ensures .0) (itemBytes (c .before .before .before .before .before .before .before .before .before .before .before .before .before .before .before .before .args .s .now) (c .before .before .before .before .before .before .before .before .before .before .before .before .before .before .before .before .args .file .now) (c .before .before .before .before .before .before .before .before .before .before .before .before .before .before .before .before .args .depth) (c .before .before .before .before .before .before .before .before .before .before .before .before .before .before .before .before .args .place)) (c .before .before .before .before .before .before .before .before .before .before .before .before .before .before .before .before .pre .1 .1 .1 .0) (c .before .before .before .before .before .before .before .before .before .before .before .before .before .before .before .before .pre .1 .1 .1 .1) (by-name (itemBytes (c .before .before .before .before .before .before .before .before .before .before .before .before .before .before .before .before .args .s .now) (c .before .before .before .before .before .before .before .before .before .before .before .before .before .before .before .before .args .file .now) (c .before .before .before .before .before .before .before .before .before .before .before .before .before .before .before .before .args .depth) (c .before .before .before .before .before .before .before .before .before .before .before .before .before .before .before .before .args .place)) (now (c .before .before .before .before .before .before .item-name .result)) (text (c .before .before .before .before .before .before .before .before .before .before .before .before .before .before .before .before .args .s .now) (c .before .before .before .before .before .before .before .before .before .before .before .before .before .before .before .before .args .place + 4)) (c .before .before .before .before .before .before .before .before .before .before .before .item-kind .result) (c .before .before .before .before .before .before .before .before .item-visibility .result) (byte (c .before .before .before .before .before .before .before .before .before .before .before .before .before .before .before .before .args .s .now) (c .before .before .before .before .before .before .before .before .before .before .before .before .before .before .before .before .args .place + 3)) (name-text (c .before .before .before .before .before .before .before .before .before .before .before .before .before .before .before .before .args .s .now) (c .before .before .before .before .before .before .before .before .before .before .before .before .before .before .before .before .args .place) (c .before .before .before .before .before .before .before .before .before .before .before .item-kind .result) (c .before .before .before .before .before .before .before .before .before .before .before .item-kind .ensures) (now (c .before .before .before .before .before .before .item-name .result)) (c .before .before .before .before .before .before .before .before .before .if2 .left) (c .before .before .before .before .before .before .before .before .before .before .if1 .left) (c .before .before .before .before .before .before .item-name .ensures)) (visibility-at (c .before .before .before .before .before .before .before .before .before .before .before .before .before .before .before .before .args .s .now) (c .before .before .before .before .before .before .before .before .before .before .before .before .before .before .before .before .args .place) (c .before .before .before .before .before .before .before .before .item-visibility .result) (c .before .before .before .before .before .before .before .before .item-visibility .ensures)) (flat-bytes (c .before .before .before .before .before .before .before .before .before .before .before .before .before .before .before .before .args .s .now) (c .before .before .before .before .before .before .before .before .before .before .before .before .before .before .before .before .args .place) (c .before .before .before .before .before .before .before .before .before .before .before .item-kind .result) (c .before .before .before .before .before .before .before .before .before .before .before .item-kind .ensures) (c .before .before .before .before .before .before .before .before .before .before .before .before .before .before .before .before .args .file .now) (c .before .before .before .before .before .before .before .before .before .before .before .before .before .before .before .before .args .depth) (c .before .before .if3 .left) (c .before .if4 .taken)))
+write-item-put-two-requires-2 t c κs = leaf-length (begun t (c .before .before .before .before .before)) (leaf t (c .before .before .before .before .before) (flat-bytes (c .before .before .before .before .before .before .before .before .before .before .before .before .before .before .before .before .args .s .now) (c .before .before .before .before .before .before .before .before .before .before .before .before .before .before .before .before .args .place) (c .before .before .before .before .before .before .before .before .before .before .before .item-kind .result) (c .before .before .before .before .before .before .before .before .before .before .before .item-kind .ensures) (c .before .before .before .before .before .before .before .before .before .before .before .before .before .before .before .before .args .file .now) (c .before .before .before .before .before .before .before .before .before .before .before .before .before .before .before .before .args .depth) (c .before .before .if3 .left) (c .before .if4 .taken)))
 
--- src/writing.rt:181:9
 write-item-same-length-3 : (t : ℕ) → write-item-lts.Need-same-length-3 (
   item-kind-reads.Asked,
   item-kind-reads.Learnt,
@@ -393,7 +410,6 @@ write-item-same-length-3 : (t : ℕ) → write-item-lts.Need-same-length-3 (
 ) (write-item-at t) write-item.Post
 write-item-same-length-3 t c = search needs
 
--- src/writing.rt:181:9
 write-item-returns-4 : (t : ℕ) → write-item-lts.Need-returns-4 (
   item-kind-reads.Asked,
   item-kind-reads.Learnt,
@@ -412,9 +428,8 @@ write-item-returns-4 : (t : ℕ) → write-item-lts.Need-returns-4 (
   write-items-below t,
   write-items.Post,
 ) (write-item-at t) write-item.Post
-write-item-returns-4 t c = leaf-done (now (c .before .before .before .before .before .before .before .before .before .before .before .before .before .before .before .before .before .before .before .args .out)) (c .before .before .before .before .before .before .before .before .put-start .last .0) (now (c .before .before .before .before .before .before .before .before .before .item-name .result)) (c .before .before .before .before .before .before .before .before .before .before .before .before .before .before .item-kind .result) (c .before .before .before .before .before .before .before .before .before .before .before .item-visibility .result) (c .before .before .before .before .before .before .before .before .put-start .result) (c .before .before .before .before .before .before .before .before .put-start .ensures .1) (c .before .before .before .before .before .before .before .before .put-start .ensures .0) (itemBytes (c .before .before .before .before .before .before .before .before .before .before .before .before .before .before .before .before .before .before .before .args .s .now) (c .before .before .before .before .before .before .before .before .before .before .before .before .before .before .before .before .before .before .before .args .file .now) (c .before .before .before .before .before .before .before .before .before .before .before .before .before .before .before .before .before .before .before .args .depth) (c .before .before .before .before .before .before .before .before .before .before .before .before .before .before .before .before .before .before .before .args .place)) (c .before .before .before .before .before .before .before .before .before .before .before .before .before .before .before .before .before .before .before .pre .1 .1 .1 .0) (c .before .before .before .before .before .before .before .before .before .before .before .before .before .before .before .before .before .before .before .pre .1 .1 .1 .1) (by-name (itemBytes (c .before .before .before .before .before .before .before .before .before .before .before .before .before .before .before .before .before .before .before .args .s .now) (c .before .before .before .before .before .before .before .before .before .before .before .before .before .before .before .before .before .before .before .args .file .now) (c .before .before .before .before .before .before .before .before .before .before .before .before .before .before .before .before .before .before .before .args .depth) (c .before .before .before .before .before .before .before .before .before .before .before .before .before .before .before .before .before .before .before .args .place)) (now (c .before .before .before .before .before .before .before .before .before .item-name .result)) (text (c .before .before .before .before .before .before .before .before .before .before .before .before .before .before .before .before .before .before .before .args .s .now) (c .before .before .before .before .before .before .before .before .before .before .before .before .before .before .before .before .before .before .before .args .place + 4)) (c .before .before .before .before .before .before .before .before .before .before .before .before .before .before .item-kind .result) (c .before .before .before .before .before .before .before .before .before .before .before .item-visibility .result) (byte (c .before .before .before .before .before .before .before .before .before .before .before .before .before .before .before .before .before .before .before .args .s .now) (c .before .before .before .before .before .before .before .before .before .before .before .before .before .before .before .before .before .before .before .args .place + 3)) (name-text (c .before .before .before .before .before .before .before .before .before .before .before .before .before .before .before .before .before .before .before .args .s .now) (c .before .before .before .before .before .before .before .before .before .before .before .before .before .before .before .before .before .before .before .args .place) (c .before .before .before .before .before .before .before .before .before .before .before .before .before .before .item-kind .result) (c .before .before .before .before .before .before .before .before .before .before .before .before .before .before .item-kind .ensures) (now (c .before .before .before .before .before .before .before .before .before .item-name .result)) (c .before .before .before .before .before .before .before .before .before .before .before .before .if2 .left) (c .before .before .before .before .before .before .before .before .before .before .before .before .before .if1 .left) (c .before .before .before .before .before .before .before .before .before .item-name .ensures)) (visibility-at (c .before .before .before .before .before .before .before .before .before .before .before .before .before .before .before .before .before .before .before .args .s .now) (c .before .before .before .before .before .before .before .before .before .before .before .before .before .before .before .before .before .before .before .args .place) (c .before .before .before .before .before .before .before .before .before .before .before .item-visibility .result) (c .before .before .before .before .before .before .before .before .before .before .before .item-visibility .ensures)) (flat-bytes (c .before .before .before .before .before .before .before .before .before .before .before .before .before .before .before .before .before .before .before .args .s .now) (c .before .before .before .before .before .before .before .before .before .before .before .before .before .before .before .before .before .before .before .args .place) (c .before .before .before .before .before .before .before .before .before .before .before .before .before .before .item-kind .result) (c .before .before .before .before .before .before .before .before .before .before .before .before .before .before .item-kind .ensures) (c .before .before .before .before .before .before .before .before .before .before .before .before .before .before .before .before .before .before .before .args .file .now) (c .before .before .before .before .before .before .before .before .before .before .before .before .before .before .before .before .before .before .before .args .depth) (c .before .before .before .before .before .if3 .left) (c .before .before .before .before .if4 .taken))) (c .before .before .put-two2 .last .0) (c .before .before .put-two2 .ensures)
+write-item-returns-4 t c = leaf-done (begun t (c .before .before .before .before .before .before .before .before)) (leaf t (c .before .before .before .before .before .before .before .before) (flat-bytes (c .before .before .before .before .before .before .before .before .before .before .before .before .before .before .before .before .before .before .before .args .s .now) (c .before .before .before .before .before .before .before .before .before .before .before .before .before .before .before .before .before .before .before .args .place) (c .before .before .before .before .before .before .before .before .before .before .before .before .before .before .item-kind .result) (c .before .before .before .before .before .before .before .before .before .before .before .before .before .before .item-kind .ensures) (c .before .before .before .before .before .before .before .before .before .before .before .before .before .before .before .before .before .before .before .args .file .now) (c .before .before .before .before .before .before .before .before .before .before .before .before .before .before .before .before .before .before .before .args .depth) (c .before .before .before .before .before .if3 .left) (c .before .before .before .before .if4 .taken))) (c .before .before .put-two2 .last .0) (c .before .before .put-two2 .ensures)
 
--- src/writing.rt:183:9
 write-item-module-items-requires : (t : ℕ) → write-item-lts.Need-module-items-requires (
   item-kind-reads.Asked,
   item-kind-reads.Learnt,
@@ -435,7 +450,6 @@ write-item-module-items-requires : (t : ℕ) → write-item-lts.Need-module-item
 ) (write-item-at t) write-item.Post
 write-item-module-items-requires t c κs = search needs
 
--- src/writing.rt:193:9
 write-item-sub-write-items : (t : ℕ) → write-item-lts.Need-sub-write-items (
   item-kind-reads.Asked,
   item-kind-reads.Learnt,
@@ -456,7 +470,6 @@ write-item-sub-write-items : (t : ℕ) → write-item-lts.Need-sub-write-items (
 ) (write-item-at t) write-item.Post
 write-item-sub-write-items t c = search needs
 
--- src/writing.rt:194:9
 write-item-sub-write-items-2 : (t : ℕ) → write-item-lts.Need-sub-write-items-2 (
   item-kind-reads.Asked,
   item-kind-reads.Learnt,
@@ -475,9 +488,8 @@ write-item-sub-write-items-2 : (t : ℕ) → write-item-lts.Need-sub-write-items
   write-items-below t,
   write-items.Post,
 ) (write-item-at t) write-item.Post
-write-item-sub-write-items-2 t c = inside-start (now (c .before .before .before .before .before .before .before .before .before .before .before .before .before .before .before .before .args .out)) (c .before .before .before .before .before .put-start .last .0) (now (c .before .before .before .before .before .before .item-name .result)) (c .before .before .before .before .before .before .before .before .before .before .before .item-kind .result) (c .before .before .before .before .before .before .before .before .item-visibility .result) (c .before .before .before .before .before .put-start .result) (c .before .before .before .before .before .put-start .ensures .1) (c .before .before .before .before .before .put-start .ensures .0) (itemBytes (c .before .before .before .before .before .before .before .before .before .before .before .before .before .before .before .before .args .s .now) (c .before .before .before .before .before .before .before .before .before .before .before .before .before .before .before .before .args .file .now) (c .before .before .before .before .before .before .before .before .before .before .before .before .before .before .before .before .args .depth) (c .before .before .before .before .before .before .before .before .before .before .before .before .before .before .before .before .args .place)) (c .before .before .before .before .before .before .before .before .before .before .before .before .before .before .before .before .pre .1 .1 .1 .0) (c .before .before .before .before .before .before .before .before .before .before .before .before .before .before .before .before .pre .1 .1 .1 .1) (itemsBytes (c .before .before .before .before .before .before .before .before .before .before .before .before .before .before .before .before .args .s .now) (c .before .before .before .before .before .before .before .before .before .before .before .before .before .before .before .before .args .file .now) (c .before .before .before .before .before .before .before .before .before .before .before .before .before .before .before .before .args .depth - 1) (c .module-items .result .end) (c .module-items .result .at)) (by-name-inside (itemBytes (c .before .before .before .before .before .before .before .before .before .before .before .before .before .before .before .before .args .s .now) (c .before .before .before .before .before .before .before .before .before .before .before .before .before .before .before .before .args .file .now) (c .before .before .before .before .before .before .before .before .before .before .before .before .before .before .before .before .args .depth) (c .before .before .before .before .before .before .before .before .before .before .before .before .before .before .before .before .args .place)) (now (c .before .before .before .before .before .before .item-name .result)) (text (c .before .before .before .before .before .before .before .before .before .before .before .before .before .before .before .before .args .s .now) (c .before .before .before .before .before .before .before .before .before .before .before .before .before .before .before .before .args .place + 4)) (itemsBytes (c .before .before .before .before .before .before .before .before .before .before .before .before .before .before .before .before .args .s .now) (c .before .before .before .before .before .before .before .before .before .before .before .before .before .before .before .before .args .file .now) (c .before .before .before .before .before .before .before .before .before .before .before .before .before .before .before .before .args .depth - 1) (c .module-items .result .end) (c .module-items .result .at)) (c .before .before .before .before .before .before .before .before .before .before .before .item-kind .result) (c .before .before .before .before .before .before .before .before .item-visibility .result) (byte (c .before .before .before .before .before .before .before .before .before .before .before .before .before .before .before .before .args .s .now) (c .before .before .before .before .before .before .before .before .before .before .before .before .before .before .before .before .args .place + 3)) (name-text (c .before .before .before .before .before .before .before .before .before .before .before .before .before .before .before .before .args .s .now) (c .before .before .before .before .before .before .before .before .before .before .before .before .before .before .before .before .args .place) (c .before .before .before .before .before .before .before .before .before .before .before .item-kind .result) (c .before .before .before .before .before .before .before .before .before .before .before .item-kind .ensures) (now (c .before .before .before .before .before .before .item-name .result)) (c .before .before .before .before .before .before .before .before .before .if2 .left) (c .before .before .before .before .before .before .before .before .before .before .if1 .left) (c .before .before .before .before .before .before .item-name .ensures)) (visibility-at (c .before .before .before .before .before .before .before .before .before .before .before .before .before .before .before .before .args .s .now) (c .before .before .before .before .before .before .before .before .before .before .before .before .before .before .before .before .args .place) (c .before .before .before .before .before .before .before .before .item-visibility .result) (c .before .before .before .before .before .before .before .before .item-visibility .ensures)) (module-bytes (c .before .before .before .before .before .before .before .before .before .before .before .before .before .before .before .before .args .s .now) (c .before .before .before .before .before .before .before .before .before .before .before .before .before .before .before .before .args .place) (c .before .before .before .before .before .before .before .before .before .before .before .item-kind .result) (c .before .before .before .before .before .before .before .before .before .before .before .item-kind .ensures) (c .before .before .before .before .before .before .before .before .before .before .before .before .before .before .before .before .args .file .now) (c .before .before .before .before .before .before .before .before .before .before .before .before .before .before .before .before .args .depth) (c .module-items .result .end) (c .module-items .result .at) (c .before .before .if3 .left) (c .before .if4 .left) (c .module-items .ensures .0)))
+write-item-sub-write-items-2 t c = inside-start (inside t c)
 
--- src/writing.rt:194:9
 write-item-part-write-items-start : (t : ℕ) → write-item-lts.Need-part-write-items-start (
   item-kind-reads.Asked,
   item-kind-reads.Learnt,
@@ -496,9 +508,8 @@ write-item-part-write-items-start : (t : ℕ) → write-item-lts.Need-part-write
   write-items-below t,
   write-items.Post,
 ) (write-item-at t) write-item.Post
-write-item-part-write-items-start t c = let h = inside-start (now (c .before .before .before .before .before .before .before .before .before .before .before .before .before .before .before .before .args .out)) (c .before .before .before .before .before .put-start .last .0) (now (c .before .before .before .before .before .before .item-name .result)) (c .before .before .before .before .before .before .before .before .before .before .before .item-kind .result) (c .before .before .before .before .before .before .before .before .item-visibility .result) (c .before .before .before .before .before .put-start .result) (c .before .before .before .before .before .put-start .ensures .1) (c .before .before .before .before .before .put-start .ensures .0) (itemBytes (c .before .before .before .before .before .before .before .before .before .before .before .before .before .before .before .before .args .s .now) (c .before .before .before .before .before .before .before .before .before .before .before .before .before .before .before .before .args .file .now) (c .before .before .before .before .before .before .before .before .before .before .before .before .before .before .before .before .args .depth) (c .before .before .before .before .before .before .before .before .before .before .before .before .before .before .before .before .args .place)) (c .before .before .before .before .before .before .before .before .before .before .before .before .before .before .before .before .pre .1 .1 .1 .0) (c .before .before .before .before .before .before .before .before .before .before .before .before .before .before .before .before .pre .1 .1 .1 .1) (itemsBytes (c .before .before .before .before .before .before .before .before .before .before .before .before .before .before .before .before .args .s .now) (c .before .before .before .before .before .before .before .before .before .before .before .before .before .before .before .before .args .file .now) (c .before .before .before .before .before .before .before .before .before .before .before .before .before .before .before .before .args .depth - 1) (c .module-items .result .end) (c .module-items .result .at)) (by-name-inside (itemBytes (c .before .before .before .before .before .before .before .before .before .before .before .before .before .before .before .before .args .s .now) (c .before .before .before .before .before .before .before .before .before .before .before .before .before .before .before .before .args .file .now) (c .before .before .before .before .before .before .before .before .before .before .before .before .before .before .before .before .args .depth) (c .before .before .before .before .before .before .before .before .before .before .before .before .before .before .before .before .args .place)) (now (c .before .before .before .before .before .before .item-name .result)) (text (c .before .before .before .before .before .before .before .before .before .before .before .before .before .before .before .before .args .s .now) (c .before .before .before .before .before .before .before .before .before .before .before .before .before .before .before .before .args .place + 4)) (itemsBytes (c .before .before .before .before .before .before .before .before .before .before .before .before .before .before .before .before .args .s .now) (c .before .before .before .before .before .before .before .before .before .before .before .before .before .before .before .before .args .file .now) (c .before .before .before .before .before .before .before .before .before .before .before .before .before .before .before .before .args .depth - 1) (c .module-items .result .end) (c .module-items .result .at)) (c .before .before .before .before .before .before .before .before .before .before .before .item-kind .result) (c .before .before .before .before .before .before .before .before .item-visibility .result) (byte (c .before .before .before .before .before .before .before .before .before .before .before .before .before .before .before .before .args .s .now) (c .before .before .before .before .before .before .before .before .before .before .before .before .before .before .before .before .args .place + 3)) (name-text (c .before .before .before .before .before .before .before .before .before .before .before .before .before .before .before .before .args .s .now) (c .before .before .before .before .before .before .before .before .before .before .before .before .before .before .before .before .args .place) (c .before .before .before .before .before .before .before .before .before .before .before .item-kind .result) (c .before .before .before .before .before .before .before .before .before .before .before .item-kind .ensures) (now (c .before .before .before .before .before .before .item-name .result)) (c .before .before .before .before .before .before .before .before .before .if2 .left) (c .before .before .before .before .before .before .before .before .before .before .if1 .left) (c .before .before .before .before .before .before .item-name .ensures)) (visibility-at (c .before .before .before .before .before .before .before .before .before .before .before .before .before .before .before .before .args .s .now) (c .before .before .before .before .before .before .before .before .before .before .before .before .before .before .before .before .args .place) (c .before .before .before .before .before .before .before .before .item-visibility .result) (c .before .before .before .before .before .before .before .before .item-visibility .ensures)) (module-bytes (c .before .before .before .before .before .before .before .before .before .before .before .before .before .before .before .before .args .s .now) (c .before .before .before .before .before .before .before .before .before .before .before .before .before .before .before .before .args .place) (c .before .before .before .before .before .before .before .before .before .before .before .item-kind .result) (c .before .before .before .before .before .before .before .before .before .before .before .item-kind .ensures) (c .before .before .before .before .before .before .before .before .before .before .before .before .before .before .before .before .args .file .now) (c .before .before .before .before .before .before .before .before .before .before .before .before .before .before .before .before .args .depth) (c .module-items .result .end) (c .module-items .result .at) (c .before .before .if3 .left) (c .before .if4 .left) (c .module-items .ensures .0))) in search needs
+write-item-part-write-items-start t c = let h = inside-start (inside t c) in search needs
 
--- src/writing.rt:194:9
 write-item-part-write-items-end : (t : ℕ) → write-item-lts.Need-part-write-items-end (
   item-kind-reads.Asked,
   item-kind-reads.Learnt,
@@ -519,7 +530,6 @@ write-item-part-write-items-end : (t : ℕ) → write-item-lts.Need-part-write-i
 ) (write-item-at t) write-item.Post
 write-item-part-write-items-end t c = search needs
 
--- src/writing.rt:184:9
 write-item-write-items-requires : (t : ℕ) → write-item-lts.Need-write-items-requires (
   item-kind-reads.Asked,
   item-kind-reads.Learnt,
@@ -538,9 +548,8 @@ write-item-write-items-requires : (t : ℕ) → write-item-lts.Need-write-items-
   write-items-below t,
   write-items.Post,
 ) (write-item-at t) write-item.Post
-write-item-write-items-requires t c κs = (search needs, ((c .before .before .before .before .before .before .before .before .before .before .before .before .before .before .before .before .before .pre .1 .0 .0, search needs), (brief-inside (c .before .before .before .before .before .before .before .before .before .before .before .before .before .before .before .before .before .args .s .now) (c .before .before .before .before .before .before .before .before .before .before .before .before .before .before .before .before .before .args .place) (c .before .before .before .before .before .before .before .before .before .before .before .before .item-kind .result) (c .before .before .before .before .before .before .before .before .before .before .before .before .item-kind .ensures) (c .before .before .before .before .before .before .before .before .before .before .before .before .before .before .before .before .before .args .depth) (c .before .before .before .before .before .before .before .before .before .before .before .before .before .before .before .before .before .pre .1 .1 .0) (c .before .module-items .result .end) (c .before .module-items .result .at) (c .before .before .before .if3 .left) (c .before .before .if4 .left) (c .before .module-items .ensures .0), (inside-room (now (c .before .before .before .before .before .before .before .before .before .before .before .before .before .before .before .before .before .args .out)) (c .before .before .before .before .before .before .put-start .last .0) (now (c .before .before .before .before .before .before .before .item-name .result)) (c .before .before .before .before .before .before .before .before .before .before .before .before .item-kind .result) (c .before .before .before .before .before .before .before .before .before .item-visibility .result) (c .before .before .before .before .before .before .put-start .result) (c .before .before .before .before .before .before .put-start .ensures .1) (c .before .before .before .before .before .before .put-start .ensures .0) (itemBytes (c .before .before .before .before .before .before .before .before .before .before .before .before .before .before .before .before .before .args .s .now) (c .before .before .before .before .before .before .before .before .before .before .before .before .before .before .before .before .before .args .file .now) (c .before .before .before .before .before .before .before .before .before .before .before .before .before .before .before .before .before .args .depth) (c .before .before .before .before .before .before .before .before .before .before .before .before .before .before .before .before .before .args .place)) (c .before .before .before .before .before .before .before .before .before .before .before .before .before .before .before .before .before .pre .1 .1 .1 .0) (c .before .before .before .before .before .before .before .before .before .before .before .before .before .before .before .before .before .pre .1 .1 .1 .1) (itemsBytes (c .before .before .before .before .before .before .before .before .before .before .before .before .before .before .before .before .before .args .s .now) (c .before .before .before .before .before .before .before .before .before .before .before .before .before .before .before .before .before .args .file .now) (c .before .before .before .before .before .before .before .before .before .before .before .before .before .before .before .before .before .args .depth - 1) (c .before .module-items .result .end) (c .before .module-items .result .at)) (by-name-inside (itemBytes (c .before .before .before .before .before .before .before .before .before .before .before .before .before .before .before .before .before .args .s .now) (c .before .before .before .before .before .before .before .before .before .before .before .before .before .before .before .before .before .args .file .now) (c .before .before .before .before .before .before .before .before .before .before .before .before .before .before .before .before .before .args .depth) (c .before .before .before .before .before .before .before .before .before .before .before .before .before .before .before .before .before .args .place)) (now (c .before .before .before .before .before .before .before .item-name .result)) (text (c .before .before .before .before .before .before .before .before .before .before .before .before .before .before .before .before .before .args .s .now) (c .before .before .before .before .before .before .before .before .before .before .before .before .before .before .before .before .before .args .place + 4)) (itemsBytes (c .before .before .before .before .before .before .before .before .before .before .before .before .before .before .before .before .before .args .s .now) (c .before .before .before .before .before .before .before .before .before .before .before .before .before .before .before .before .before .args .file .now) (c .before .before .before .before .before .before .before .before .before .before .before .before .before .before .before .before .before .args .depth - 1) (c .before .module-items .result .end) (c .before .module-items .result .at)) (c .before .before .before .before .before .before .before .before .before .before .before .before .item-kind .result) (c .before .before .before .before .before .before .before .before .before .item-visibility .result) (byte (c .before .before .before .before .before .before .before .before .before .before .before .before .before .before .before .before .before .args .s .now) (c .before .before .before .before .before .before .before .before .before .before .before .before .before .before .before .before .before .args .place + 3)) (name-text (c .before .before .before .before .before .before .before .before .before .before .before .before .before .before .before .before .before .args .s .now) (c .before .before .before .before .before .before .before .before .before .before .before .before .before .before .before .before .before .args .place) (c .before .before .before .before .before .before .before .before .before .before .before .before .item-kind .result) (c .before .before .before .before .before .before .before .before .before .before .before .before .item-kind .ensures) (now (c .before .before .before .before .before .before .before .item-name .result)) (c .before .before .before .before .before .before .before .before .before .before .if2 .left) (c .before .before .before .before .before .before .before .before .before .before .before .if1 .left) (c .before .before .before .before .before .before .before .item-name .ensures)) (visibility-at (c .before .before .before .before .before .before .before .before .before .before .before .before .before .before .before .before .before .args .s .now) (c .before .before .before .before .before .before .before .before .before .before .before .before .before .before .before .before .before .args .place) (c .before .before .before .before .before .before .before .before .before .item-visibility .result) (c .before .before .before .before .before .before .before .before .before .item-visibility .ensures)) (module-bytes (c .before .before .before .before .before .before .before .before .before .before .before .before .before .before .before .before .before .args .s .now) (c .before .before .before .before .before .before .before .before .before .before .before .before .before .before .before .before .before .args .place) (c .before .before .before .before .before .before .before .before .before .before .before .before .item-kind .result) (c .before .before .before .before .before .before .before .before .before .before .before .before .item-kind .ensures) (c .before .before .before .before .before .before .before .before .before .before .before .before .before .before .before .before .before .args .file .now) (c .before .before .before .before .before .before .before .before .before .before .before .before .before .before .before .before .before .args .depth) (c .before .module-items .result .end) (c .before .module-items .result .at) (c .before .before .before .if3 .left) (c .before .before .if4 .left) (c .before .module-items .ensures .0))), inside-short (now (c .before .before .before .before .before .before .before .before .before .before .before .before .before .before .before .before .before .args .out)) (c .before .before .before .before .before .before .put-start .last .0) (now (c .before .before .before .before .before .before .before .item-name .result)) (c .before .before .before .before .before .before .before .before .before .before .before .before .item-kind .result) (c .before .before .before .before .before .before .before .before .before .item-visibility .result) (c .before .before .before .before .before .before .put-start .result) (c .before .before .before .before .before .before .put-start .ensures .1) (c .before .before .before .before .before .before .put-start .ensures .0) (itemBytes (c .before .before .before .before .before .before .before .before .before .before .before .before .before .before .before .before .before .args .s .now) (c .before .before .before .before .before .before .before .before .before .before .before .before .before .before .before .before .before .args .file .now) (c .before .before .before .before .before .before .before .before .before .before .before .before .before .before .before .before .before .args .depth) (c .before .before .before .before .before .before .before .before .before .before .before .before .before .before .before .before .before .args .place)) (c .before .before .before .before .before .before .before .before .before .before .before .before .before .before .before .before .before .pre .1 .1 .1 .0) (c .before .before .before .before .before .before .before .before .before .before .before .before .before .before .before .before .before .pre .1 .1 .1 .1) (itemsBytes (c .before .before .before .before .before .before .before .before .before .before .before .before .before .before .before .before .before .args .s .now) (c .before .before .before .before .before .before .before .before .before .before .before .before .before .before .before .before .before .args .file .now) (c .before .before .before .before .before .before .before .before .before .before .before .before .before .before .before .before .before .args .depth - 1) (c .before .module-items .result .end) (c .before .module-items .result .at)) (by-name-inside (itemBytes (c .before .before .before .before .before .before .before .before .before .before .before .before .before .before .before .before .before .args .s .now) (c .before .before .before .before .before .before .before .before .before .before .before .before .before .before .before .before .before .args .file .now) (c .before .before .before .before .before .before .before .before .before .before .before .before .before .before .before .before .before .args .depth) (c .before .before .before .before .before .before .before .before .before .before .before .before .before .before .before .before .before .args .place)) (now (c .before .before .before .before .before .before .before .item-name .result)) (text (c .before .before .before .before .before .before .before .before .before .before .before .before .before .before .before .before .before .args .s .now) (c .before .before .before .before .before .before .before .before .before .before .before .before .before .before .before .before .before .args .place + 4)) (itemsBytes (c .before .before .before .before .before .before .before .before .before .before .before .before .before .before .before .before .before .args .s .now) (c .before .before .before .before .before .before .before .before .before .before .before .before .before .before .before .before .before .args .file .now) (c .before .before .before .before .before .before .before .before .before .before .before .before .before .before .before .before .before .args .depth - 1) (c .before .module-items .result .end) (c .before .module-items .result .at)) (c .before .before .before .before .before .before .before .before .before .before .before .before .item-kind .result) (c .before .before .before .before .before .before .before .before .before .item-visibility .result) (byte (c .before .before .before .before .before .before .before .before .before .before .before .before .before .before .before .before .before .args .s .now) (c .before .before .before .before .before .before .before .before .before .before .before .before .before .before .before .before .before .args .place + 3)) (name-text (c .before .before .before .before .before .before .before .before .before .before .before .before .before .before .before .before .before .args .s .now) (c .before .before .before .before .before .before .before .before .before .before .before .before .before .before .before .before .before .args .place) (c .before .before .before .before .before .before .before .before .before .before .before .before .item-kind .result) (c .before .before .before .before .before .before .before .before .before .before .before .before .item-kind .ensures) (now (c .before .before .before .before .before .before .before .item-name .result)) (c .before .before .before .before .before .before .before .before .before .before .if2 .left) (c .before .before .before .before .before .before .before .before .before .before .before .if1 .left) (c .before .before .before .before .before .before .before .item-name .ensures)) (visibility-at (c .before .before .before .before .before .before .before .before .before .before .before .before .before .before .before .before .before .args .s .now) (c .before .before .before .before .before .before .before .before .before .before .before .before .before .before .before .before .before .args .place) (c .before .before .before .before .before .before .before .before .before .item-visibility .result) (c .before .before .before .before .before .before .before .before .before .item-visibility .ensures)) (module-bytes (c .before .before .before .before .before .before .before .before .before .before .before .before .before .before .before .before .before .args .s .now) (c .before .before .before .before .before .before .before .before .before .before .before .before .before .before .before .before .before .args .place) (c .before .before .before .before .before .before .before .before .before .before .before .before .item-kind .result) (c .before .before .before .before .before .before .before .before .before .before .before .before .item-kind .ensures) (c .before .before .before .before .before .before .before .before .before .before .before .before .before .before .before .before .before .args .file .now) (c .before .before .before .before .before .before .before .before .before .before .before .before .before .before .before .before .before .args .depth) (c .before .module-items .result .end) (c .before .module-items .result .at) (c .before .before .before .if3 .left) (c .before .before .if4 .left) (c .before .module-items .ensures .0)))))))
+write-item-write-items-requires t c κs = (search needs, ((c .before .before .before .before .before .before .before .before .before .before .before .before .before .before .before .before .before .pre .1 .0 .0, search needs), (brief-inside (c .before .before .before .before .before .before .before .before .before .before .before .before .before .before .before .before .before .args .s .now) (c .before .before .before .before .before .before .before .before .before .before .before .before .before .before .before .before .before .args .place) (c .before .before .before .before .before .before .before .before .before .before .before .before .item-kind .result) (c .before .before .before .before .before .before .before .before .before .before .before .before .item-kind .ensures) (c .before .before .before .before .before .before .before .before .before .before .before .before .before .before .before .before .before .args .depth) (c .before .before .before .before .before .before .before .before .before .before .before .before .before .before .before .before .before .pre .1 .1 .0) (c .before .module-items .result .end) (c .before .module-items .result .at) (c .before .before .before .if3 .left) (c .before .before .if4 .left) (c .before .module-items .ensures .0), (inside-room (inside t (c .before)), inside-short (inside t (c .before))))))
 
--- src/writing.rt:196:21
 write-item-add-put-two : (t : ℕ) → write-item-lts.Need-add-put-two (
   item-kind-reads.Asked,
   item-kind-reads.Learnt,
@@ -559,9 +568,8 @@ write-item-add-put-two : (t : ℕ) → write-item-lts.Need-add-put-two (
   write-items-below t,
   write-items.Post,
 ) (write-item-at t) write-item.Post
-write-item-add-put-two t c = let h = inside-length (now (c .before .before .before .before .before .before .before .before .before .before .before .before .before .before .before .before .before .before .before .before .before .args .out)) (c .before .before .before .before .before .before .before .before .before .before .put-start .last .0) (now (c .before .before .before .before .before .before .before .before .before .before .before .item-name .result)) (c .before .before .before .before .before .before .before .before .before .before .before .before .before .before .before .before .item-kind .result) (c .before .before .before .before .before .before .before .before .before .before .before .before .before .item-visibility .result) (c .before .before .before .before .before .before .before .before .before .before .put-start .result) (c .before .before .before .before .before .before .before .before .before .before .put-start .ensures .1) (c .before .before .before .before .before .before .before .before .before .before .put-start .ensures .0) (itemBytes (c .before .before .before .before .before .before .before .before .before .before .before .before .before .before .before .before .before .before .before .before .before .args .s .now) (c .before .before .before .before .before .before .before .before .before .before .before .before .before .before .before .before .before .before .before .before .before .args .file .now) (c .before .before .before .before .before .before .before .before .before .before .before .before .before .before .before .before .before .before .before .before .before .args .depth) (c .before .before .before .before .before .before .before .before .before .before .before .before .before .before .before .before .before .before .before .before .before .args .place)) (c .before .before .before .before .before .before .before .before .before .before .before .before .before .before .before .before .before .before .before .before .before .pre .1 .1 .1 .0) (c .before .before .before .before .before .before .before .before .before .before .before .before .before .before .before .before .before .before .before .before .before .pre .1 .1 .1 .1) (itemsBytes (c .before .before .before .before .before .before .before .before .before .before .before .before .before .before .before .before .before .before .before .before .before .args .s .now) (c .before .before .before .before .before .before .before .before .before .before .before .before .before .before .before .before .before .before .before .before .before .args .file .now) (c .before .before .before .before .before .before .before .before .before .before .before .before .before .before .before .before .before .before .before .before .before .args .depth - 1) (c .before .before .before .before .before .module-items .result .end) (c .before .before .before .before .before .module-items .result .at)) (by-name-inside (itemBytes (c .before .before .before .before .before .before .before .before .before .before .before .before .before .before .before .before .before .before .before .before .before .args .s .now) (c .before .before .before .before .before .before .before .before .before .before .before .before .before .before .before .before .before .before .before .before .before .args .file .now) (c .before .before .before .before .before .before .before .before .before .before .before .before .before .before .before .before .before .before .before .before .before .args .depth) (c .before .before .before .before .before .before .before .before .before .before .before .before .before .before .before .before .before .before .before .before .before .args .place)) (now (c .before .before .before .before .before .before .before .before .before .before .before .item-name .result)) (text (c .before .before .before .before .before .before .before .before .before .before .before .before .before .before .before .before .before .before .before .before .before .args .s .now) (c .before .before .before .before .before .before .before .before .before .before .before .before .before .before .before .before .before .before .before .before .before .args .place + 4)) (itemsBytes (c .before .before .before .before .before .before .before .before .before .before .before .before .before .before .before .before .before .before .before .before .before .args .s .now) (c .before .before .before .before .before .before .before .before .before .before .before .before .before .before .before .before .before .before .before .before .before .args .file .now) (c .before .before .before .before .before .before .before .before .before .before .before .before .before .before .before .before .before .before .before .before .before .args .depth - 1) (c .before .before .before .before .before .module-items .result .end) (c .before .before .before .before .before .module-items .result .at)) (c .before .before .before .before .before .before .before .before .before .before .before .before .before .before .before .before .item-kind .result) (c .before .before .before .before .before .before .before .before .before .before .before .before .before .item-visibility .result) (byte (c .before .before .before .before .before .before .before .before .before .before .before .before .before .before .before .before .before .before .before .before .before .args .s .now) (c .before .before .before .before .before .before .before .before .before .before .before .before .before .before .before .before .before .before .before .before .before .args .place + 3)) (name-text (c .before .before .before .before .before .before .before .before .before .before .before .before .before .before .before .before .before .before .before .before .before .args .s .now) (c .before .before .before .before .before .before .before .before .before .before .before .before .before .before .before .before .before .before .before .before .before .args .place) (c .before .before .before .before .before .before .before .before .before .before .before .before .before .before .before .before .item-kind .result) (c .before .before .before .before .before .before .before .before .before .before .before .before .before .before .before .before .item-kind .ensures) (now (c .before .before .before .before .before .before .before .before .before .before .before .item-name .result)) (c .before .before .before .before .before .before .before .before .before .before .before .before .before .before .if2 .left) (c .before .before .before .before .before .before .before .before .before .before .before .before .before .before .before .if1 .left) (c .before .before .before .before .before .before .before .before .before .before .before .item-name .ensures)) (visibility-at (c .before .before .before .before .before .before .before .before .before .before .before .before .before .before .before .before .before .before .before .before .before .args .s .now) (c .before .before .before .before .before .before .before .before .before .before .before .before .before .before .before .before .before .before .before .before .before .args .place) (c .before .before .before .before .before .before .before .before .before .before .before .before .before .item-visibility .result) (c .before .before .before .before .before .before .before .before .before .before .before .before .before .item-visibility .ensures)) (module-bytes (c .before .before .before .before .before .before .before .before .before .before .before .before .before .before .before .before .before .before .before .before .before .args .s .now) (c .before .before .before .before .before .before .before .before .before .before .before .before .before .before .before .before .before .before .before .before .before .args .place) (c .before .before .before .before .before .before .before .before .before .before .before .before .before .before .before .before .item-kind .result) (c .before .before .before .before .before .before .before .before .before .before .before .before .before .before .before .before .item-kind .ensures) (c .before .before .before .before .before .before .before .before .before .before .before .before .before .before .before .before .before .before .before .before .before .args .file .now) (c .before .before .before .before .before .before .before .before .before .before .before .before .before .before .before .before .before .before .before .before .before .args .depth) (c .before .before .before .before .before .module-items .result .end) (c .before .before .before .before .before .module-items .result .at) (c .before .before .before .before .before .before .before .if3 .left) (c .before .before .before .before .before .before .if4 .left) (c .before .before .before .before .before .module-items .ensures .0))) (c .before .before .before .write-items .last .1 .1 .1 .1 .1 .1 .1 .1 .1 .0) (c .before .before .before .write-items .result) (c .before .before .before .write-items .ensures .1) (c .before .before .before .write-items .ensures .0) .1 in let g : Fits w64 (c .before .before .before .before .before .before .before .before .before .before .put-start .result + c .before .before .before .write-items .result) = omega arith in g
+write-item-add-put-two t c = let h = inside-length (inside t (c .before .before .before .before .before)) (c .before .before .before .write-items .last .1 .1 .1 .1 .1 .1 .1 .1 .1 .0) (c .before .before .before .write-items .result) (c .before .before .before .write-items .ensures) .1 in let g : Fits w64 (c .before .before .before .before .before .before .before .before .before .before .put-start .result + c .before .before .before .write-items .result) = omega arith in g
 
--- src/writing.rt:196:21
 write-item-sub-put-two-3 : (t : ℕ) → write-item-lts.Need-sub-put-two-3 (
   item-kind-reads.Asked,
   item-kind-reads.Learnt,
@@ -582,7 +590,6 @@ write-item-sub-put-two-3 : (t : ℕ) → write-item-lts.Need-sub-put-two-3 (
 ) (write-item-at t) write-item.Post
 write-item-sub-put-two-3 t c = search needs
 
--- src/writing.rt:196:5
 write-item-put-two-requires-3 : (t : ℕ) → write-item-lts.Need-put-two-requires-3 (
   item-kind-reads.Asked,
   item-kind-reads.Learnt,
@@ -601,9 +608,8 @@ write-item-put-two-requires-3 : (t : ℕ) → write-item-lts.Need-put-two-requir
   write-items-below t,
   write-items.Post,
 ) (write-item-at t) write-item.Post
-write-item-put-two-requires-3 t c κs = inside-length (now (c .before .before .before .before .before .before .before .before .before .before .before .before .before .before .before .before .before .before .before .before .before .args .out)) (c .before .before .before .before .before .before .before .before .before .before .put-start .last .0) (now (c .before .before .before .before .before .before .before .before .before .before .before .item-name .result)) (c .before .before .before .before .before .before .before .before .before .before .before .before .before .before .before .before .item-kind .result) (c .before .before .before .before .before .before .before .before .before .before .before .before .before .item-visibility .result) (c .before .before .before .before .before .before .before .before .before .before .put-start .result) (c .before .before .before .before .before .before .before .before .before .before .put-start .ensures .1) (c .before .before .before .before .before .before .before .before .before .before .put-start .ensures .0) (itemBytes (c .before .before .before .before .before .before .before .before .before .before .before .before .before .before .before .before .before .before .before .before .before .args .s .now) (c .before .before .before .before .before .before .before .before .before .before .before .before .before .before .before .before .before .before .before .before .before .args .file .now) (c .before .before .before .before .before .before .before .before .before .before .before .before .before .before .before .before .before .before .before .before .before .args .depth) (c .before .before .before .before .before .before .before .before .before .before .before .before .before .before .before .before .before .before .before .before .before .args .place)) (c .before .before .before .before .before .before .before .before .before .before .before .before .before .before .before .before .before .before .before .before .before .pre .1 .1 .1 .0) (c .before .before .before .before .before .before .before .before .before .before .before .before .before .before .before .before .before .before .before .before .before .pre .1 .1 .1 .1) (itemsBytes (c .before .before .before .before .before .before .before .before .before .before .before .before .before .before .before .before .before .before .before .before .before .args .s .now) (c .before .before .before .before .before .before .before .before .before .before .before .before .before .before .before .before .before .before .before .before .before .args .file .now) (c .before .before .before .before .before .before .before .before .before .before .before .before .before .before .before .before .before .before .before .before .before .args .depth - 1) (c .before .before .before .before .before .module-items .result .end) (c .before .before .before .before .before .module-items .result .at)) (by-name-inside (itemBytes (c .before .before .before .before .before .before .before .before .before .before .before .before .before .before .before .before .before .before .before .before .before .args .s .now) (c .before .before .before .before .before .before .before .before .before .before .before .before .before .before .before .before .before .before .before .before .before .args .file .now) (c .before .before .before .before .before .before .before .before .before .before .before .before .before .before .before .before .before .before .before .before .before .args .depth) (c .before .before .before .before .before .before .before .before .before .before .before .before .before .before .before .before .before .before .before .before .before .args .place)) (now (c .before .before .before .before .before .before .before .before .before .before .before .item-name .result)) (text (c .before .before .before .before .before .before .before .before .before .before .before .before .before .before .before .before .before .before .before .before .before .args .s .now) (c .before .before .before .before .before .before .before .before .before .before .before .before .before .before .before .before .before .before .before .before .before .args .place + 4)) (itemsBytes (c .before .before .before .before .before .before .before .before .before .before .before .before .before .before .before .before .before .before .before .before .before .args .s .now) (c .before .before .before .before .before .before .before .before .before .before .before .before .before .before .before .before .before .before .before .before .before .args .file .now) (c .before .before .before .before .before .before .before .before .before .before .before .before .before .before .before .before .before .before .before .before .before .args .depth - 1) (c .before .before .before .before .before .module-items .result .end) (c .before .before .before .before .before .module-items .result .at)) (c .before .before .before .before .before .before .before .before .before .before .before .before .before .before .before .before .item-kind .result) (c .before .before .before .before .before .before .before .before .before .before .before .before .before .item-visibility .result) (byte (c .before .before .before .before .before .before .before .before .before .before .before .before .before .before .before .before .before .before .before .before .before .args .s .now) (c .before .before .before .before .before .before .before .before .before .before .before .before .before .before .before .before .before .before .before .before .before .args .place + 3)) (name-text (c .before .before .before .before .before .before .before .before .before .before .before .before .before .before .before .before .before .before .before .before .before .args .s .now) (c .before .before .before .before .before .before .before .before .before .before .before .before .before .before .before .before .before .before .before .before .before .args .place) (c .before .before .before .before .before .before .before .before .before .before .before .before .before .before .before .before .item-kind .result) (c .before .before .before .before .before .before .before .before .before .before .before .before .before .before .before .before .item-kind .ensures) (now (c .before .before .before .before .before .before .before .before .before .before .before .item-name .result)) (c .before .before .before .before .before .before .before .before .before .before .before .before .before .before .if2 .left) (c .before .before .before .before .before .before .before .before .before .before .before .before .before .before .before .if1 .left) (c .before .before .before .before .before .before .before .before .before .before .before .item-name .ensures)) (visibility-at (c .before .before .before .before .before .before .before .before .before .before .before .before .before .before .before .before .before .before .before .before .before .args .s .now) (c .before .before .before .before .before .before .before .before .before .before .before .before .before .before .before .before .before .before .before .before .before .args .place) (c .before .before .before .before .before .before .before .before .before .before .before .before .before .item-visibility .result) (c .before .before .before .before .before .before .before .before .before .before .before .before .before .item-visibility .ensures)) (module-bytes (c .before .before .before .before .before .before .before .before .before .before .before .before .before .before .before .before .before .before .before .before .before .args .s .now) (c .before .before .before .before .before .before .before .before .before .before .before .before .before .before .before .before .before .before .before .before .before .args .place) (c .before .before .before .before .before .before .before .before .before .before .before .before .before .before .before .before .item-kind .result) (c .before .before .before .before .before .before .before .before .before .before .before .before .before .before .before .before .item-kind .ensures) (c .before .before .before .before .before .before .before .before .before .before .before .before .before .before .before .before .before .before .before .before .before .args .file .now) (c .before .before .before .before .before .before .before .before .before .before .before .before .before .before .before .before .before .before .before .before .before .args .depth) (c .before .before .before .before .before .module-items .result .end) (c .before .before .before .before .before .module-items .result .at) (c .before .before .before .before .before .before .before .if3 .left) (c .before .before .before .before .before .before .if4 .left) (c .before .before .before .before .before .module-items .ensures .0))) (c .before .before .before .write-items .last .1 .1 .1 .1 .1 .1 .1 .1 .1 .0) (c .before .before .before .write-items .result) (c .before .before .before .write-items .ensures .1) (c .before .before .before .write-items .ensures .0)
+write-item-put-two-requires-3 t c κs = inside-length (inside t (c .before .before .before .before .before)) (c .before .before .before .write-items .last .1 .1 .1 .1 .1 .1 .1 .1 .1 .0) (c .before .before .before .write-items .result) (c .before .before .before .write-items .ensures)
 
--- src/writing.rt:197:5
 write-item-add-result : (t : ℕ) → write-item-lts.Need-add-result (
   item-kind-reads.Asked,
   item-kind-reads.Learnt,
@@ -622,9 +628,8 @@ write-item-add-result : (t : ℕ) → write-item-lts.Need-add-result (
   write-items-below t,
   write-items.Post,
 ) (write-item-at t) write-item.Post
-write-item-add-result t c = let h = inside-length (now (c .before .before .before .before .before .before .before .before .before .before .before .before .before .before .before .before .before .before .before .before .before .before .before .before .args .out)) (c .before .before .before .before .before .before .before .before .before .before .before .before .before .put-start .last .0) (now (c .before .before .before .before .before .before .before .before .before .before .before .before .before .before .item-name .result)) (c .before .before .before .before .before .before .before .before .before .before .before .before .before .before .before .before .before .before .before .item-kind .result) (c .before .before .before .before .before .before .before .before .before .before .before .before .before .before .before .before .item-visibility .result) (c .before .before .before .before .before .before .before .before .before .before .before .before .before .put-start .result) (c .before .before .before .before .before .before .before .before .before .before .before .before .before .put-start .ensures .1) (c .before .before .before .before .before .before .before .before .before .before .before .before .before .put-start .ensures .0) (itemBytes (c .before .before .before .before .before .before .before .before .before .before .before .before .before .before .before .before .before .before .before .before .before .before .before .before .args .s .now) (c .before .before .before .before .before .before .before .before .before .before .before .before .before .before .before .before .before .before .before .before .before .before .before .before .args .file .now) (c .before .before .before .before .before .before .before .before .before .before .before .before .before .before .before .before .before .before .before .before .before .before .before .before .args .depth) (c .before .before .before .before .before .before .before .before .before .before .before .before .before .before .before .before .before .before .before .before .before .before .before .before .args .place)) (c .before .before .before .before .before .before .before .before .before .before .before .before .before .before .before .before .before .before .before .before .before .before .before .before .pre .1 .1 .1 .0) (c .before .before .before .before .before .before .before .before .before .before .before .before .before .before .before .before .before .before .before .before .before .before .before .before .pre .1 .1 .1 .1) (itemsBytes (c .before .before .before .before .before .before .before .before .before .before .before .before .before .before .before .before .before .before .before .before .before .before .before .before .args .s .now) (c .before .before .before .before .before .before .before .before .before .before .before .before .before .before .before .before .before .before .before .before .before .before .before .before .args .file .now) (c .before .before .before .before .before .before .before .before .before .before .before .before .before .before .before .before .before .before .before .before .before .before .before .before .args .depth - 1) (c .before .before .before .before .before .before .before .before .module-items .result .end) (c .before .before .before .before .before .before .before .before .module-items .result .at)) (by-name-inside (itemBytes (c .before .before .before .before .before .before .before .before .before .before .before .before .before .before .before .before .before .before .before .before .before .before .before .before .args .s .now) (c .before .before .before .before .before .before .before .before .before .before .before .before .before .before .before .before .before .before .before .before .before .before .before .before .args .file .now) (c .before .before .before .before .before .before .before .before .before .before .before .before .before .before .before .before .before .before .before .before .before .before .before .before .args .depth) (c .before .before .before .before .before .before .before .before .before .before .before .before .before .before .before .before .before .before .before .before .before .before .before .before .args .place)) (now (c .before .before .before .before .before .before .before .before .before .before .before .before .before .before .item-name .result)) (text (c .before .before .before .before .before .before .before .before .before .before .before .before .before .before .before .before .before .before .before .before .before .before .before .before .args .s .now) (c .before .before .before .before .before .before .before .before .before .before .before .before .before .before .before .before .before .before .before .before .before .before .before .before .args .place + 4)) (itemsBytes (c .before .before .before .before .before .before .before .before .before .before .before .before .before .before .before .before .before .before .before .before .before .before .before .before .args .s .now) (c .before .before .before .before .before .before .before .before .before .before .before .before .before .before .before .before .before .before .before .before .before .before .before .before .args .file .now) (c .before .before .before .before .before .before .before .before .before .before .before .before .before .before .before .before .before .before .before .before .before .before .before .before .args .depth - 1) (c .before .before .before .before .before .before .before .before .module-items .result .end) (c .before .before .before .before .before .before .before .before .module-items .result .at)) (c .before .before .before .before .before .before .before .before .before .before .before .before .before .before .before .before .before .before .before .item-kind .result) (c .before .before .before .before .before .before .before .before .before .before .before .before .before .before .before .before .item-visibility .result) (byte (c .before .before .before .before .before .before .before .before .before .before .before .before .before .before .before .before .before .before .before .before .before .before .before .before .args .s .now) (c .before .before .before .before .before .before .before .before .before .before .before .before .before .before .before .before .before .before .before .before .before .before .before .before .args .place + 3)) (name-text (c .before .before .before .before .before .before .before .before .before .before .before .before .before .before .before .before .before .before .before .before .before .before .before .before .args .s .now) (c .before .before .before .before .before .before .before .before .before .before .before .before .before .before .before .before .before .before .before .before .before .before .before .before .args .place) (c .before .before .before .before .before .before .before .before .before .before .before .before .before .before .before .before .before .before .before .item-kind .result) (c .before .before .before .before .before .before .before .before .before .before .before .before .before .before .before .before .before .before .before .item-kind .ensures) (now (c .before .before .before .before .before .before .before .before .before .before .before .before .before .before .item-name .result)) (c .before .before .before .before .before .before .before .before .before .before .before .before .before .before .before .before .before .if2 .left) (c .before .before .before .before .before .before .before .before .before .before .before .before .before .before .before .before .before .before .if1 .left) (c .before .before .before .before .before .before .before .before .before .before .before .before .before .before .item-name .ensures)) (visibility-at (c .before .before .before .before .before .before .before .before .before .before .before .before .before .before .before .before .before .before .before .before .before .before .before .before .args .s .now) (c .before .before .before .before .before .before .before .before .before .before .before .before .before .before .before .before .before .before .before .before .before .before .before .before .args .place) (c .before .before .before .before .before .before .before .before .before .before .before .before .before .before .before .before .item-visibility .result) (c .before .before .before .before .before .before .before .before .before .before .before .before .before .before .before .before .item-visibility .ensures)) (module-bytes (c .before .before .before .before .before .before .before .before .before .before .before .before .before .before .before .before .before .before .before .before .before .before .before .before .args .s .now) (c .before .before .before .before .before .before .before .before .before .before .before .before .before .before .before .before .before .before .before .before .before .before .before .before .args .place) (c .before .before .before .before .before .before .before .before .before .before .before .before .before .before .before .before .before .before .before .item-kind .result) (c .before .before .before .before .before .before .before .before .before .before .before .before .before .before .before .before .before .before .before .item-kind .ensures) (c .before .before .before .before .before .before .before .before .before .before .before .before .before .before .before .before .before .before .before .before .before .before .before .before .args .file .now) (c .before .before .before .before .before .before .before .before .before .before .before .before .before .before .before .before .before .before .before .before .before .before .before .before .args .depth) (c .before .before .before .before .before .before .before .before .module-items .result .end) (c .before .before .before .before .before .before .before .before .module-items .result .at) (c .before .before .before .before .before .before .before .before .before .before .if3 .left) (c .before .before .before .before .before .before .before .before .before .if4 .left) (c .before .before .before .before .before .before .before .before .module-items .ensures .0))) (c .before .before .before .before .before .before .write-items .last .1 .1 .1 .1 .1 .1 .1 .1 .1 .0) (c .before .before .before .before .before .before .write-items .result) (c .before .before .before .before .before .before .write-items .ensures .1) (c .before .before .before .before .before .before .write-items .ensures .0) .1 in let g : Fits w64 (c .before .before .before .before .before .before .before .before .before .before .before .before .before .put-start .result + c .before .before .before .before .before .before .write-items .result) = omega arith in g
+write-item-add-result t c = let h = inside-length (inside t (c .before .before .before .before .before .before .before .before)) (c .before .before .before .before .before .before .write-items .last .1 .1 .1 .1 .1 .1 .1 .1 .1 .0) (c .before .before .before .before .before .before .write-items .result) (c .before .before .before .before .before .before .write-items .ensures) .1 in let g : Fits w64 (c .before .before .before .before .before .before .before .before .before .before .before .before .before .put-start .result + c .before .before .before .before .before .before .write-items .result) = omega arith in g
 
--- src/writing.rt:152:1
 write-item-same-length-4 : (t : ℕ) → write-item-lts.Need-same-length-4 (
   item-kind-reads.Asked,
   item-kind-reads.Learnt,
@@ -645,7 +650,6 @@ write-item-same-length-4 : (t : ℕ) → write-item-lts.Need-same-length-4 (
 ) (write-item-at t) write-item.Post
 write-item-same-length-4 t c = search needs
 
--- src/writing.rt:152:1
 write-item-returns-5 : (t : ℕ) → write-item-lts.Need-returns-5 (
   item-kind-reads.Asked,
   item-kind-reads.Learnt,
@@ -664,7 +668,7 @@ write-item-returns-5 : (t : ℕ) → write-item-lts.Need-returns-5 (
   write-items-below t,
   write-items.Post,
 ) (write-item-at t) write-item.Post
-write-item-returns-5 t c = inside-done (now (c .before .before .before .before .before .before .before .before .before .before .before .before .before .before .before .before .before .before .before .before .before .before .before .before .args .out)) (c .before .before .before .before .before .before .before .before .before .before .before .before .before .put-start .last .0) (now (c .before .before .before .before .before .before .before .before .before .before .before .before .before .before .item-name .result)) (c .before .before .before .before .before .before .before .before .before .before .before .before .before .before .before .before .before .before .before .item-kind .result) (c .before .before .before .before .before .before .before .before .before .before .before .before .before .before .before .before .item-visibility .result) (c .before .before .before .before .before .before .before .before .before .before .before .before .before .put-start .result) (c .before .before .before .before .before .before .before .before .before .before .before .before .before .put-start .ensures .1) (c .before .before .before .before .before .before .before .before .before .before .before .before .before .put-start .ensures .0) (itemBytes (c .before .before .before .before .before .before .before .before .before .before .before .before .before .before .before .before .before .before .before .before .before .before .before .before .args .s .now) (c .before .before .before .before .before .before .before .before .before .before .before .before .before .before .before .before .before .before .before .before .before .before .before .before .args .file .now) (c .before .before .before .before .before .before .before .before .before .before .before .before .before .before .before .before .before .before .before .before .before .before .before .before .args .depth) (c .before .before .before .before .before .before .before .before .before .before .before .before .before .before .before .before .before .before .before .before .before .before .before .before .args .place)) (c .before .before .before .before .before .before .before .before .before .before .before .before .before .before .before .before .before .before .before .before .before .before .before .before .pre .1 .1 .1 .0) (c .before .before .before .before .before .before .before .before .before .before .before .before .before .before .before .before .before .before .before .before .before .before .before .before .pre .1 .1 .1 .1) (itemsBytes (c .before .before .before .before .before .before .before .before .before .before .before .before .before .before .before .before .before .before .before .before .before .before .before .before .args .s .now) (c .before .before .before .before .before .before .before .before .before .before .before .before .before .before .before .before .before .before .before .before .before .before .before .before .args .file .now) (c .before .before .before .before .before .before .before .before .before .before .before .before .before .before .before .before .before .before .before .before .before .before .before .before .args .depth - 1) (c .before .before .before .before .before .before .before .before .module-items .result .end) (c .before .before .before .before .before .before .before .before .module-items .result .at)) (by-name-inside (itemBytes (c .before .before .before .before .before .before .before .before .before .before .before .before .before .before .before .before .before .before .before .before .before .before .before .before .args .s .now) (c .before .before .before .before .before .before .before .before .before .before .before .before .before .before .before .before .before .before .before .before .before .before .before .before .args .file .now) (c .before .before .before .before .before .before .before .before .before .before .before .before .before .before .before .before .before .before .before .before .before .before .before .before .args .depth) (c .before .before .before .before .before .before .before .before .before .before .before .before .before .before .before .before .before .before .before .before .before .before .before .before .args .place)) (now (c .before .before .before .before .before .before .before .before .before .before .before .before .before .before .item-name .result)) (text (c .before .before .before .before .before .before .before .before .before .before .before .before .before .before .before .before .before .before .before .before .before .before .before .before .args .s .now) (c .before .before .before .before .before .before .before .before .before .before .before .before .before .before .before .before .before .before .before .before .before .before .before .before .args .place + 4)) (itemsBytes (c .before .before .before .before .before .before .before .before .before .before .before .before .before .before .before .before .before .before .before .before .before .before .before .before .args .s .now) (c .before .before .before .before .before .before .before .before .before .before .before .before .before .before .before .before .before .before .before .before .before .before .before .before .args .file .now) (c .before .before .before .before .before .before .before .before .before .before .before .before .before .before .before .before .before .before .before .before .before .before .before .before .args .depth - 1) (c .before .before .before .before .before .before .before .before .module-items .result .end) (c .before .before .before .before .before .before .before .before .module-items .result .at)) (c .before .before .before .before .before .before .before .before .before .before .before .before .before .before .before .before .before .before .before .item-kind .result) (c .before .before .before .before .before .before .before .before .before .before .before .before .before .before .before .before .item-visibility .result) (byte (c .before .before .before .before .before .before .before .before .before .before .before .before .before .before .before .before .before .before .before .before .before .before .before .before .args .s .now) (c .before .before .before .before .before .before .before .before .before .before .before .before .before .before .before .before .before .before .before .before .before .before .before .before .args .place + 3)) (name-text (c .before .before .before .before .before .before .before .before .before .before .before .before .before .before .before .before .before .before .before .before .before .before .before .before .args .s .now) (c .before .before .before .before .before .before .before .before .before .before .before .before .before .before .before .before .before .before .before .before .before .before .before .before .args .place) (c .before .before .before .before .before .before .before .before .before .before .before .before .before .before .before .before .before .before .before .item-kind .result) (c .before .before .before .before .before .before .before .before .before .before .before .before .before .before .before .before .before .before .before .item-kind .ensures) (now (c .before .before .before .before .before .before .before .before .before .before .before .before .before .before .item-name .result)) (c .before .before .before .before .before .before .before .before .before .before .before .before .before .before .before .before .before .if2 .left) (c .before .before .before .before .before .before .before .before .before .before .before .before .before .before .before .before .before .before .if1 .left) (c .before .before .before .before .before .before .before .before .before .before .before .before .before .before .item-name .ensures)) (visibility-at (c .before .before .before .before .before .before .before .before .before .before .before .before .before .before .before .before .before .before .before .before .before .before .before .before .args .s .now) (c .before .before .before .before .before .before .before .before .before .before .before .before .before .before .before .before .before .before .before .before .before .before .before .before .args .place) (c .before .before .before .before .before .before .before .before .before .before .before .before .before .before .before .before .item-visibility .result) (c .before .before .before .before .before .before .before .before .before .before .before .before .before .before .before .before .item-visibility .ensures)) (module-bytes (c .before .before .before .before .before .before .before .before .before .before .before .before .before .before .before .before .before .before .before .before .before .before .before .before .args .s .now) (c .before .before .before .before .before .before .before .before .before .before .before .before .before .before .before .before .before .before .before .before .before .before .before .before .args .place) (c .before .before .before .before .before .before .before .before .before .before .before .before .before .before .before .before .before .before .before .item-kind .result) (c .before .before .before .before .before .before .before .before .before .before .before .before .before .before .before .before .before .before .before .item-kind .ensures) (c .before .before .before .before .before .before .before .before .before .before .before .before .before .before .before .before .before .before .before .before .before .before .before .before .args .file .now) (c .before .before .before .before .before .before .before .before .before .before .before .before .before .before .before .before .before .before .before .before .before .before .before .before .args .depth) (c .before .before .before .before .before .before .before .before .module-items .result .end) (c .before .before .before .before .before .before .before .before .module-items .result .at) (c .before .before .before .before .before .before .before .before .before .before .if3 .left) (c .before .before .before .before .before .before .before .before .before .if4 .left) (c .before .before .before .before .before .before .before .before .module-items .ensures .0))) (c .before .before .before .before .before .before .write-items .last .1 .1 .1 .1 .1 .1 .1 .1 .1 .0) (c .before .before .before .before .before .before .write-items .result) (c .before .before .before .before .before .before .write-items .ensures .1) (c .before .before .before .before .before .before .write-items .ensures .0) (c .before .before .put-two3 .last .0) (c .before .before .put-two3 .ensures)
+write-item-returns-5 t c = inside-done (inside t (c .before .before .before .before .before .before .before .before)) (c .before .before .before .before .before .before .write-items .last .1 .1 .1 .1 .1 .1 .1 .1 .1 .0) (c .before .before .before .before .before .before .write-items .result) (c .before .before .before .before .before .before .write-items .ensures) (c .before .before .put-two3 .last .0) (c .before .before .put-two3 .ensures)
 
 abbrev write-items-Inv-loop : write-items-lts.InvT-loop
 write-items-Inv-loop s at file index files units from end depth out₀ sum₀ a₀ out sum a = Filled (itemsBytes s file depth end from) (itemsBytes s file depth end a) out₀ out sum × ((length (itemsBytes s file depth end from) ≤ length out₀) × Brief (itemsAt depth s end a))
@@ -672,7 +676,6 @@ write-items-Inv-loop s at file index files units from end depth out₀ sum₀ a�
 abbrev write-items-μ-loop : write-items-lts.MeasureT-loop
 write-items-μ-loop s at file index files units from end depth out₀ sum₀ a₀ out sum a = end - a
 
--- src/writing.rt:218:5
 write-items-loop-holds : (t : ℕ) → write-items-lts.Need-loop-holds (
   write-item-below t,
   write-item.Post,
@@ -681,7 +684,6 @@ write-items-loop-holds : (t : ℕ) → write-items-lts.Need-loop-holds (
 ) (write-items-at t) write-items.Post write-items-Inv-loop write-items-μ-loop
 write-items-loop-holds t c = (filled-none (itemsBytes (c .before .before .before .before .args .s .now) (c .before .before .before .before .args .file .now) (c .before .before .before .before .args .depth) (c .before .before .before .before .args .end) (c .before .before .before .before .args .from)) (c .before .before .before .before .args .out .now), (c .before .before .before .before .pre .1 .1 .1 .0, c .before .before .before .before .pre .1 .1 .0))
 
--- src/writing.rt:219:72
 write-items-sub-write-item : (t : ℕ) → write-items-lts.Need-sub-write-item (
   write-item-below t,
   write-item.Post,
@@ -690,7 +692,6 @@ write-items-sub-write-item : (t : ℕ) → write-items-lts.Need-sub-write-item (
 ) (write-items-at t) write-items.Post write-items-Inv-loop write-items-μ-loop
 write-items-sub-write-item t c = filled-start _ _ _ _ _ (c .before .loop .inv .0) (c .before .loop .inv .1 .0)
 
--- src/writing.rt:219:72
 write-items-part-write-item-start : (t : ℕ) → write-items-lts.Need-part-write-item-start (
   write-item-below t,
   write-item.Post,
@@ -699,7 +700,6 @@ write-items-part-write-item-start : (t : ℕ) → write-items-lts.Need-part-writ
 ) (write-items-at t) write-items.Post write-items-Inv-loop write-items-μ-loop
 write-items-part-write-item-start t c = let h = filled-start _ _ _ _ _ (c .before .loop .inv .0) (c .before .loop .inv .1 .0) in search needs
 
--- src/writing.rt:219:72
 write-items-part-write-item-end : (t : ℕ) → write-items-lts.Need-part-write-item-end (
   write-item-below t,
   write-item.Post,
@@ -708,27 +708,25 @@ write-items-part-write-item-end : (t : ℕ) → write-items-lts.Need-part-write-
 ) (write-items-at t) write-items.Post write-items-Inv-loop write-items-μ-loop
 write-items-part-write-item-end t c = search needs
 
--- src/writing.rt:219:13
 write-items-write-item-requires : (t : ℕ) → write-items-lts.Need-write-item-requires (
   write-item-below t,
   write-item.Post,
   next-item-reads.Asked,
   next-item-reads.Learnt,
 ) (write-items-at t) write-items.Post write-items-Inv-loop write-items-μ-loop
-write-items-write-item-requires t c κs = 
+write-items-write-item-requires t c κs =
     let r = filled-room _ _ _ _ _ (c .before .before .loop .inv .0) (c .before .before .loop .inv .1 .0) (itemBytes (c .before .before .before .before .before .before .before .args .s .now) (c .before .before .before .before .before .before .before .args .file .now) (c .before .before .before .before .before .before .before .args .depth) (c .before .before .loop .a)) (itemsBytes (c .before .before .before .before .before .before .before .args .s .now) (c .before .before .before .before .before .before .before .args .file .now) (c .before .before .before .before .before .before .before .args .depth) (c .before .before .before .before .before .before .before .args .end) (afterLength (c .before .before .before .before .before .before .before .args .s .now) (c .before .before .loop .a))) (bytes-step (c .before .before .before .before .before .before .before .args .s .now) (c .before .before .before .before .before .before .before .args .file .now) (c .before .before .before .before .before .before .before .args .depth) (c .before .before .before .before .before .before .before .args .end) (c .before .before .loop .a) (c .before .loop-test .taken)) in
     let l = filled-part _ _ _ _ _ (c .before .before .loop .inv .0) (c .before .before .loop .inv .1 .0) (itemBytes (c .before .before .before .before .before .before .before .args .s .now) (c .before .before .before .before .before .before .before .args .file .now) (c .before .before .before .before .before .before .before .args .depth) (c .before .before .loop .a)) (itemsBytes (c .before .before .before .before .before .before .before .args .s .now) (c .before .before .before .before .before .before .before .args .file .now) (c .before .before .before .before .before .before .before .args .depth) (c .before .before .before .before .before .before .before .args .end) (afterLength (c .before .before .before .before .before .before .before .args .s .now) (c .before .before .loop .a))) (bytes-step (c .before .before .before .before .before .before .before .args .s .now) (c .before .before .before .before .before .before .before .args .file .now) (c .before .before .before .before .before .before .before .args .depth) (c .before .before .before .before .before .before .before .args .end) (c .before .before .loop .a) (c .before .loop-test .taken)) in
     let h = c .before .before .before .before .before .before .before .pre .1 .1 .1 .1 in
     (search needs, ((c .before .before .before .before .before .before .before .pre .1 .0 .0, search needs), (brief-here (c .before .before .before .before .before .before .before .args .s .now) (c .before .before .before .before .before .before .before .args .depth) (c .before .before .before .before .before .before .before .args .end) (c .before .before .loop .a) (c .before .loop-test .taken) (c .before .before .loop .inv .1 .1), (r, omega arith))))
 
--- src/writing.rt:220:9
 write-items-add-sum : (t : ℕ) → write-items-lts.Need-add-sum (
   write-item-below t,
   write-item.Post,
   next-item-reads.Asked,
   next-item-reads.Learnt,
 ) (write-items-at t) write-items.Post write-items-Inv-loop write-items-μ-loop
-write-items-add-sum t c = 
+write-items-add-sum t c =
     let r = filled-room _ _ _ _ _ (c .before .before .before .before .before .loop .inv .0) (c .before .before .before .before .before .loop .inv .1 .0) (itemBytes (c .before .before .before .before .before .before .before .before .before .before .args .s .now) (c .before .before .before .before .before .before .before .before .before .before .args .file .now) (c .before .before .before .before .before .before .before .before .before .before .args .depth) (c .before .before .before .before .before .loop .a)) (itemsBytes (c .before .before .before .before .before .before .before .before .before .before .args .s .now) (c .before .before .before .before .before .before .before .before .before .before .args .file .now) (c .before .before .before .before .before .before .before .before .before .before .args .depth) (c .before .before .before .before .before .before .before .before .before .before .args .end) (afterLength (c .before .before .before .before .before .before .before .before .before .before .args .s .now) (c .before .before .before .before .before .loop .a))) (bytes-step (c .before .before .before .before .before .before .before .before .before .before .args .s .now) (c .before .before .before .before .before .before .before .before .before .before .args .file .now) (c .before .before .before .before .before .before .before .before .before .before .args .depth) (c .before .before .before .before .before .before .before .before .before .before .args .end) (c .before .before .before .before .before .loop .a) (c .before .before .before .before .loop-test .taken)) in
     let h = filled-start _ _ _ _ _ (c .before .before .before .before .before .loop .inv .0) (c .before .before .before .before .before .loop .inv .1 .0) in
     let l = lent-length (c .before .before .before .before .before .loop .out) (c .before .before .before .before .before .loop .sum) h in
@@ -737,7 +735,6 @@ write-items-add-sum t c =
     let g : c .before .before .before .before .before .loop .sum + c .before .before .write-item .result ≤ length (c .before .before .before .before .before .before .before .before .before .before .args .out .now) = omega arith in
     omega arith
 
--- src/writing.rt:221:9
 write-items-next-item-requires : (t : ℕ) → write-items-lts.Need-next-item-requires (
   write-item-below t,
   write-item.Post,
@@ -746,7 +743,6 @@ write-items-next-item-requires : (t : ℕ) → write-items-lts.Need-next-item-re
 ) (write-items-at t) write-items.Post write-items-Inv-loop write-items-μ-loop
 write-items-next-item-requires t c κs = search needs
 
--- src/writing.rt:218:5
 write-items-loop-less : (t : ℕ) → write-items-lts.Need-loop-less (
   write-item-below t,
   write-item.Post,
@@ -755,7 +751,6 @@ write-items-loop-less : (t : ℕ) → write-items-lts.Need-loop-less (
 ) (write-items-at t) write-items.Post write-items-Inv-loop write-items-μ-loop
 write-items-loop-less t c = search needs
 
--- src/writing.rt:218:5
 write-items-loop-again : (t : ℕ) → write-items-lts.Need-loop-again (
   write-item-below t,
   write-item.Post,
@@ -764,7 +759,6 @@ write-items-loop-again : (t : ℕ) → write-items-lts.Need-loop-again (
 ) (write-items-at t) write-items.Post write-items-Inv-loop write-items-μ-loop
 write-items-loop-again t c = (filled-more _ _ _ _ _ (c .before .before .before .before .before .before .loop .inv .0) (c .before .before .before .before .before .before .loop .inv .1 .0) (itemBytes (c .before .before .before .before .before .before .before .before .before .before .before .args .s .now) (c .before .before .before .before .before .before .before .before .before .before .before .args .file .now) (c .before .before .before .before .before .before .before .before .before .before .before .args .depth) (c .before .before .before .before .before .before .loop .a)) (itemsBytes (c .before .before .before .before .before .before .before .before .before .before .before .args .s .now) (c .before .before .before .before .before .before .before .before .before .before .before .args .file .now) (c .before .before .before .before .before .before .before .before .before .before .before .args .depth) (c .before .before .before .before .before .before .before .before .before .before .before .args .end) (c .next-item .result)) (c .before .before .before .write-item .last .1 .1 .1 .1 .1 .1 .1 .1 .0) (c .before .before .before .write-item .result) (next-bytes (c .before .before .before .before .before .before .before .before .before .before .before .args .s .now) (c .before .before .before .before .before .before .before .before .before .before .before .args .file .now) (c .before .before .before .before .before .before .before .before .before .before .before .args .depth) (c .before .before .before .before .before .before .before .before .before .before .before .args .end) (c .before .before .before .before .before .before .loop .a) (c .next-item .result) (c .before .before .before .before .before .loop-test .taken) (c .next-item .ensures .0)) (c .before .before .before .write-item .ensures .1) (c .before .before .before .write-item .ensures .0), (c .before .before .before .before .before .before .loop .inv .1 .0, brief-next (c .before .before .before .before .before .before .before .before .before .before .before .args .s .now) (c .before .before .before .before .before .before .before .before .before .before .before .args .depth) (c .before .before .before .before .before .before .before .before .before .before .before .args .end) (c .before .before .before .before .before .before .loop .a) (c .next-item .result) (c .before .before .before .before .before .loop-test .taken) (c .next-item .ensures .0) (c .before .before .before .before .before .before .loop .inv .1 .1) .1))
 
--- src/writing.rt:201:1
 write-items-same-length : (t : ℕ) → write-items-lts.Need-same-length (
   write-item-below t,
   write-item.Post,
@@ -773,7 +767,6 @@ write-items-same-length : (t : ℕ) → write-items-lts.Need-same-length (
 ) (write-items-at t) write-items.Post write-items-Inv-loop write-items-μ-loop
 write-items-same-length t c = filled-length _ _ _ _ _ (c .before .loop .inv .0) (c .before .loop .inv .1 .0)
 
--- src/writing.rt:201:1
 write-items-returns : (t : ℕ) → write-items-lts.Need-returns (
   write-item-below t,
   write-item.Post,

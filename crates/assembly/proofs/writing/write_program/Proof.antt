@@ -1,21 +1,17 @@
+-- `write_program` meets its contract. Assumes nothing.
+use Prim.Native.Nat.{ℕ, _+_, _-_, _≤_, _<_}
+use native.Mathlib.Omega.{arith}
+use mathlib.Core.Path.{_≡_, sym, ap, subst, _∙_}
+use lib.ListN.{length, getD, take, drop}
+use denote.Ref.{now}
+use borrow.Rule.Slice.PartMut.{midOf}
+use borrow.Author.Needs.{needs}
+use Rattle.bundle.specs.Decode.{decode}
 use Rattle.order.specs.Writing.{started}
 use Rattle.assembly.specs.Linked.{programBytes, unitBytes, below, order-step, order-end}
 use Rattle.assembly.specs.Parts.{Filled, lent-length, filled-none, filled-length, filled-start, filled-room, filled-part, filled-more, filled-all}
-use borrow.Rule.Slice.PartMut.{midOf}
-use Rattle.bundle.specs.Decode.{decode}
-use denote.Ref.{now}
-use lib.ListN.{length, getD, take, drop, length-append}
-use mathlib.Core.List.{List, [], _∷_, _++_}
-use mathlib.Core.Path.{_≡_, refl, sym, ap, subst, _∙_}
-use native.Mathlib.Omega.{arith}
-use Prim.Native.Nat.{ℕ, suc, _+_, _-_, _*_, _≤_, _<_, min}
-use borrow.Author.Needs.{needs}
 use Rattle.assembly.proofs.writing.write_program.Statement.{statement}
 use Rattle.assembly.proofs.writing.write_program.Tie as tie
-use Rattle.assembly.proofs.writing.write_program.Reads as reads
-use Rattle.assembly.proofs.writing.write_program.Lts as lts
-use Rattle.assembly.proofs.writing.wide.Reads as wide-reads
-use Rattle.assembly.proofs.writing.write_unit.Reads as write-unit-reads
 
 abbrev Inv-loop : tie.InvT-loop
 Inv-loop s at files ids units out₀ sum₀ i₀ out sum i = (i ≤ units) × (Filled (programBytes (decode s) (take units ids)) (programBytes (decode s) (drop i (take units ids))) out₀ out sum × (length (programBytes (decode s) (take units ids)) ≤ length out₀))
@@ -23,37 +19,29 @@ Inv-loop s at files ids units out₀ sum₀ i₀ out sum i = (i ≤ units) × (F
 abbrev μ-loop : tie.MeasureT-loop
 μ-loop s at files ids units out₀ sum₀ i₀ out sum i = units - i
 
--- src/writing.rt:284:5
 loop-holds : tie.Need-loop-holds Inv-loop μ-loop
 loop-holds c = (omega arith, (filled-none (programBytes (decode (c .before .before .before .before .args .s .now)) (take (c .before .before .before .before .args .units) (c .before .before .before .before .args .ids .now))) (c .before .before .before .before .args .out .now), c .before .before .before .before .pre .1 .0))
 
--- src/writing.rt:285:54
 mul-wide : tie.Need-mul-wide Inv-loop μ-loop
 mul-wide c = search needs
 
--- src/writing.rt:285:54
 shared-slice-read-wide : tie.Need-shared-slice-read-wide Inv-loop μ-loop
 shared-slice-read-wide c = search needs
 
--- src/writing.rt:285:49
 wide-requires : tie.Need-wide-requires Inv-loop μ-loop
 wide-requires c κs = search needs
 
--- src/writing.rt:285:63
 sub-write-unit : tie.Need-sub-write-unit Inv-loop μ-loop
 sub-write-unit c = filled-start _ _ _ _ _ (c .before .before .before .loop .inv .1 .0) (c .before .before .before .loop .inv .1 .1)
 
--- src/writing.rt:285:63
 part-write-unit-start : tie.Need-part-write-unit-start Inv-loop μ-loop
 part-write-unit-start c = let h = filled-start _ _ _ _ _ (c .before .before .before .loop .inv .1 .0) (c .before .before .before .loop .inv .1 .1) in search needs
 
--- src/writing.rt:285:63
 part-write-unit-end : tie.Need-part-write-unit-end Inv-loop μ-loop
 part-write-unit-end c = search needs
 
--- src/writing.rt:285:13
 write-unit-requires : tie.Need-write-unit-requires Inv-loop μ-loop
-write-unit-requires c κs = 
+write-unit-requires c κs =
     let r = filled-room _ _ _ _ _ (c .before .before .before .before .loop .inv .1 .0) (c .before .before .before .before .loop .inv .1 .1) (unitBytes (decode (c .before .before .before .before .before .before .before .before .before .args .s .now)) (getD (c .before .before .before .before .before .before .before .before .before .args .ids .now) (c .before .before .before .before .loop .i) 0)) (programBytes (decode (c .before .before .before .before .before .before .before .before .before .args .s .now)) (drop (c .before .before .before .before .loop .i + 1) (take (c .before .before .before .before .before .before .before .before .before .args .units) (c .before .before .before .before .before .before .before .before .before .args .ids .now)))) (order-step (c .before .before .before .before .before .before .before .before .before .args .s .now) (c .before .before .before .before .before .before .before .before .before .args .files .now) (c .before .before .before .before .before .before .before .before .before .args .ids .now) (c .before .before .before .before .before .before .before .before .before .args .units) (c .before .before .before .before .before .before .before .before .before .pre .0 .1) (c .before .before .before .before .loop .i) (c .before .before .before .loop-test .taken)) in
     let l = filled-part _ _ _ _ _ (c .before .before .before .before .loop .inv .1 .0) (c .before .before .before .before .loop .inv .1 .1) (unitBytes (decode (c .before .before .before .before .before .before .before .before .before .args .s .now)) (getD (c .before .before .before .before .before .before .before .before .before .args .ids .now) (c .before .before .before .before .loop .i) 0)) (programBytes (decode (c .before .before .before .before .before .before .before .before .before .args .s .now)) (drop (c .before .before .before .before .loop .i + 1) (take (c .before .before .before .before .before .before .before .before .before .args .units) (c .before .before .before .before .before .before .before .before .before .args .ids .now)))) (order-step (c .before .before .before .before .before .before .before .before .before .args .s .now) (c .before .before .before .before .before .before .before .before .before .args .files .now) (c .before .before .before .before .before .before .before .before .before .args .ids .now) (c .before .before .before .before .before .before .before .before .before .args .units) (c .before .before .before .before .before .before .before .before .before .pre .0 .1) (c .before .before .before .before .loop .i) (c .before .before .before .loop-test .taken)) in
     let b = below (c .before .before .before .before .before .before .before .before .before .args .s .now) (c .before .before .before .before .before .before .before .before .before .args .files .now) (c .before .before .before .before .before .before .before .before .before .args .ids .now) (c .before .before .before .before .before .before .before .before .before .args .units) (c .before .before .before .before .before .before .before .before .before .pre .0 .1) (c .before .before .before .before .loop .i) (c .before .before .before .loop-test .taken) in
@@ -61,9 +49,8 @@ write-unit-requires c κs =
     let h = c .before .before .before .before .before .before .before .before .before .pre .1 .1 in
     (((c .before .before .before .before .before .before .before .before .before .pre .0 .0, c .before .before .before .before .before .before .before .before .before .pre .0 .1 .of-units), omega arith), subst (λ (u : ℕ). (length (unitBytes (decode (c .before .before .before .before .before .before .before .before .before .args .s .now)) u) ≤ length (midOf (c .before .before .before .before .loop .sum) (length (c .before .before .before .before .loop .out) - c .before .before .before .before .loop .sum) (c .before .before .before .before .loop .out))) × (length (unitBytes (decode (c .before .before .before .before .before .before .before .before .before .args .s .now)) u) < 65536)) (sym w) (r, omega arith))
 
--- src/writing.rt:286:9
 add-sum : tie.Need-add-sum Inv-loop μ-loop
-add-sum c = 
+add-sum c =
     let r = filled-room _ _ _ _ _ (c .before .before .before .before .before .before .before .loop .inv .1 .0) (c .before .before .before .before .before .before .before .loop .inv .1 .1) (unitBytes (decode (c .before .before .before .before .before .before .before .before .before .before .before .before .args .s .now)) (getD (c .before .before .before .before .before .before .before .before .before .before .before .before .args .ids .now) (c .before .before .before .before .before .before .before .loop .i) 0)) (programBytes (decode (c .before .before .before .before .before .before .before .before .before .before .before .before .args .s .now)) (drop (c .before .before .before .before .before .before .before .loop .i + 1) (take (c .before .before .before .before .before .before .before .before .before .before .before .before .args .units) (c .before .before .before .before .before .before .before .before .before .before .before .before .args .ids .now)))) (order-step (c .before .before .before .before .before .before .before .before .before .before .before .before .args .s .now) (c .before .before .before .before .before .before .before .before .before .before .before .before .args .files .now) (c .before .before .before .before .before .before .before .before .before .before .before .before .args .ids .now) (c .before .before .before .before .before .before .before .before .before .before .before .before .args .units) (c .before .before .before .before .before .before .before .before .before .before .before .before .pre .0 .1) (c .before .before .before .before .before .before .before .loop .i) (c .before .before .before .before .before .before .loop-test .taken)) in
     let h = filled-start _ _ _ _ _ (c .before .before .before .before .before .before .before .loop .inv .1 .0) (c .before .before .before .before .before .before .before .loop .inv .1 .1) in
     let l = lent-length (c .before .before .before .before .before .before .before .loop .out) (c .before .before .before .before .before .before .before .loop .sum) h in
@@ -72,23 +59,18 @@ add-sum c =
     let g : c .before .before .before .before .before .before .before .loop .sum + c .before .before .write-unit .result ≤ length (c .before .before .before .before .before .before .before .before .before .before .before .before .args .out .now) = omega arith in
     omega arith
 
--- src/writing.rt:287:9
 add-i : tie.Need-add-i Inv-loop μ-loop
 add-i c = search needs
 
--- src/writing.rt:284:5
 loop-less : tie.Need-loop-less Inv-loop μ-loop
 loop-less c = search needs
 
--- src/writing.rt:284:5
 loop-again : tie.Need-loop-again Inv-loop μ-loop
 loop-again c = (omega arith, (filled-more _ _ _ _ _ (c .before .before .before .before .before .before .before .loop .inv .1 .0) (c .before .before .before .before .before .before .before .loop .inv .1 .1) (unitBytes (decode (c .before .before .before .before .before .before .before .before .before .before .before .before .args .s .now)) (getD (c .before .before .before .before .before .before .before .before .before .before .before .before .args .ids .now) (c .before .before .before .before .before .before .before .loop .i) 0)) (programBytes (decode (c .before .before .before .before .before .before .before .before .before .before .before .before .args .s .now)) (drop (c .before .before .before .before .before .before .before .loop .i + 1) (take (c .before .before .before .before .before .before .before .before .before .before .before .before .args .units) (c .before .before .before .before .before .before .before .before .before .before .before .before .args .ids .now)))) (c .before .before .write-unit .last .1 .1 .1 .1 .1 .0) (c .before .before .write-unit .result) (order-step (c .before .before .before .before .before .before .before .before .before .before .before .before .args .s .now) (c .before .before .before .before .before .before .before .before .before .before .before .before .args .files .now) (c .before .before .before .before .before .before .before .before .before .before .before .before .args .ids .now) (c .before .before .before .before .before .before .before .before .before .before .before .before .args .units) (c .before .before .before .before .before .before .before .before .before .before .before .before .pre .0 .1) (c .before .before .before .before .before .before .before .loop .i) (c .before .before .before .before .before .before .loop-test .taken)) (c .before .before .write-unit .ensures .1 ∙ ap (λ (u : ℕ). started (unitBytes (decode (c .before .before .before .before .before .before .before .before .before .before .before .before .args .s .now)) u) (midOf (c .before .before .before .before .before .before .before .loop .sum) (length (c .before .before .before .before .before .before .before .loop .out) - c .before .before .before .before .before .before .before .loop .sum) (c .before .before .before .before .before .before .before .loop .out))) (c .before .before .before .before .wide .ensures)) (c .before .before .write-unit .ensures .0 ∙ ap (λ (u : ℕ). length (unitBytes (decode (c .before .before .before .before .before .before .before .before .before .before .before .before .args .s .now)) u)) (c .before .before .before .before .wide .ensures)), c .before .before .before .before .before .before .before .loop .inv .1 .1))
 
--- src/writing.rt:271:1
 same-length : tie.Need-same-length Inv-loop μ-loop
 same-length c = filled-length _ _ _ _ _ (c .before .loop .inv .1 .0) (c .before .loop .inv .1 .1)
 
--- src/writing.rt:271:1
 returns : tie.Need-returns Inv-loop μ-loop
 returns c = filled-all _ _ _ _ _ (c .before .loop .inv .1 .0) (c .before .loop .inv .1 .1) (order-end (c .before .before .before .before .before .before .args .s .now) (c .before .before .before .before .before .before .args .files .now) (c .before .before .before .before .before .before .args .ids .now) (c .before .before .before .before .before .before .args .units) (c .before .before .before .before .before .before .pre .0 .1) (c .before .loop .i) (c .loop-test .left))
 

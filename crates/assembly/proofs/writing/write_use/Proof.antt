@@ -1,55 +1,38 @@
-use Rattle.assembly.specs.Parts.{started-length}
-use lib.Seq.{length-take-le}
-use Rattle.assembly.specs.Walk.{useBytes, visibility-at}
-use borrow.Rule.Slice.PartMut.{midOf}
-use Rattle.assembly.specs.Parts.{front-long, front-start, front-room, front-fits, front-sum, front-all, put-first, put-kind, put-whole, put-length, headBytes, kept-start, then-filled, lent-length}
-use Rattle.assembly.specs.Strings.{stringBytes, string-length}
-use Rattle.order.specs.Writing.{started}
-use Rattle.bundle.specs.Encode.{string, counted, element}
-use Rattle.names.specs.Decimal.{unitName}
-use Rattle.names.specs.Bytes.{ascii}
-use denote.Ref.{now}
-use lib.ListN.{length, take, length-append}
-use mathlib.Core.List.{List, [], _∷_, _++_}
-use mathlib.Core.Path.{_≡_, refl, sym, ap, subst, _∙_}
+-- `write_use` meets its contract. Assumes nothing.
+use Prim.Native.Nat.{ℕ, _+_}
 use native.Mathlib.Omega.{arith}
-use Prim.Native.Nat.{ℕ, suc, _+_, _-_, _*_, _≤_, _<_}
+use mathlib.Core.List.{_++_}
+use mathlib.Core.Path.{_≡_, sym, ap, _∙_}
+use lib.Seq.{length-take-le}
+use lib.ListN.{length, take, length-append}
+use denote.Ref.{now}
 use borrow.Author.Needs.{needs}
+use Rattle.order.specs.Writing.{started}
+use Rattle.assembly.specs.Parts.{started-length, put-whole, headBytes, kept-start, then-filled}
+use Rattle.assembly.specs.Walk.{useBytes, visibility-at}
 use Rattle.assembly.proofs.writing.write_use.Statement.{statement}
 use Rattle.assembly.proofs.writing.write_use.Tie as tie
-use Rattle.assembly.proofs.writing.write_use.Reads as reads
-use Rattle.assembly.proofs.writing.write_use.Lts as lts
-use Rattle.assembly.proofs.bytes.put_head.Reads as put-head-reads
-use Rattle.assembly.proofs.writing.rewrite_use.Reads as rewrite-use-reads
-use Rattle.bundle.proofs.item_visibility.Reads as item-visibility-reads
 
--- src/writing.rt:146:66
 sub-rewrite-use : tie.Need-sub-rewrite-use
 sub-rewrite-use c = search needs
 
--- src/writing.rt:146:66
 part-rewrite-use-start : tie.Need-part-rewrite-use-start
 part-rewrite-use-start c = search needs
 
--- src/writing.rt:146:66
 part-rewrite-use-end : tie.Need-part-rewrite-use-end
 part-rewrite-use-end c = search needs
 
--- src/writing.rt:146:9
 rewrite-use-requires : tie.Need-rewrite-use-requires
 rewrite-use-requires c κs = search needs
 
--- src/writing.rt:147:19
 add-put-head : tie.Need-add-put-head
 add-put-head c = search needs
 
--- src/writing.rt:147:31
 item-visibility-requires : tie.Need-item-visibility-requires
 item-visibility-requires c κs = search needs
 
--- src/writing.rt:147:5
 put-head-requires : tie.Need-put-head-requires
-put-head-requires c κs = 
+put-head-requires c κs =
     let r : c .before .before .before .before .rewrite-use .result ≡ length (useBytes (c .before .before .before .before .before .before .before .before .before .before .args .s .now) (c .before .before .before .before .before .before .before .before .before .before .args .file .now) (c .before .before .before .before .before .before .before .before .before .before .args .place)) = c .before .before .before .before .rewrite-use .ensures .0 in
     let p = c .before .before .before .before .before .before .before .before .before .before .pre .1 .1 .1 in
     let q = c .before .before .before .before .before .before .before .before .before .before .pre .1 .1 .0 in
@@ -58,21 +41,20 @@ put-head-requires c κs =
     let l = ap length (then-filled (take 4 (now (c .before .before .before .before .before .before .before .before .before .before .args .out))) (now (c .before .before .before .before .before .before .before .before .before .before .args .out)) (let l = length-take-le 4 (now (c .before .before .before .before .before .before .before .before .before .before .args .out)) (let q = c .before .before .before .before .before .before .before .before .before .before .pre .1 .1 .0 in omega arith) in omega arith) (useBytes (c .before .before .before .before .before .before .before .before .before .before .args .s .now) (c .before .before .before .before .before .before .before .before .before .before .args .file .now) (c .before .before .before .before .before .before .before .before .before .before .args .place)) (now (c .before .before .before .before .before .before .before .before .before .before .args .out)) (c .before .before .before .before .rewrite-use .last .1 .1 .1 .1 .1 .1 .1 .0) 4 (kept-start 4 (now (c .before .before .before .before .before .before .before .before .before .before .args .out)) (let q = c .before .before .before .before .before .before .before .before .before .before .pre .1 .1 .0 in omega arith)) (sym (length-take-le 4 (now (c .before .before .before .before .before .before .before .before .before .before .args .out)) (let q = c .before .before .before .before .before .before .before .before .before .before .pre .1 .1 .0 in omega arith))) (c .before .before .before .before .rewrite-use .ensures .1)) ∙ started-length (take 4 (now (c .before .before .before .before .before .before .before .before .before .before .args .out)) ++ (useBytes (c .before .before .before .before .before .before .before .before .before .before .args .s .now) (c .before .before .before .before .before .before .before .before .before .before .args .file .now) (c .before .before .before .before .before .before .before .before .before .before .args .place))) (now (c .before .before .before .before .before .before .before .before .before .before .args .out)) (let l = length-take-le 4 (now (c .before .before .before .before .before .before .before .before .before .before .args .out)) (let q = c .before .before .before .before .before .before .before .before .before .before .pre .1 .1 .0 in omega arith) in let q = c .before .before .before .before .before .before .before .before .before .before .pre .1 .1 .0 in omega (arith, length-append (take 4 (now (c .before .before .before .before .before .before .before .before .before .before .args .out))) (useBytes (c .before .before .before .before .before .before .before .before .before .before .args .s .now) (c .before .before .before .before .before .before .before .before .before .before .args .file .now) (c .before .before .before .before .before .before .before .before .before .before .args .place)))) in
     (omega arith, (omega arith, (omega arith, omega arith)))
 
--- src/writing.rt:148:5
 add-result : tie.Need-add-result
 add-result c = search needs
 
--- src/writing.rt:133:1
 same-length : tie.Need-same-length
 same-length c = search needs
 
--- src/writing.rt:133:1
 returns : tie.Need-returns
-returns c = 
+returns c =
     let r : c .before .before .before .before .before .before .before .rewrite-use .result ≡ length (useBytes (c .before .before .before .before .before .before .before .before .before .before .before .before .before .args .s .now) (c .before .before .before .before .before .before .before .before .before .before .before .before .before .args .file .now) (c .before .before .before .before .before .before .before .before .before .before .before .before .before .args .place)) = c .before .before .before .before .before .before .before .rewrite-use .ensures .0 in
-    let v = visibility-at (c .before .before .before .before .before .before .before .before .before .before .before .before .before .args .s .now) (c .before .before .before .before .before .before .before .before .before .before .before .before .before .args .place) (c .before .before .before .item-visibility .result) (c .before .before .before .item-visibility .ensures) in
-    (ap (λ (n : ℕ). 4 + n) r, put-whole (useBytes (c .before .before .before .before .before .before .before .before .before .before .before .before .before .args .s .now) (c .before .before .before .before .before .before .before .before .before .before .before .before .before .args .file .now) (c .before .before .before .before .before .before .before .before .before .before .before .before .before .args .place)) (now (c .before .before .before .before .before .before .before .before .before .before .before .before .before .args .out)) _ (c .before .before .put-head .last .0) (2 + c .before .before .before .before .before .before .before .rewrite-use .result) 3 (c .before .before .before .item-visibility .result) (let q = c .before .before .before .before .before .before .before .before .before .before .before .before .before .pre .1 .1 .0 in omega arith) (then-filled (take 4 (now (c .before .before .before .before .before .before .before .before .before .before .before .before .before .args .out))) (now (c .before .before .before .before .before .before .before .before .before .before .before .before .before .args .out)) (let l = length-take-le 4 (now (c .before .before .before .before .before .before .before .before .before .before .before .before .before .args .out)) (let q = c .before .before .before .before .before .before .before .before .before .before .before .before .before .pre .1 .1 .0 in omega arith) in omega arith) (useBytes (c .before .before .before .before .before .before .before .before .before .before .before .before .before .args .s .now) (c .before .before .before .before .before .before .before .before .before .before .before .before .before .args .file .now) (c .before .before .before .before .before .before .before .before .before .before .before .before .before .args .place)) (now (c .before .before .before .before .before .before .before .before .before .before .before .before .before .args .out)) (c .before .before .before .before .before .before .before .rewrite-use .last .1 .1 .1 .1 .1 .1 .1 .0) 4 (kept-start 4 (now (c .before .before .before .before .before .before .before .before .before .before .before .before .before .args .out)) (let q = c .before .before .before .before .before .before .before .before .before .before .before .before .before .pre .1 .1 .0 in omega arith)) (sym (length-take-le 4 (now (c .before .before .before .before .before .before .before .before .before .before .before .before .before .args .out)) (let q = c .before .before .before .before .before .before .before .before .before .before .before .before .before .pre .1 .1 .0 in omega arith))) (c .before .before .before .before .before .before .before .rewrite-use .ensures .1)) (c .before .before .put-head .ensures)
-    ∙ (ap (λ (n : ℕ). started (headBytes (2 + n) 3 (c .before .before .before .item-visibility .result) ++ (useBytes (c .before .before .before .before .before .before .before .before .before .before .before .before .before .args .s .now) (c .before .before .before .before .before .before .before .before .before .before .before .before .before .args .file .now) (c .before .before .before .before .before .before .before .before .before .before .before .before .before .args .place))) (now (c .before .before .before .before .before .before .before .before .before .before .before .before .before .args .out))) r ∙ ap (λ (n : ℕ). started (headBytes (2 + length (useBytes (c .before .before .before .before .before .before .before .before .before .before .before .before .before .args .s .now) (c .before .before .before .before .before .before .before .before .before .before .before .before .before .args .file .now) (c .before .before .before .before .before .before .before .before .before .before .before .before .before .args .place))) 3 n ++ (useBytes (c .before .before .before .before .before .before .before .before .before .before .before .before .before .args .s .now) (c .before .before .before .before .before .before .before .before .before .before .before .before .before .args .file .now) (c .before .before .before .before .before .before .before .before .before .before .before .before .before .args .place))) (now (c .before .before .before .before .before .before .before .before .before .before .before .before .before .args .out))) v))
+    let v = visibility-at (c .before .before .before .before .before .before .before .before .before .before .before .before .before .args .s .now) (c .before .before .before .before .before .before .before .before .before .before .before .before .before .args .place) (c .before .before .before .item-visibility .result) (c .before .before .before .item-visibility .ensures) in (
+      ap (λ (n : ℕ). 4 + n) r,
+      put-whole (useBytes (c .before .before .before .before .before .before .before .before .before .before .before .before .before .args .s .now) (c .before .before .before .before .before .before .before .before .before .before .before .before .before .args .file .now) (c .before .before .before .before .before .before .before .before .before .before .before .before .before .args .place)) (now (c .before .before .before .before .before .before .before .before .before .before .before .before .before .args .out)) _ (c .before .before .put-head .last .0) (2 + c .before .before .before .before .before .before .before .rewrite-use .result) 3 (c .before .before .before .item-visibility .result) (let q = c .before .before .before .before .before .before .before .before .before .before .before .before .before .pre .1 .1 .0 in omega arith) (then-filled (take 4 (now (c .before .before .before .before .before .before .before .before .before .before .before .before .before .args .out))) (now (c .before .before .before .before .before .before .before .before .before .before .before .before .before .args .out)) (let l = length-take-le 4 (now (c .before .before .before .before .before .before .before .before .before .before .before .before .before .args .out)) (let q = c .before .before .before .before .before .before .before .before .before .before .before .before .before .pre .1 .1 .0 in omega arith) in omega arith) (useBytes (c .before .before .before .before .before .before .before .before .before .before .before .before .before .args .s .now) (c .before .before .before .before .before .before .before .before .before .before .before .before .before .args .file .now) (c .before .before .before .before .before .before .before .before .before .before .before .before .before .args .place)) (now (c .before .before .before .before .before .before .before .before .before .before .before .before .before .args .out)) (c .before .before .before .before .before .before .before .rewrite-use .last .1 .1 .1 .1 .1 .1 .1 .0) 4 (kept-start 4 (now (c .before .before .before .before .before .before .before .before .before .before .before .before .before .args .out)) (let q = c .before .before .before .before .before .before .before .before .before .before .before .before .before .pre .1 .1 .0 in omega arith)) (sym (length-take-le 4 (now (c .before .before .before .before .before .before .before .before .before .before .before .before .before .args .out)) (let q = c .before .before .before .before .before .before .before .before .before .before .before .before .before .pre .1 .1 .0 in omega arith))) (c .before .before .before .before .before .before .before .rewrite-use .ensures .1)) (c .before .before .put-head .ensures)
+          ∙ (ap (λ (n : ℕ). started (headBytes (2 + n) 3 (c .before .before .before .item-visibility .result) ++ (useBytes (c .before .before .before .before .before .before .before .before .before .before .before .before .before .args .s .now) (c .before .before .before .before .before .before .before .before .before .before .before .before .before .args .file .now) (c .before .before .before .before .before .before .before .before .before .before .before .before .before .args .place))) (now (c .before .before .before .before .before .before .before .before .before .before .before .before .before .args .out))) r ∙ ap (λ (n : ℕ). started (headBytes (2 + length (useBytes (c .before .before .before .before .before .before .before .before .before .before .before .before .before .args .s .now) (c .before .before .before .before .before .before .before .before .before .before .before .before .before .args .file .now) (c .before .before .before .before .before .before .before .before .before .before .before .before .before .args .place))) 3 n ++ (useBytes (c .before .before .before .before .before .before .before .before .before .before .before .before .before .args .s .now) (c .before .before .before .before .before .before .before .before .before .before .before .before .before .args .file .now) (c .before .before .before .before .before .before .before .before .before .before .before .before .before .args .place))) (now (c .before .before .before .before .before .before .before .before .before .before .before .before .before .args .out))) v),
+    )
 
 pub write-use-spec : {M : Type 1} → statement M
 write-use-spec =
