@@ -5,3 +5,6 @@ pub mod Steps
 pub mod Fit
 pub mod Units
 pub mod Join
+pub mod Theorems
+pub mod Cases
+pub mod Demand

@@ -125,7 +125,7 @@ fn walk_unit(
     let index = files[u];
     let place = bundle::file_at(s, index);
     let items = bundle::file_items(s, place);
-    let r = walk_items(
+    let inside = walk_items(
         &mut *count,
         &mut *kinds,
         &mut *visible,
@@ -152,8 +152,8 @@ fn walk_unit(
         items.end,
         DEPTH,
     );
-    if r.number != 0 {
-        return r;
+    if inside.number != 0 {
+        return inside;
     }
     stop_at(scopes::lent::exit(&mut *depth), 0)
 }

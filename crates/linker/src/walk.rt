@@ -254,7 +254,7 @@ fn walk_item(
         return stop_at(0, 0);
     }
     if kind == USE {
-        let number = use_item(
+        let told = use_item(
             &mut *count,
             &mut *kinds,
             &mut *visible,
@@ -279,7 +279,7 @@ fn walk_item(
             units,
             place,
         );
-        return stop_at(number, place);
+        return stop_at(told, place);
     }
     if kind != MODULE {
         let number = declare_item(
