@@ -2,10 +2,8 @@
 -- same bundles. Assumes nothing.
 use Prim.Native.Nat.{ℕ}
 use Prim.Native.String.{String}
-use mathlib.Core.Bool.{Bool}
 use mathlib.Core.Path.{_≡_, refl}
 use mathlib.Core.List.{List, [], _∷_, map}
-use lib.ListN.{length}
 use Rattle.names.specs.Bytes.{ascii, same, member, all}
 use Rattle.names.specs.Decimal.{digits, decimal, unitName}
 use Rattle.names.specs.Path.{isPath, isComponent, wellFormed, split, onto, components}
@@ -14,7 +12,7 @@ use Rattle.names.specs.Identifier.{isIdentifier, class, letter, digit}
 use Rattle.names.specs.Keywords.{isCrate, isMain, isKeyword, keywords}
 use Rattle.names.specs.Packed.{word, packed, sameName}
 use Rattle.names.specs.declared.Name.{Name}
-use Rattle.bundle.specs.Bundle.{Text, Element, Items, none, named, use-of, module-of, ignored, Remapping, File, Bundle}
+use Rattle.bundle.specs.Bundle.{Text, Element, Items, none, named, use-of, module-of, File, Bundle}
 use Rattle.bundle.specs.Encode.{two, string, joined, counted, sized, element, items, remapping, file, fields, encode}
 use Rattle.bundle.specs.Scan.{times, scanString, scanFormed, scanAlias, scanField, scanCount, scanList, scanUse, scanLength, scanMark, scanHead, scanBody, scanEnd, scanItemWith, siblings, scanModule, scanFile, scanFiles, scanHeader}
 use Rattle.bundle.specs.Decode.{each, far, elementAt, remappingAt, itemAt, itemsBy, itemsAt, fileAt, decode}
@@ -30,7 +28,7 @@ use Rattle.graph.specs.Linearize as graph
 use Rattle.order.specs.Run.{ordered}
 use Rattle.scopes.specs.Step.{shared, any-main, nav, stage, step}
 use Rattle.scopes.specs.Step as tree
-use Rattle.scopes.specs.Flat.{Entry, Flat, look, stack-names}
+use Rattle.scopes.specs.Flat.{Entry, look, stack-names}
 use Rattle.scopes.specs.Form.{after-strings, names-from, local-name, elements-from, string-fault, names-fault, elements-fault, after-elements, rest-fault, use-fault, use-call, call-of}
 use Rattle.scopes.specs.Form as request
 use Rattle.assembly.specs.Assemble.{rewriteUse, rewriteItems, localItems, assembled, enumDeclarations, forbidEnumDecInDeps, hasMain, mainFaults, assemblyFaults, linearizeAndAssemble}

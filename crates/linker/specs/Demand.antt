@@ -33,7 +33,7 @@ use Rattle.assembly.specs.declared.Imaged.the-variants as imaged
 use Rattle.linker.specs.Scopes.{Walked, done, stopped, scopeCalls, scopeWalk}
 use Rattle.linker.specs.Link.{Outcome, faulty, closed, ended, linked, step6, linkAfter, linkBundle}
 use Rattle.linker.specs.Call.{recordsOf, answering, imageAfter, TreeOf, TreeWith, TreeAfter, answerTo, reportTo, imageTo, TreeTo, linkAnswer, linkReport, linkImage, LinkTree}
-use Rattle.linker.specs.Theorems.{Ends, walk-stopped, Steps, LinkedBundle, linked-bundle}
+use Rattle.linker.specs.Theorems.{Ends, walk-stopped, LinkedBundle, linked-bundle}
 
 -- the report's bytes at the start of the buffer, the rest as it was, and its length
 pub record Wrote (rs : List Record) (out final : List ℕ) (a : Answer) : Type 0 where

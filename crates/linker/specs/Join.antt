@@ -1,15 +1,13 @@
 -- From the answers of the layers to that of the operation. Assumes nothing.
-use Prim.Native.Nat.{ℕ, zero, suc, _+_, _≤_, _<_}
+use Prim.Native.Nat.{ℕ, zero, suc, _≤_, _<_}
 use native.Mathlib.Omega.{arith}
 use mathlib.Core.Path.{_≡_, refl, sym, ap, subst, _∙_}
-use mathlib.Core.Bool.{Bool, true, false, cond}
-use mathlib.Core.List.{List, [], _∷_, _++_, map}
-use lib.Dec.{eqb}
+use mathlib.Core.List.{List, [], _∷_, map}
 use lib.ListN.{length, take, length-append, length-map}
 use borrow.Author.Tests.{eq-eqb, ne-eqb}
-use Rattle.bundle.specs.Bundle.{Text, Items, Bundle}
+use Rattle.bundle.specs.Bundle.{Text, Bundle}
 use Rattle.bundle.specs.Decode.{decode}
-use Rattle.bundle.specs.Read.{verdict, read}
+use Rattle.bundle.specs.Read.{verdict}
 use Rattle.bundle.specs.Theorems.{accepted, told}
 use Rattle.bundle.specs.declared.Checked.{Checked}
 use Rattle.bundle.specs.declared.Checked.the-variants.{Ok, Refused}
@@ -19,7 +17,7 @@ use Rattle.discovery.specs.Meaning.{faultsIn}
 use Rattle.discovery.specs.Facts.{pigeons, pathsAt}
 use Rattle.discovery.specs.Right.{discovered}
 use Rattle.discovery.specs.Room.{checked-roomy}
-use Rattle.order.specs.Run.{ordered, unitsOf, filesOf}
+use Rattle.order.specs.Run.{ordered, unitsOf}
 use Rattle.order.specs.Run as order
 use Rattle.order.specs.Call.{padded, unitFiles, orderAnswer, orderReport}
 use Rattle.order.specs.Call as call
@@ -30,11 +28,9 @@ use Rattle.order.specs.Theorems.{first-half}
 use Rattle.order.specs.declared.Answer as ordering
 use Rattle.order.specs.declared.Reported.{Reported}
 use Rattle.order.specs.declared.Reported.the-variants as reported
-use Rattle.scopes.specs.Flat.{Flat}
-use Rattle.scopes.specs.Trees.{Good, flat-of}
+use Rattle.scopes.specs.Trees.{flat-of}
 use Rattle.scopes.specs.declared.Tree.{Tree}
 use Rattle.assembly.specs.Assemble.{assembled, assemblyFaults, step5, assembleAfter, linearizeAndAssemble}
-use Rattle.assembly.specs.Assemble as assembly
 use Rattle.assembly.specs.Image.{imaging, lentImage}
 use Rattle.assembly.specs.Call.{telling, reportedTo, imagedTo}
 use Rattle.assembly.specs.Faults.{zero-last}
@@ -42,9 +38,8 @@ use Rattle.assembly.specs.Linked as units
 use Rattle.assembly.specs.declared.Answer.{Answer}
 use Rattle.assembly.specs.declared.Imaged.{Imaged}
 use Rattle.assembly.specs.declared.Imaged.the-variants as imaged
-use Rattle.linker.specs.Scopes.{Walked, done, stopped, scopeWalk}
 use Rattle.linker.specs.Link.{Outcome, faulty, closed, ended, linked, step6, linkAfter, linkBundle}
-use Rattle.linker.specs.Call.{recordsOf, answering, imageAfter, TreeOf, TreeWith, TreeAfter, linkAnswer, linkReport, linkImage, LinkTree}
+use Rattle.linker.specs.Call.{recordsOf, answering, imageAfter, TreeWith, TreeAfter, linkAnswer, linkReport, linkImage, LinkTree}
 use Rattle.linker.specs.Steps.{reached}
 use Rattle.linker.specs.Units.{ScopedAs}
 use Rattle.linker.specs.declared.Linked.{Linked}

@@ -1,18 +1,18 @@
 -- What holds of a bundle that links, of any size: demand 3 whole. And which call a run of step 6 ends at. Assumes nothing.
-use Prim.Native.Nat.{ℕ, suc}
+use Prim.Native.Nat.{ℕ}
 use native.Mathlib.Omega.{arith}
 use mathlib.Core.Path.{_≡_, refl, sym, ap, subst, _∙_}
-use mathlib.Core.Bool.{Bool, true}
+use mathlib.Core.Bool.{true}
 use mathlib.Core.List.{List, [], _∷_, _++_, map}
 use Rattle.bundle.specs.Bundle.{Items, Bundle}
 use Rattle.bundle.specs.Form.{Every}
 use Rattle.bundle.specs.Stand.{Bytes}
 use Rattle.bundle.specs.Read.{value, read}
-use Rattle.order.specs.Run.{ordered, filesOf}
+use Rattle.order.specs.Run.{filesOf}
 use Rattle.order.specs.Run as order
 use Rattle.order.specs.Files.{LinkedFiles, ImportEachOther}
 use Rattle.order.specs.Theorems.{first-half-read}
-use Rattle.scopes.specs.Step.{Call, Answer, ok, marked, refused, Model, step, run}
+use Rattle.scopes.specs.Step.{Answer, ok, marked, refused, Model, step, run}
 use Rattle.scopes.specs.Flat.{Flat, flat, first-flat, flattened}
 use Rattle.scopes.specs.Form.{Request, call-of, calls-of}
 use Rattle.scopes.specs.Note.{accepted}
@@ -21,7 +21,7 @@ use Rattle.assembly.specs.Assemble.{linearizeAndAssemble}
 use Rattle.assembly.specs.Assemble as assembly
 use Rattle.assembly.specs.Theorems.{Assembled, assembly-read, Program, program-only}
 use Rattle.linker.specs.Scopes.{Asked, scopeCalls, Walked, done, stopped, onwards, walkFrom, scopeWalk}
-use Rattle.linker.specs.Link.{Outcome, faulty, closed, ended, linked, step6, linkAfter, linkBundle}
+use Rattle.linker.specs.Link.{Outcome, faulty, closed, linked, step6, linkAfter, linkBundle}
 
 -- the calls alone
 abbrev pub requests : List Asked → List Request

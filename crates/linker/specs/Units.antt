@@ -1,8 +1,8 @@
 -- The scope walk over the units of a linked order. Assumes nothing.
-use Prim.Native.Nat.{ℕ, zero, suc, _+_, _≤_, _<_, _^_}
+use Prim.Native.Nat.{ℕ, zero, suc, _+_, _≤_, _<_}
 use native.Mathlib.Numerals.{add-one}
 use native.Mathlib.Omega.{arith}
-use mathlib.Core.Bool.{Bool, true, false}
+use mathlib.Core.Bool.{false}
 use mathlib.Core.Path.{_≡_, refl, sym, ap, subst, _∙_}
 use mathlib.Core.List.{List, [], _∷_, _++_, append-assoc}
 use lib.ListN.{length, getD, take, drop}
@@ -12,18 +12,18 @@ use Rattle.bundle.specs.Bundle.{Text, Items, Bundle}
 use Rattle.bundle.specs.Bundle as bundle
 use Rattle.bundle.specs.Limits.{depth-limit}
 use Rattle.bundle.specs.Stand.{Bytes}
-use Rattle.bundle.specs.Decode.{decode, itemsAt, fileAt}
+use Rattle.bundle.specs.Decode.{decode, itemsAt}
 use Rattle.bundle.specs.Theorems.{sound, accepted}
 use Rattle.scopes.specs.Form.{enters, exits}
 use Rattle.scopes.specs.Lent.{Keeps, Leaves, at-depth}
-use Rattle.scopes.specs.Flat.{flat, first-flat}
+use Rattle.scopes.specs.Flat.{flat}
 use Rattle.scopes.specs.Runs.{first-is, first-good}
 use Rattle.scopes.specs.LentRuns.{cleared-sized}
 use Rattle.scopes.specs.Trees.{cleared, Good, flat-of}
 use Rattle.scopes.specs.declared.Tree.{Tree}
-use Rattle.assembly.specs.Assemble.{rewriteUse, fileOf, itemsOf, localItems, assembled}
-use Rattle.assembly.specs.Linked.{Units, Linked}
-use Rattle.linker.specs.Scopes.{Asked, asked, scopeCalls, Walked, walkFrom, scopeWalk}
+use Rattle.assembly.specs.Assemble.{fileOf, itemsOf, localItems, assembled}
+use Rattle.assembly.specs.Linked.{Units}
+use Rattle.linker.specs.Scopes.{Asked, asked, scopeCalls, walkFrom, scopeWalk}
 use Rattle.linker.specs.Steps.{Walks, reached, walks-as, walks-none, walks-one, walks-then, walks-stop, walks-exit, StopIs, itemsCalls, Plain}
 use Rattle.linker.specs.Fit.{unit-plain}
 use Rattle.linker.specs.declared.Stop.{Stop}
@@ -55,10 +55,8 @@ unit-first : (b : Bundle) (u : ℕ) → unitCalls b u ≡ (asked 0 (enters (unit
 unfolding unitCalls scopeCalls
 unit-first b u = refl
 
-pub unit-ready : (s files : List ℕ) (units u : ℕ) → Bytes s → Units s files units → (file : Text) (end at : ℕ) → file ≡ fileOf (decode s) u → itemsAt depth-limit s end at ≡ itemsOf (decode s) u
-    → Plain (rewriteUse (decode s) file) (itemsAt depth-limit s end at)
-unit-ready s files units u B x file end at e i =
-    rw (e, i) (unit-plain (decode s) (sound s B (decode s) (accepted s (x .checked)) .1) u)
+pub unit-ready : (s files : List ℕ) (units u : ℕ) → Bytes s → Units s files units → (end at : ℕ) → itemsAt depth-limit s end at ≡ itemsOf (decode s) u → Plain (itemsAt depth-limit s end at)
+unit-ready s files units u B x end at i = rw i (unit-plain (decode s) (sound s B (decode s) (accepted s (x .checked)) .1) u)
 
 module _ (s : List ℕ) (u : ℕ) {t v : Tree} {n : ℕ} (h : Keeps t (enters (unitName u) false 0) n v) where
   entered : Walks t (asked 0 (enters (unitName u) false 0) ∷ []) (record { number = n; place = 0 }) v

@@ -3,13 +3,12 @@
 ghost use mathlib.Core.Path.{_≡_};
 ghost use Prim.Native.Nat.{_+_, _<_, _≤_};
 ghost use lib.ListN.{length};
-ghost use Rattle.bundle.specs.Decode.{decode, itemsAt};
+ghost use Rattle.bundle.specs.Decode.{itemsAt};
 ghost use Rattle.bundle.specs.Limits.{segment-limit};
 ghost use Rattle.bundle.specs.Scan.{byte, text};
 ghost use Rattle.discovery.specs.Walk.{UseMark, Small};
 ghost use Rattle.scopes.specs.Form.{enters, resolves-use};
 ghost use Rattle.scopes.specs.Lent.{lent, declares, Keeps};
-ghost use Rattle.assembly.specs.Assemble.{rewriteUse};
 ghost use Rattle.assembly.specs.Targets.{UnitOf};
 ghost use Rattle.assembly.specs.Walk.{segmentsAt, useBytes, oneAt};
 ghost use Rattle.linker.specs.Scopes.{isPublic};
@@ -27,8 +26,8 @@ const FUNCTION: u8 = 2;
 
 const ENUM: u8 = 4;
 
-// The most bytes of a use: 17 segments and 32 elements, names and aliases of 32 bytes.
-const USE_SIZE: usize = 2688;
+// The most bytes of a use with its path rewritten.
+const USE_SIZE: usize = 2681;
 
 // The kind of a declaration, as the tree's calls take it.
 fn item_code(kind: usize) -> u8
@@ -246,7 +245,7 @@ fn walk_item(
     place: usize,
     left: usize,
 ) -> Stop
-    requires { ⌜ (UnitOf (now s) at (now file) index (now files) units × Small place left) × Plain (rewriteUse (decode (now s)) (now file)) (oneAt left (now s) place) ⌝ }
+    requires { ⌜ (UnitOf (now s) at (now file) index (now files) units × Small place left) × Plain (oneAt left (now s) place) ⌝ }
     ensures { λ r. ⌜ Walks (lent (now (count .entry)) (now (kinds .entry)) (now (visible .entry)) (now (scopes .entry)) (now (marks .entry)) (now (n0 .entry)) (now (n1 .entry)) (now (n2 .entry)) (now (n3 .entry)) (now (origins .entry)) (now (targets .entry)) (now (times .entry)) (now (heads .entry)) (now (links .entry)) (now (depth .entry)) (now (stack .entry))) (itemCalls (now (s .entry)) (now (file .entry)) left place) r (lent (now (count .exit)) (now (kinds .exit)) (now (visible .exit)) (now (scopes .exit)) (now (marks .exit)) (now (n0 .exit)) (now (n1 .exit)) (now (n2 .exit)) (now (n3 .exit)) (now (origins .exit)) (now (targets .exit)) (now (times .exit)) (now (heads .exit)) (now (links .exit)) (now (depth .exit)) (now (stack .exit))) ⌝ }
 {
     let kind = bundle::item_kind(s, place);
@@ -394,7 +393,7 @@ pub fn walk_items(
     end: usize,
     left: usize,
 ) -> Stop
-    requires { ⌜ (UnitOf (now s) at (now file) index (now files) units × Small end left) × Plain (rewriteUse (decode (now s)) (now file)) (itemsAt left (now s) end from) ⌝ }
+    requires { ⌜ (UnitOf (now s) at (now file) index (now files) units × Small end left) × Plain (itemsAt left (now s) end from) ⌝ }
     ensures { λ r. ⌜ Walks (lent (now (count .entry)) (now (kinds .entry)) (now (visible .entry)) (now (scopes .entry)) (now (marks .entry)) (now (n0 .entry)) (now (n1 .entry)) (now (n2 .entry)) (now (n3 .entry)) (now (origins .entry)) (now (targets .entry)) (now (times .entry)) (now (heads .entry)) (now (links .entry)) (now (depth .entry)) (now (stack .entry))) (itemsCalls (now (s .entry)) (now (file .entry)) left end from) r (lent (now (count .exit)) (now (kinds .exit)) (now (visible .exit)) (now (scopes .exit)) (now (marks .exit)) (now (n0 .exit)) (now (n1 .exit)) (now (n2 .exit)) (now (n3 .exit)) (now (origins .exit)) (now (targets .exit)) (now (times .exit)) (now (heads .exit)) (now (links .exit)) (now (depth .exit)) (now (stack .exit))) ⌝ }
 {
     let mut a = from;

@@ -1,12 +1,7 @@
-use mathlib.Core.Path.{_≡_}
-use lib.ListN.{length}
-use Prim.Native.Nat.{_-_, _≤_}
+use Prim.Native.Nat.{_-_}
 use borrow.Author.Needs.{needs}
 use Rattle.link_vectors.proofs.main.Statement.{statement}
 use Rattle.link_vectors.proofs.main.Tie as tie
-use Rattle.link_vectors.proofs.main.Reads as reads
-use Rattle.link_vectors.proofs.main.Lts as lts
-use Rattle.link_vectors.proofs.next.Reads as next-reads
 
 abbrev Inv-loop : tie.InvT-loop
 Inv-loop i₀ i = Unit {0}

@@ -1,15 +1,10 @@
 use native.Mathlib.Omega.{arith}
 use mathlib.Core.Path.{sym}
 use lib.Seq.{length-take-le}
-use mathlib.Core.Path.{_≡_}
-use lib.ListN.{length}
-use Prim.Native.Nat.{_-_, _≤_}
+use Prim.Native.Nat.{_-_}
 use borrow.Author.Needs.{needs}
 use Rattle.link_vectors.proofs.read_some.Statement.{statement}
 use Rattle.link_vectors.proofs.read_some.Tie as tie
-use Rattle.link_vectors.proofs.read_some.Reads as reads
-use Rattle.link_vectors.proofs.read_some.Lts as lts
-use Rattle.io.proofs.read_full.Reads as read-full-reads
 
 -- src/main.rt:23:33
 slice-relend-prefix-read-full : tie.Need-slice-relend-prefix-read-full

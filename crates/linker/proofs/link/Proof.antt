@@ -7,16 +7,6 @@ use Rattle.linker.specs.Join.{no-units, faults-due, ended-due, image-due
 use borrow.Author.Needs.{needs}
 use Rattle.linker.proofs.link.Statement.{statement}
 use Rattle.linker.proofs.link.Tie as tie
-use Rattle.linker.proofs.link.Reads as reads
-use Rattle.linker.proofs.link.Lts as lts
-use Rattle.assembly.proofs.assembly_faults.Reads as assembly-faults-reads
-use Rattle.assembly.proofs.write_image.Reads as write-image-reads
-use Rattle.linker.proofs.answers.imaged.Reads as imaged-reads
-use Rattle.linker.proofs.answers.reported.Reads as reported-reads
-use Rattle.linker.proofs.answers.told.Reads as told-reads
-use Rattle.linker.proofs.units.walk_program.Reads as walk-program-reads
-use Rattle.order.proofs.order.Reads as order-reads
-use Rattle.order.proofs.write_faults.Reads as write-faults-reads
 
 -- src/lib.rt:39:9
 order-requires : tie.Need-order-requires

@@ -4,8 +4,6 @@ use Prim.Native.Nat.{_-_, _≤_}
 use borrow.Author.Needs.{needs}
 use Rattle.printing.proofs.put_word.Statement.{statement}
 use Rattle.printing.proofs.put_word.Tie as tie
-use Rattle.printing.proofs.put_word.Reads as reads
-use Rattle.printing.proofs.put_word.Lts as lts
 
 abbrev Inv-loop : tie.InvT-loop
 Inv-loop out₀ at w rest₀ i₀ out rest i = (i ≤ 8) × (length out ≡ length out₀)

@@ -1,17 +1,8 @@
-use mathlib.Core.Path.{_≡_}
 use lib.ListN.{length}
-use Prim.Native.Nat.{_-_, _≤_}
+use Prim.Native.Nat.{_-_}
 use borrow.Author.Needs.{needs}
 use Rattle.printing.proofs.tell_image.Statement.{statement}
 use Rattle.printing.proofs.tell_image.Tie as tie
-use Rattle.printing.proofs.tell_image.Reads as reads
-use Rattle.printing.proofs.tell_image.Lts as lts
-use Rattle.io.proofs.print_hex.Reads as print-hex-reads
-use Rattle.io.proofs.write_all.Reads as write-all-reads
-use Rattle.lines.proofs.part.Reads as part-reads
-use Rattle.linker.proofs.link.Reads as link-reads
-use Rattle.printing.proofs.wide.Reads as wide-reads
-use Rattle.scopes.proofs.empty.Reads as empty-reads
 
 abbrev Inv-loop : tie.InvT-loop
 Inv-loop s bytes i₀ t9 i = Unit {0}

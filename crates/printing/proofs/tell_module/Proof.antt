@@ -1,15 +1,7 @@
-use mathlib.Core.Path.{_≡_}
-use lib.ListN.{length}
 use Prim.Native.Nat.{_-_, _≤_}
 use borrow.Author.Needs.{needs}
 use Rattle.printing.proofs.tell_module.Statement.{statement}
 use Rattle.printing.proofs.tell_module.Tie as tie
-use Rattle.printing.proofs.tell_module.Reads as reads
-use Rattle.printing.proofs.tell_module.Lts as lts
-use Rattle.io.proofs.write_all.Reads as write-all-reads
-use Rattle.printing.proofs.half.Reads as half-reads
-use Rattle.printing.proofs.tell_name.Reads as tell-name-reads
-use Rattle.printing.proofs.word.Reads as word-reads
 
 abbrev Inv-loop : tie.InvT-loop
 Inv-loop scopes n0 n1 n2 n3 scope chain₀ n₀ at₀ t12 t13 chain n at = n ≤ 16

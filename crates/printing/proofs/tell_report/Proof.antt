@@ -1,15 +1,8 @@
-use mathlib.Core.Path.{_≡_}
 use lib.ListN.{length}
-use Prim.Native.Nat.{_-_, _≤_}
+use Prim.Native.Nat.{_-_}
 use borrow.Author.Needs.{needs}
 use Rattle.printing.proofs.tell_report.Statement.{statement}
 use Rattle.printing.proofs.tell_report.Tie as tie
-use Rattle.printing.proofs.tell_report.Reads as reads
-use Rattle.printing.proofs.tell_report.Lts as lts
-use Rattle.printing.proofs.byte.Reads as byte-reads
-use Rattle.printing.proofs.tell_refusal.Reads as tell-refusal-reads
-use Rattle.printing.proofs.tell_ring.Reads as tell-ring-reads
-use Rattle.printing.proofs.wide.Reads as wide-reads
 
 abbrev Inv-loop : tie.InvT-loop
 Inv-loop report at₀ at = Unit {0}

@@ -1,15 +1,8 @@
-use mathlib.Core.Path.{_≡_}
 use lib.ListN.{length}
-use Prim.Native.Nat.{_-_, _≤_}
+use Prim.Native.Nat.{_-_}
 use borrow.Author.Needs.{needs}
 use Rattle.printing.proofs.tell_ring.Statement.{statement}
 use Rattle.printing.proofs.tell_ring.Tie as tie
-use Rattle.printing.proofs.tell_ring.Reads as reads
-use Rattle.printing.proofs.tell_ring.Lts as lts
-use Rattle.io.proofs.print_decimal.Reads as print-decimal-reads
-use Rattle.io.proofs.write_all.Reads as write-all-reads
-use Rattle.printing.proofs.byte.Reads as byte-reads
-use Rattle.printing.proofs.wide.Reads as wide-reads
 
 abbrev Inv-loop : tie.InvT-loop
 Inv-loop report at₀ t4 t5 at = Unit {0}

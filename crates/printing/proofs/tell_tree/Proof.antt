@@ -1,15 +1,7 @@
-use mathlib.Core.Path.{_≡_}
-use lib.ListN.{length}
-use Prim.Native.Nat.{_-_, _≤_}
+use Prim.Native.Nat.{_-_}
 use borrow.Author.Needs.{needs}
 use Rattle.printing.proofs.tell_tree.Statement.{statement}
 use Rattle.printing.proofs.tell_tree.Tie as tie
-use Rattle.printing.proofs.tell_tree.Reads as reads
-use Rattle.printing.proofs.tell_tree.Lts as lts
-use Rattle.io.proofs.write_all.Reads as write-all-reads
-use Rattle.printing.proofs.index.Reads as index-reads
-use Rattle.printing.proofs.tell_entry.Reads as tell-entry-reads
-use Rattle.printing.proofs.tell_module.Reads as tell-module-reads
 
 abbrev Inv-loop : tie.InvT-loop
 Inv-loop t i₀ t5 i = Unit {0}

@@ -1,17 +1,7 @@
-use mathlib.Core.Path.{_≡_}
-use lib.ListN.{length}
-use Prim.Native.Nat.{_-_, _≤_}
+use Prim.Native.Nat.{_-_}
 use borrow.Author.Needs.{needs}
 use Rattle.printing.proofs.tell_units.Statement.{statement}
 use Rattle.printing.proofs.tell_units.Tie as tie
-use Rattle.printing.proofs.tell_units.Reads as reads
-use Rattle.printing.proofs.tell_units.Lts as lts
-use Rattle.bundle.proofs.file_at.Reads as file-at-reads
-use Rattle.bundle.proofs.file_path.Reads as file-path-reads
-use Rattle.io.proofs.print_decimal.Reads as print-decimal-reads
-use Rattle.io.proofs.write_all.Reads as write-all-reads
-use Rattle.printing.proofs.half.Reads as half-reads
-use Rattle.printing.proofs.place.Reads as place-reads
 
 abbrev Inv-loop : tie.InvT-loop
 Inv-loop s files ids units i₀ t9 t10 t11 i = Unit {0}

@@ -2,9 +2,6 @@ use mathlib.Core.Path.{refl}
 use borrow.Author.Needs.{needs}
 use Rattle.linker.proofs.answers.imaged.Statement.{statement}
 use Rattle.linker.proofs.answers.imaged.Tie as tie
-use Rattle.linker.proofs.answers.imaged.Reads as reads
-use Rattle.linker.proofs.answers.imaged.Lts as lts
-use Rattle.linker.proofs.answers.told.Reads as told-reads
 
 -- src/answers.rt:50:25
 enum-known-r : tie.Need-enum-known-r

@@ -1,9 +1,6 @@
 use borrow.Author.Needs.{needs}
 use Rattle.linker.proofs.answers.reported.Statement.{statement}
 use Rattle.linker.proofs.answers.reported.Tie as tie
-use Rattle.linker.proofs.answers.reported.Reads as reads
-use Rattle.linker.proofs.answers.reported.Lts as lts
-use Rattle.linker.proofs.answers.told.Reads as told-reads
 
 -- src/answers.rt:33:34
 enum-known-r : tie.Need-enum-known-r

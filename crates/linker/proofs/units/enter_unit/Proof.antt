@@ -5,10 +5,6 @@ use Rattle.linker.specs.Steps.{keeps-enters}
 use borrow.Author.Needs.{needs}
 use Rattle.linker.proofs.units.enter_unit.Statement.{statement}
 use Rattle.linker.proofs.units.enter_unit.Tie as tie
-use Rattle.linker.proofs.units.enter_unit.Reads as reads
-use Rattle.linker.proofs.units.enter_unit.Lts as lts
-use Rattle.names.proofs.unit_name.Reads as unit-name-reads
-use Rattle.scopes.proofs.lent.enter.Reads as enter-reads
 
 -- src/units.rt:50:9
 unit-name-requires : tie.Need-unit-name-requires

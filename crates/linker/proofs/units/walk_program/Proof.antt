@@ -5,10 +5,6 @@ use Rattle.linker.specs.Units.{scoped-as}
 use borrow.Author.Needs.{needs}
 use Rattle.linker.proofs.units.walk_program.Statement.{statement}
 use Rattle.linker.proofs.units.walk_program.Tie as tie
-use Rattle.linker.proofs.units.walk_program.Reads as reads
-use Rattle.linker.proofs.units.walk_program.Lts as lts
-use Rattle.linker.proofs.units.walk_units.Reads as walk-units-reads
-use Rattle.resolution.proofs.layout_of.Reads as layout-of-reads
 
 -- src/units.rt:227:9
 layout-of-requires : tie.Need-layout-of-requires

@@ -9,11 +9,6 @@ use Rattle.scopes.specs.Lent.{lent}
 use Rattle.linker.specs.Units.{GoingUnits, units-start, units-on, units-stop, units-end}
 use Rattle.linker.proofs.units.walk_units.Statement.{statement}
 use Rattle.linker.proofs.units.walk_units.Tie as tie
-use Rattle.linker.proofs.units.walk_units.Reads as reads
-use Rattle.linker.proofs.units.walk_units.Lts as lts
-use Rattle.linker.proofs.units.walk_unit.Reads as walk-unit-reads
-use Rattle.linker.proofs.units.wide.Reads as wide-reads
-use Rattle.linker.proofs.walk.stop_at.Reads as stop-at-reads
 
 abbrev Inv-loop : tie.InvT-loop
 Inv-loop count₀ kinds₀ visible₀ scopes₀ marks₀ n0₀ n1₀ n2₀ n3₀ origins₀ targets₀ times₀ heads₀ links₀ depth₀ stack₀ s at files ids units i₀ count kinds visible scopes marks n0 n1 n2 n3 origins targets times heads links depth stack i =

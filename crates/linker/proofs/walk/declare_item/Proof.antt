@@ -2,13 +2,6 @@ use Rattle.linker.specs.Steps.{keeps-declares}
 use borrow.Author.Needs.{needs}
 use Rattle.linker.proofs.walk.declare_item.Statement.{statement}
 use Rattle.linker.proofs.walk.declare_item.Tie as tie
-use Rattle.linker.proofs.walk.declare_item.Reads as reads
-use Rattle.linker.proofs.walk.declare_item.Lts as lts
-use Rattle.bundle.proofs.string.Reads as string-reads
-use Rattle.linker.proofs.walk.is_public.Reads as is-public-reads
-use Rattle.linker.proofs.walk.item_code.Reads as item-code-reads
-use Rattle.linker.proofs.walk.mark_of.Reads as mark-of-reads
-use Rattle.scopes.proofs.lent.insert.Reads as insert-reads
 
 -- src/walk.rt:95:9
 is-public-requires : tie.Need-is-public-requires

@@ -2,12 +2,6 @@ use Rattle.linker.specs.Steps.{keeps-enters}
 use borrow.Author.Needs.{needs}
 use Rattle.linker.proofs.walk.enter_module.Statement.{statement}
 use Rattle.linker.proofs.walk.enter_module.Tie as tie
-use Rattle.linker.proofs.walk.enter_module.Reads as reads
-use Rattle.linker.proofs.walk.enter_module.Lts as lts
-use Rattle.bundle.proofs.string.Reads as string-reads
-use Rattle.linker.proofs.walk.is_public.Reads as is-public-reads
-use Rattle.linker.proofs.walk.mark_of.Reads as mark-of-reads
-use Rattle.scopes.proofs.lent.enter.Reads as enter-reads
 
 -- src/walk.rt:144:9
 is-public-requires : tie.Need-is-public-requires

@@ -2,9 +2,6 @@ use Rattle.linker.specs.Steps.{visible-is}
 use borrow.Author.Needs.{needs}
 use Rattle.linker.proofs.walk.is_public.Statement.{statement}
 use Rattle.linker.proofs.walk.is_public.Tie as tie
-use Rattle.linker.proofs.walk.is_public.Reads as reads
-use Rattle.linker.proofs.walk.is_public.Lts as lts
-use Rattle.bundle.proofs.item_visibility.Reads as item-visibility-reads
 
 -- src/walk.rt:57:5
 item-visibility-requires : tie.Need-item-visibility-requires

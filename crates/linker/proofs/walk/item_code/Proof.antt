@@ -1,8 +1,6 @@
 use borrow.Author.Tests.{eq-eqb, ne-eqb}
 use Rattle.linker.proofs.walk.item_code.Statement.{statement}
 use Rattle.linker.proofs.walk.item_code.Tie as tie
-use Rattle.linker.proofs.walk.item_code.Reads as reads
-use Rattle.linker.proofs.walk.item_code.Lts as lts
 
 -- src/walk.rt:38:9
 returns : tie.Need-returns

@@ -3,11 +3,6 @@ use Rattle.linker.specs.Steps.{keeps-uses, taken-start, taken-length}
 use borrow.Author.Needs.{needs}
 use Rattle.linker.proofs.walk.use_item.Statement.{statement}
 use Rattle.linker.proofs.walk.use_item.Tie as tie
-use Rattle.linker.proofs.walk.use_item.Reads as reads
-use Rattle.linker.proofs.walk.use_item.Lts as lts
-use Rattle.assembly.proofs.rewrite_use.Reads as rewrite-use-reads
-use Rattle.linker.proofs.walk.is_public.Reads as is-public-reads
-use Rattle.scopes.proofs.lent.resolve_use.Reads as resolve-use-reads
 
 -- src/walk.rt:198:76
 slice-aggregate-rewrite-use : tie.Need-slice-aggregate-rewrite-use
