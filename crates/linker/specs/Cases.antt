@@ -4,6 +4,7 @@ use Prim.Native.Nat.{ℕ}
 use Prim.Native.String.{String}
 use mathlib.Core.Path.{_≡_, refl}
 use mathlib.Core.List.{List, [], _∷_, map}
+use lib.ListN.{replicate}
 use Rattle.names.specs.Bytes.{ascii, same, member, all}
 use Rattle.names.specs.Decimal.{digits, decimal, unitName}
 use Rattle.names.specs.Path.{isPath, isComponent, wellFormed, split, onto, components}
@@ -26,14 +27,17 @@ use Rattle.discovery.specs.Discovery.{Fault, uses, programOf, useCache, lookupF
 use Rattle.graph.specs.Linearize.{linearize, visit, memb, from}
 use Rattle.graph.specs.Linearize as graph
 use Rattle.order.specs.Run.{ordered}
+use Rattle.order.specs.Report.{reporting, reportLength, recordLength}
 use Rattle.scopes.specs.Step.{shared, any-main, nav, stage, step}
 use Rattle.scopes.specs.Step as tree
 use Rattle.scopes.specs.Flat.{Entry, look, stack-names}
 use Rattle.scopes.specs.Form.{after-strings, names-from, local-name, elements-from, string-fault, names-fault, elements-fault, after-elements, rest-fault, use-fault, use-call, call-of}
 use Rattle.scopes.specs.Form as request
 use Rattle.assembly.specs.Assemble.{rewriteUse, rewriteItems, localItems, assembled, enumDeclarations, forbidEnumDecInDeps, hasMain, mainFaults, assemblyFaults, linearizeAndAssemble}
-use Rattle.assembly.specs.Image.{imageBytes}
+use Rattle.assembly.specs.Image.{imageBytes, itemsLength, segmentsLength, elementsLength, imaging}
+use Rattle.assembly.specs.declared.Answer.{Answer}
 use Rattle.linker.specs.Scopes.{scopeCalls, walkFrom, scopeWalk}
+use Rattle.linker.specs.Call.{linkAnswer}
 use Rattle.linker.specs.Link.{Outcome, faulty, closed, ended, linked, linkBundle}
 
 -- an entry: its scope, kind, name and mark. The root is scope 0, the module at entry i is scope i + 1
@@ -123,3 +127,39 @@ rows =
 pub rows-hold : map (λ r. linking (read (encode (r .bundle)))) rows ≡ map (λ r. r .expected) rows
 unfolding rows linking telling ascii encode fields sized two string counted joined remapping file items element read verdict form lists files scanHeader scanString scanFormed scanCount scanList times scanField scanFiles scanFile scanLength siblings scanItemWith scanModule scanHead scanMark scanBody scanUse scanAlias scanEnd isPath isIdentifier class letter digit all same components split onto wellFormed isComponent conflicts listed located conflict.named remapped sameRemapping placedAt placedRemappingAt each far any member directlyIn startsWith begins child childFile stemOf isCrate isKeyword keywords decode fileAt itemsAt itemsBy itemAt elementAt remappingAt insert longestFirst firstOf getPackageRoot applies remappingFor buildAndVerifyPath resolveCratePath checkLocalFileImportedAsExternal resolvePathInternal uses programOf useCache lookupFaults validImports position holds addOnce load loadAll turn turns discoverDependencies ordered linearize visit graph.each memb from digits decimal unitName rewriteUse rewriteItems localItems assembled enumDeclarations forbidEnumDecInDeps hasMain mainFaults assemblyFaults linearizeAndAssemble imageBytes isMain word packed sameName shared any-main nav tree.element stage step look stack-names request.string after-strings names-from local-name elements-from string-fault names-fault elements-fault after-elements rest-fault use-fault use-call call-of scopeCalls walkFrom scopeWalk linkBundle
 rows-hold = refl
+
+-- BUFFERS
+-- a bundle, the lengths of the lent buffers, and the numbers of the answer: number, place, report, units, image
+pub record Lent : Type 0 where
+  pub bundle : Bundle
+  pub report : ℕ
+  pub image : ℕ
+  pub answer : List ℕ
+
+abbrev numbers : Answer → List ℕ
+numbers a = a .number ∷ a .place ∷ a .report ∷ a .units ∷ a .image ∷ []
+
+abbrev two-files : Bundle
+two-files = below-r (main-of (use-of 0 0 (path ("crate" ∷ "a" ∷ [])) (plain "f" ∷ []) main) ∷ at-path "/r/a.simf" (named 2 0 1 (ascii "f") none) ∷ [])
+
+abbrev no-main : Bundle
+no-main = below-r (main-of (named 1 0 0 (ascii "T") none) ∷ [])
+
+abbrev held-twice : Bundle
+held-twice = below-r (main-of (named 2 0 0 (ascii "main") main) ∷ [])
+
+unfoldable pub lents : List Lent
+lents =
+    -- an image of 62 bytes: one byte too few is 14, and no report is asked for
+    record { bundle = two-files; report = 0; image = 61; answer = 14 ∷ 0 ∷ 0 ∷ 0 ∷ 0 ∷ [] }
+    ∷ record { bundle = two-files; report = 0; image = 62; answer = 0 ∷ 0 ∷ 0 ∷ 2 ∷ 62 ∷ [] }
+    -- a report of one record, in just as many bytes and in one too few
+    ∷ record { bundle = no-main; report = 3; image = 0; answer = 0 ∷ 0 ∷ 3 ∷ 0 ∷ 0 ∷ [] }
+    ∷ record { bundle = no-main; report = 2; image = 0; answer = 14 ∷ 0 ∷ 0 ∷ 0 ∷ 0 ∷ [] }
+    -- 49 at the second item's mark comes before 14 of the image
+    ∷ record { bundle = held-twice; report = 0; image = 0; answer = 49 ∷ 36 ∷ 0 ∷ 0 ∷ 0 ∷ [] }
+    ∷ []
+
+pub lents-hold : map (λ r. numbers (linkAnswer (encode (r .bundle)) (replicate (r .report) 7) (replicate (r .image) 7))) lents ≡ map (λ r. r .answer) lents
+unfolding lents linkAnswer imaging itemsLength segmentsLength elementsLength reporting reportLength recordLength ascii encode fields sized two string counted joined remapping file items element read verdict form lists files scanHeader scanString scanFormed scanCount scanList times scanField scanFiles scanFile scanLength siblings scanItemWith scanModule scanHead scanMark scanBody scanUse scanAlias scanEnd isPath isIdentifier class letter digit all same components split onto wellFormed isComponent conflicts listed located conflict.named remapped sameRemapping placedAt placedRemappingAt each far any member directlyIn startsWith begins child childFile stemOf isCrate isKeyword keywords decode fileAt itemsAt itemsBy itemAt elementAt remappingAt insert longestFirst firstOf getPackageRoot applies remappingFor buildAndVerifyPath resolveCratePath checkLocalFileImportedAsExternal resolvePathInternal uses programOf useCache lookupFaults validImports position holds addOnce load loadAll turn turns discoverDependencies ordered linearize visit graph.each memb from digits decimal unitName rewriteUse rewriteItems localItems assembled enumDeclarations forbidEnumDecInDeps hasMain mainFaults assemblyFaults linearizeAndAssemble imageBytes isMain word packed sameName shared any-main nav tree.element stage step look stack-names request.string after-strings names-from local-name elements-from string-fault names-fault elements-fault after-elements rest-fault use-fault use-call call-of scopeCalls walkFrom scopeWalk linkBundle
+lents-hold = refl
