@@ -324,7 +324,6 @@ impl<'a> Linker<'a> {
     }
 }
 
-/// Step 6 over rewritten items.
 /// The image, or 15: names and counts fit, so an error is about a length.
 fn written(units: &[Item]) -> Result<Vec<u8>, Stop> {
     image(units).map_err(|_| {
@@ -335,6 +334,7 @@ fn written(units: &[Item]) -> Result<Vec<u8>, Stop> {
     })
 }
 
+/// Step 6 over rewritten items.
 fn walk(items: &[Item], tree: &mut Tree) -> Result<(), Stop> {
     for item in items {
         let Item { mark, public, body } = item;
