@@ -1,29 +1,24 @@
 -- Different units have no more enums together than a bundle has items, so that the faults of step 5 fit. Assumes nothing.
--- an enum is an item
 use Prim.Native.Nat.{ℕ, zero, suc, _+_, _-_, _≤_, _<_}
 use native.Mathlib.Numerals.{add-one}
 use native.Mathlib.Omega.{arith}
 use mathlib.Core.Bool.{Bool, true, false, cond}
 use mathlib.Core.Path.{_≡_, refl, sym, ap, subst, _∙_}
-use mathlib.Core.Logic.{⊎-elim}
-use mathlib.Core.List.{List, [], _∷_, _++_, map, append-nil, List·Memᴰ, List·Memᴰ·head, List·Memᴰ·tail, List·Memᴰ·not-nil, List·Memᴰ·cases-cons, Memᴰ·cast}
+use mathlib.Core.List.{List, [], _∷_, _++_, map, append-nil}
 use lib.Dec.{eqb}
 use lib.ListN.{length, getD, take, drop, set, replicate, length-append, length-replicate}
 use lib.Seq.{length-take-le, drop-cons, getD-take, take-at, take-suc-set}
-use Rattle.names.specs.Bytes.{same, same-eq, same-differs, different}
 use Rattle.bundle.specs.Bundle.{Text, Items, none, named, use-of, module-of, ignored, File, Bundle}
 use Rattle.bundle.specs.Form.{itemCount, fileItems}
 use Rattle.bundle.specs.Limits.{item-limit}
 use Rattle.bundle.specs.Stand.{Bytes}
 use Rattle.bundle.specs.Decode.{decode}
 use Rattle.bundle.specs.Theorems.{sound, accepted}
-use Rattle.discovery.specs.Discovery.{Fault, programOf}
+use Rattle.discovery.specs.Discovery.{Fault}
 use Rattle.discovery.specs.Meaning.{faultsIn}
 use Rattle.discovery.specs.Facts.{pathsAt}
-use Rattle.discovery.specs.Reached.{Once, more}
-use Rattle.discovery.specs.Reached as reached
 use Rattle.discovery.specs.Room.{checked-roomy}
-use Rattle.discovery.specs.Weight.{reached-file}
+use Rattle.discovery.specs.Weight.{reached-file, sumOf, totalOf, weigh-of}
 use Rattle.order.specs.Run.{filesOf}
 use Rattle.order.specs.Theorems.{first-half}
 use Rattle.order.specs.Writing.{started}
@@ -31,6 +26,7 @@ use Rattle.assembly.specs.Assemble.{enum-kind, itemsOf, enumDeclarations
 use Rattle.assembly.specs.Faults.{zero-last, once-last, enumsOf, mainFault, faults-are}
 use Rattle.assembly.specs.Linked.{Linked, OneUnit, one-unit}
 
+-- an enum is an item
 enums-few : (x : Items) → length (enumDeclarations x) ≤ itemCount x
 unfolding enumDeclarations itemCount
 enums-few none = omega arith
@@ -42,74 +38,6 @@ enums-few (named k m v name rest) = go (eqb k enum-kind) (enums-few rest)
 enums-few (use-of m v segments elements rest) = let h = enums-few rest in omega arith
 enums-few (module-of m v name inner rest) = let h = enums-few rest in let k = enums-few inner in omega (arith, length-append (enumDeclarations inner) (enumDeclarations rest))
 enums-few (ignored m v rest) = let h = enums-few rest in omega arith
-
--- THE WEIGHT of the files of these paths, whatever is counted of items
-abbrev paths : List File → List Text
-paths fs = map (λ (f : File). f .path) fs
-
-module _ (g : Items → ℕ) where
-  unfoldable sumOf : List File → List Text → ℕ
-  sumOf fs [] = 0
-  sumOf fs (p ∷ l) = g (programOf fs p) + sumOf fs l
-
-  unfoldable totalOf : List File → ℕ
-  totalOf [] = 0
-  totalOf (f ∷ fs) = g (f .items) + totalOf fs
-
--- without the first file of a path
-unfoldable without : Text → List File → List File
-without p [] = []
-without p (f ∷ fs) = cond (same p (f .path)) fs (f ∷ without p fs)
-
-module _ (g : Items → ℕ) where
-  total-without : (p : Text) (fs : List File) → List·Memᴰ p (paths fs) → totalOf g fs ≡ g (programOf fs p) + totalOf g (without p fs)
-  unfolding totalOf programOf without
-  total-without p [] m = absurd (List·Memᴰ·not-nil m)
-  total-without p (f ∷ fs) m = go (same p (f .path)) refl (total-without p fs)
-    where
-      go : (b : Bool) → same p (f .path) ≡ b → (List·Memᴰ p (paths fs) → totalOf g fs ≡ g (programOf fs p) + totalOf g (without p fs))
-          → g (f .items) + totalOf g fs ≡ g (cond b (f .items) (programOf fs p)) + totalOf g (cond b fs (f ∷ without p fs))
-      go true e k = refl
-      go false e k = let ih = k (⊎-elim (λ q. absurd (same-differs p (f .path) e q)) (λ w. w) (List·Memᴰ·cases-cons m)) in omega arith
-
-module _ (p q : Text) (other : q ≡ p → ⊥) where
-  program-without : (fs : List File) → programOf (without p fs) q ≡ programOf fs q
-  unfolding programOf without
-  program-without [] = refl
-  program-without (f ∷ fs) = go (same p (f .path)) refl (program-without fs)
-    where
-      go : (b : Bool) → same p (f .path) ≡ b → programOf (without p fs) q ≡ programOf fs q
-          → programOf (cond b fs (f ∷ without p fs)) q ≡ cond (same q (f .path)) (f .items) (programOf fs q)
-      go true e ih = rw (different q (f .path) (λ h. other (h ∙ sym (same-eq p (f .path) e))))
-      go false e ih = rw ih
-
-  mem-without : (fs : List File) → List·Memᴰ q (paths fs) → List·Memᴰ q (paths (without p fs))
-  unfolding without
-  mem-without [] m = m
-  mem-without (f ∷ fs) m = go (same p (f .path)) refl (mem-without fs)
-    where
-      go : (b : Bool) → same p (f .path) ≡ b → (List·Memᴰ q (paths fs) → List·Memᴰ q (paths (without p fs))) → List·Memᴰ q (paths (cond b fs (f ∷ without p fs)))
-      go true e k = ⊎-elim (λ h. absurd (other (h ∙ sym (same-eq p (f .path) e)))) (λ w. w) (List·Memᴰ·cases-cons m)
-      go false e k = ⊎-elim (λ h. List·Memᴰ·head h) (λ w. List·Memᴰ·tail (k w)) (List·Memᴰ·cases-cons m)
-
-module _ (g : Items → ℕ) where
-  sum-same : (fs gs : List File) (l : List Text) → ((p : Text) → List·Memᴰ p l → programOf fs p ≡ programOf gs p) → sumOf g fs l ≡ sumOf g gs l
-  unfolding sumOf
-  sum-same fs gs [] h = refl
-  sum-same fs gs (p ∷ l) h =
-      let e = ap g (h p (List·Memᴰ·head refl)) in
-      let r = sum-same fs gs l (λ q m. h q (List·Memᴰ·tail m)) in
-      omega arith
-
-  weigh : {l : List Text} → Once l → (fs : List File) → ((p : Text) → List·Memᴰ p l → List·Memᴰ p (paths fs)) → sumOf g fs l ≤ totalOf g fs
-  unfolding sumOf
-  weigh reached.none fs h = omega arith
-  weigh (more {a} {l} f o) fs h =
-      let t = total-without g a fs (h a (List·Memᴰ·head refl)) in
-      let ne : (q : Text) → List·Memᴰ q l → q ≡ a → ⊥ = λ q m e. f (Memᴰ·cast (sym e) m) in
-      let ih = weigh o (without a fs) (λ q m. mem-without a q (ne q m) fs (h q (List·Memᴰ·tail m))) in
-      let s = sum-same (without a fs) fs l (λ q m. program-without a q (ne q m) fs) in
-      omega arith
 
 -- OF ENUMS
 abbrev counts : Items → ℕ
@@ -162,7 +90,7 @@ module _ (s : List ℕ) (B : Bytes s) (files ids : List ℕ) (units : ℕ) (x : 
   enums-fit =
       let r = checked-roomy s (x .of-units .checked) .some in
       let l = first-half b r .order o (x .order) in
-      let w = weigh counts (l .once) (b .files) (λ p m. reached-file b p (l .sound p m)) in
+      let w = weigh-of counts (l .once) (b .files) (λ p m. reached-file b p (l .sound p m)) in
       let t = total-few (b .files) in
       let c = sound s B b (accepted s (x .of-units .checked)) .1 .form .item-count in
       let e = enums-sum b o in

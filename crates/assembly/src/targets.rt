@@ -1,31 +1,14 @@
 // What the uses of a linked unit become.
 ghost use mathlib.Core.Path.{_≡_};
-ghost use Prim.Native.Nat.{_≤_};
-ghost use lib.ListN.{length, take};
 ghost use Rattle.bundle.specs.Decode.{decode};
-ghost use Rattle.discovery.specs.Search.{indexIn};
 ghost use Rattle.discovery.specs.Walk.{UseMark};
 ghost use Rattle.assembly.specs.Assemble.{rewriteUse};
 ghost use Rattle.assembly.specs.Targets.{UnitOf, pathBy, Within};
 ghost use Rattle.assembly.specs.Walk.{segmentsAt};
 use crate::Target;
+use discovery::index_of;
 use resolution::Layout;
 use resolution::Resolution;
-
-// The first place of x among the first n of l, or n.
-fn index_of(l: &[usize], n: usize, x: usize) -> usize
-    requires { ⌜ n ≤ length (now l) ⌝ }
-    ensures { λ r. ⌜ r ≡ indexIn x (take n (now (l .entry))) ⌝ }
-{
-    let mut i = 0;
-    while i < n {
-        if l[i] == x {
-            return i;
-        }
-        i += 1;
-    }
-    i
-}
 
 // The target of the use at `mark` in the file of this index: the unit that its path resolves to. A folder is no unit.
 pub fn target_of(

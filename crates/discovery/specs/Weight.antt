@@ -1,4 +1,5 @@
--- Different files have no more uses together than the bundle: what bounds the lists and the faults of the units. Assumes nothing.
+-- Different files have together no more of anything that is counted of items than the bundle; of uses: what bounds the lists and
+-- the faults of the units. Assumes nothing.
 use Prim.Native.Nat.{ℕ, _+_, _≤_}
 use native.Mathlib.Omega.{arith}
 use mathlib.Core.Bool.{Bool, true, false, cond}
@@ -13,28 +14,34 @@ use Rattle.discovery.specs.Reached.{Once, none, more, Reached, entry, im
 use Rattle.discovery.specs.Right.{discovered}
 use Rattle.discovery.specs.Room.{totalUses}
 
+-- THE WEIGHT of the files of these paths, whatever is counted of items
 abbrev paths : List File → List Text
-paths fs = map (λ f. f .path) fs
+paths fs = map (λ (f : File). f .path) fs
 
--- the uses of the files of these paths, counted
-unfoldable pub sumUses : List File → List Text → ℕ
-sumUses fs [] = 0
-sumUses fs (p ∷ l) = length (uses (programOf fs p)) + sumUses fs l
+module _ (g : Items → ℕ) where
+  unfoldable pub sumOf : List File → List Text → ℕ
+  sumOf fs [] = 0
+  sumOf fs (p ∷ l) = g (programOf fs p) + sumOf fs l
+
+  unfoldable pub totalOf : List File → ℕ
+  totalOf [] = 0
+  totalOf (f ∷ fs) = g (f .items) + totalOf fs
 
 -- without the first file of a path
 unfoldable without : Text → List File → List File
 without p [] = []
 without p (f ∷ fs) = cond (same p (f .path)) fs (f ∷ without p fs)
 
-total-without : (p : Text) (fs : List File) → List·Memᴰ p (paths fs) → totalUses fs ≡ length (uses (programOf fs p)) + totalUses (without p fs)
-unfolding totalUses programOf without
-total-without p [] m = absurd (List·Memᴰ·not-nil m)
-total-without p (f ∷ fs) m = go (same p (f .path)) refl (total-without p fs)
-  where
-    go : (b : Bool) → same p (f .path) ≡ b → (List·Memᴰ p (paths fs) → totalUses fs ≡ length (uses (programOf fs p)) + totalUses (without p fs))
-        → length (uses (f .items)) + totalUses fs ≡ length (uses (cond b (f .items) (programOf fs p))) + totalUses (cond b fs (f ∷ without p fs))
-    go true e k = refl
-    go false e k = let ih = k (⊎-elim (λ q. absurd (same-differs p (f .path) e q)) (λ w. w) (List·Memᴰ·cases-cons m)) in omega arith
+module _ (g : Items → ℕ) where
+  total-without : (p : Text) (fs : List File) → List·Memᴰ p (paths fs) → totalOf g fs ≡ g (programOf fs p) + totalOf g (without p fs)
+  unfolding totalOf programOf without
+  total-without p [] m = absurd (List·Memᴰ·not-nil m)
+  total-without p (f ∷ fs) m = go (same p (f .path)) refl (total-without p fs)
+    where
+      go : (b : Bool) → same p (f .path) ≡ b → (List·Memᴰ p (paths fs) → totalOf g fs ≡ g (programOf fs p) + totalOf g (without p fs))
+          → g (f .items) + totalOf g fs ≡ g (cond b (f .items) (programOf fs p)) + totalOf g (cond b fs (f ∷ without p fs))
+      go true e k = refl
+      go false e k = let ih = k (⊎-elim (λ q. absurd (same-differs p (f .path) e q)) (λ w. w) (List·Memᴰ·cases-cons m)) in omega arith
 
 module _ (p q : Text) (other : q ≡ p → ⊥) where
   program-without : (fs : List File) → programOf (without p fs) q ≡ programOf fs q
@@ -56,23 +63,46 @@ module _ (p q : Text) (other : q ≡ p → ⊥) where
       go true e k = ⊎-elim (λ h. absurd (other (h ∙ sym (same-eq p (f .path) e)))) (λ w. w) (List·Memᴰ·cases-cons m)
       go false e k = ⊎-elim (λ h. List·Memᴰ·head h) (λ w. List·Memᴰ·tail (k w)) (List·Memᴰ·cases-cons m)
 
-sum-same : (fs gs : List File) (l : List Text) → ((p : Text) → List·Memᴰ p l → programOf fs p ≡ programOf gs p) → sumUses fs l ≡ sumUses gs l
-unfolding sumUses
-sum-same fs gs [] h = refl
-sum-same fs gs (p ∷ l) h =
-    let e = ap (λ (i : Items). length (uses i)) (h p (List·Memᴰ·head refl)) in
-    let r = sum-same fs gs l (λ q m. h q (List·Memᴰ·tail m)) in
-    omega arith
+module _ (g : Items → ℕ) where
+  sum-same : (fs gs : List File) (l : List Text) → ((p : Text) → List·Memᴰ p l → programOf fs p ≡ programOf gs p) → sumOf g fs l ≡ sumOf g gs l
+  unfolding sumOf
+  sum-same fs gs [] h = refl
+  sum-same fs gs (p ∷ l) h =
+      let e = ap g (h p (List·Memᴰ·head refl)) in
+      let r = sum-same fs gs l (λ q m. h q (List·Memᴰ·tail m)) in
+      omega arith
+
+  pub weigh-of : {l : List Text} → Once l → (fs : List File) → ((p : Text) → List·Memᴰ p l → List·Memᴰ p (paths fs)) → sumOf g fs l ≤ totalOf g fs
+  unfolding sumOf
+  weigh-of none fs h = omega arith
+  weigh-of (more {a} {l} f o) fs h =
+      let t = total-without g a fs (h a (List·Memᴰ·head refl)) in
+      let ne : (q : Text) → List·Memᴰ q l → q ≡ a → ⊥ = λ q m e. f (Memᴰ·cast (sym e) m) in
+      let ih = weigh-of o (without a fs) (λ q m. mem-without a q (ne q m) fs (h q (List·Memᴰ·tail m))) in
+      let s = sum-same (without a fs) fs l (λ q m. program-without a q (ne q m) fs) in
+      omega arith
+
+-- OF USES
+abbrev use-count : Items → ℕ
+use-count x = length (uses x)
+
+-- the uses of the files of these paths, counted
+unfoldable pub sumUses : List File → List Text → ℕ
+sumUses fs [] = 0
+sumUses fs (p ∷ l) = length (uses (programOf fs p)) + sumUses fs l
+
+sum-is : (fs : List File) (l : List Text) → sumUses fs l ≡ sumOf use-count fs l
+unfolding sumUses sumOf
+sum-is fs [] = refl
+sum-is fs (p ∷ l) = rw (sum-is fs l)
+
+total-is : (fs : List File) → totalUses fs ≡ totalOf use-count fs
+unfolding totalUses totalOf
+total-is [] = refl
+total-is (f ∷ fs) = rw (total-is fs)
 
 pub weigh : {l : List Text} → Once l → (fs : List File) → ((p : Text) → List·Memᴰ p l → List·Memᴰ p (paths fs)) → sumUses fs l ≤ totalUses fs
-unfolding sumUses
-weigh none fs h = omega arith
-weigh (more {a} {l} f o) fs h =
-    let t = total-without a fs (h a (List·Memᴰ·head refl)) in
-    let ne : (q : Text) → List·Memᴰ q l → q ≡ a → ⊥ = λ q m e. f (Memᴰ·cast (sym e) m) in
-    let ih = weigh o (without a fs) (λ q m. mem-without a q (ne q m) fs (h q (List·Memᴰ·tail m))) in
-    let s = sum-same (without a fs) fs l (λ q m. program-without a q (ne q m) fs) in
-    omega arith
+weigh {l} o fs h = omega (arith, sum-is fs l, total-is fs, weigh-of use-count o fs h)
 
 -- what is reached is listed
 pub reached-file : (b : Bundle) (p : Text) → Reached b p → List·Memᴰ p (pathsOf b)

@@ -13,7 +13,7 @@ use crate::UNITS;
 const UNREADABLE: u8 = 23;
 
 // The first place of x among the first n of l, or n.
-fn index_of(l: &[usize], n: usize, x: usize) -> usize
+pub fn index_of(l: &[usize], n: usize, x: usize) -> usize
     requires { ⌜ n ≤ length (now l) ⌝ }
     ensures { λ r. ⌜ r ≡ indexIn x (take n (now (l .entry))) ⌝ }
 {
