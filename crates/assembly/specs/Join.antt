@@ -34,7 +34,7 @@ use Rattle.assembly.specs.Assemble.{Outcome, faulty, closed, program, as
 use Rattle.assembly.specs.Image.{imaging, lentImage}
 use Rattle.assembly.specs.Call.{recordsOf, telling, reportedTo, imagedTo, answering, imageAfter, assembleAnswer, assembleReport, assembleImage}
 use Rattle.assembly.specs.Faults.{zero-last}
-use Rattle.assembly.specs.Linked.{Linked}
+use Rattle.assembly.specs.Linked.{LinkedFiles}
 use Rattle.assembly.specs.declared.Answer.{Answer}
 use Rattle.assembly.specs.declared.Imaged.{Imaged}
 
@@ -153,7 +153,7 @@ module _ (s out img : List ℕ) where
           absurd (omega arith)
 
       -- WHERE THERE ARE, they are linked
-      linked-read : (x : order.Outcome) → ordered b ≡ x → (a .units ≡ 0 → ⊥) → Linked s (a .files) (a .ids) (a .units) × (rep ≡ out)
+      linked-read : (x : order.Outcome) → ordered b ≡ x → (a .units ≡ 0 → ⊥) → LinkedFiles s (a .files) (a .ids) (a .units) × (rep ≡ out)
       linked-read (order.faulty l) e h =
           absurd (h (ap (λ (z : ordering.Answer). z .units) (is ∙ (order-read v .0 ∙ ap (call.answering (unitFiles b) (length out)) e)) ∙ report-units (reporting (map fault l) (length out))))
       linked-read (order.closed r) e h =
@@ -166,12 +166,12 @@ module _ (s out img : List ℕ) where
           let g = padded-take o (length (unitFiles b)) (omega arith) in
           let k = padded-long (unitFiles b) in
           let m = padded-long o in
-          let t : Linked s (call.linking (unitFiles b) (padded o) .files) (call.linking (unitFiles b) (padded o) .ids) (call.linking (unitFiles b) (padded o) .units) = record {
+          let t : LinkedFiles s (call.linking (unitFiles b) (padded o) .files) (call.linking (unitFiles b) (padded o) .ids) (call.linking (unitFiles b) (padded o) .units) = record {
             of-units = record { checked = v; files-are = f; fits = k };
             order = e ∙ ap linked (sym g);
             ids-fit = omega arith;
           } in
-          (subst (λ (z : ordering.Answer). Linked s (z .files) (z .ids) (z .units)) (sym q) t, lent ∙ (order-read v .1 ∙ (ap (λ (z : order.Outcome). lentReport (report.recordsOf z) out) e ∙ nothing-lent out)))
+          (subst (λ (z : ordering.Answer). LinkedFiles s (z .files) (z .ids) (z .units)) (sym q) t, lent ∙ (order-read v .1 ∙ (ap (λ (z : order.Outcome). lentReport (report.recordsOf z) out) e ∙ nothing-lent out)))
 
     pub no-units : a .units ≡ 0 → Due s out img rep img answer
     no-units h = go (verdict s) refl
@@ -180,15 +180,15 @@ module _ (s out img : List ℕ) where
         go (Refused n p) v = told-refused n p v
         go Ok v = told-read v (ordered b) refl h
 
-    pub units-linked : (a .units ≡ 0 → ⊥) → Linked s (a .files) (a .ids) (a .units) × (rep ≡ out)
+    pub units-linked : (a .units ≡ 0 → ⊥) → LinkedFiles s (a .files) (a .ids) (a .units) × (rep ≡ out)
     units-linked h = go (verdict s) refl
       where
-        go : (c : Checked) → verdict s ≡ c → Linked s (a .files) (a .ids) (a .units) × (rep ≡ out)
+        go : (c : Checked) → verdict s ≡ c → LinkedFiles s (a .files) (a .ids) (a .units) × (rep ≡ out)
         go (Refused n p) v = absurd (h (ap (λ (z : ordering.Answer). z .units) (is ∙ order-refused n p v .0)))
         go Ok v = linked-read v (ordered b) refl h
 
     -- STEP 5 of linked units
-    module _ (x : Linked s (a .files) (a .ids) (a .units)) where
+    module _ (x : LinkedFiles s (a .files) (a .ids) (a .units)) where
       abbrev o : List ℕ
       o = take (a .units) (a .ids)
 

@@ -31,6 +31,7 @@ use Rattle.discovery.specs.Facts.{mem-member, member-true, member-false, getD-m
 use Rattle.discovery.specs.Right.{discovered}
 use Rattle.discovery.specs.Room.{checked-roomy}
 use Rattle.discovery.specs.Search.{indexIn}
+use Rattle.discovery.specs.Known.{Sound, Table, FilesPut, sound-put, files-put}
 use Rattle.discovery.specs.Weight.{reached-file}
 use Rattle.order.specs.Run.{linked, ordered, unitsOf}
 use Rattle.order.specs.Call.{unitFiles}
@@ -45,10 +46,23 @@ pub record Units (s files : List ℕ) (units : ℕ) : Type 0 where
   pub checked : verdict s ≡ Ok
   pub files-are : take units files ≡ unitFiles (decode s)
   pub fits : units ≤ length files
+  -- what stands behind them is right of the uses
+  pub table : Sound (listsOf (decode s)) s files
 
 -- and their linked order
 pub record Linked (s files ids : List ℕ) (units : ℕ) : Type 0 where
   pub of-units : Units s files units
+  pub order : ordered (decode s) ≡ linked (take units ids)
+  pub ids-fit : units ≤ length ids
+
+-- the same of the files alone
+pub record UnitFiles (s files : List ℕ) (units : ℕ) : Type 0 where
+  pub checked : verdict s ≡ Ok
+  pub files-are : take units files ≡ unitFiles (decode s)
+  pub fits : units ≤ length files
+
+pub record LinkedFiles (s files ids : List ℕ) (units : ℕ) : Type 0 where
+  pub of-units : UnitFiles s files units
   pub order : ordered (decode s) ≡ linked (take units ids)
   pub ids-fit : units ≤ length ids
 
@@ -122,19 +136,41 @@ unfolding position
 no-unit p [] n = refl
 no-unit p (q ∷ l) n = rw (different p q (λ e. n (List·Memᴰ·head e)), no-unit p l (λ m. n (List·Memᴰ·tail m)))
 
+-- how many units there are
+module _ (s files : List ℕ) (units : ℕ) (checked : verdict s ≡ Ok) (are : take units files ≡ unitFiles (decode s)) (fits : units ≤ length files) where
+  counted-units : length (unitsOf (decode s)) ≡ units
+  counted-units = sym (length-map (unitsOf (decode s)) (λ p. position p (pathsOf (decode s)))) ∙ (ap length (sym are) ∙ length-take-le units files fits)
+
+  counted-few : units ≤ file-limit
+  counted-few =
+      let n = pigeons (discovered (decode s) .once) (pathsOf (decode s)) (λ p m. unit-listed (decode s) p m) in
+      let r = checked-roomy s checked .files in
+      let k = counted-units in
+      omega (arith, length-map (decode s .files) (λ (f : File). f .path))
+
+-- THE FILES IN FRONT OF A TABLE
+pub known-linked : {s files ids t known : List ℕ} {units : ℕ} → LinkedFiles s files ids units → Table (listsOf (decode s)) s t → FilesPut t files known → Linked s known ids units
+known-linked {s} {files} {ids} {t} {known} {units} x y p =
+    let u = x .of-units in
+    let n = counted-few s files units (u .checked) (u .files-are) (u .fits) in
+    let l = y .long in
+    let w = p .wide in
+    let fit : units ≤ length known = omega arith in
+    record {
+      of-units = record { checked = u .checked; files-are = files-put t files known p units n (u .fits) fit ∙ u .files-are; fits = fit; table = sound-put t files known p (listsOf (decode s)) s (y .sound) };
+      order = x .order;
+      ids-fit = x .ids-fit;
+    }
+
 module _ (s files : List ℕ) (units : ℕ) (x : Units s files units) where
   abbrev c : Bundle
   c = decode s
 
   pub unit-count : length (unitsOf c) ≡ units
-  unit-count = sym (length-map (unitsOf c) (λ p. position p (pathsOf c))) ∙ (ap length (sym (x .files-are)) ∙ length-take-le units files (x .fits))
+  unit-count = counted-units s files units (x .checked) (x .files-are) (x .fits)
 
   pub few-units : units ≤ file-limit
-  few-units =
-      let n = pigeons (discovered c .once) (pathsOf c) (λ p m. unit-listed c p m) in
-      let r = checked-roomy s (x .checked) .files in
-      let k = unit-count in
-      omega (arith, length-map (c .files) (λ (f : File). f .path))
+  few-units = counted-few s files units (x .checked) (x .files-are) (x .fits)
 
   pub one-unit : (u : ℕ) → u < units → OneUnit s files u
   one-unit u h =
@@ -164,6 +200,7 @@ module _ (s files : List ℕ) (units : ℕ) (x : Units s files units) where
         fits = x .fits;
         few = few-units;
         ids = λ p k. index-units p (pathsOf c) (unitsOf c) (member-true p (pathsOf c) k) (unit-listed c) ∙ ap (indexIn (position p (pathsOf c))) (sym (x .files-are));
+        table = x .table;
         others = λ p k. no-unit p (unitsOf c) (λ w. member-false k (unit-listed c p w)) ∙ unit-count;
       }
 

@@ -1,6 +1,6 @@
 -- What a use's path becomes, as the code has it: the id of a unit and how many segments are left. Assumes nothing.
 -- the path that a target stands for
-use Prim.Native.Nat.{ℕ, suc, _+_, _-_, _≤_}
+use Prim.Native.Nat.{ℕ, suc, _+_, _-_, _≤_, _<_}
 use native.Mathlib.Omega.{arith}
 use mathlib.Core.Bool.{Bool, true, false, cond}
 use mathlib.Core.Path.{_≡_, refl, sym, ap, subst, _∙_}
@@ -21,6 +21,8 @@ use Rattle.resolution.specs.declared.Resolution.{Resolution}
 use Rattle.resolution.specs.declared.Resolution.the-variants.{File, Folder, Refused}
 use Rattle.discovery.specs.Discovery.{pathsOf}
 use Rattle.discovery.specs.Search.{indexIn, index-small}
+use Rattle.discovery.specs.Walk.{useAt}
+use Rattle.discovery.specs.Known.{Sound, FindsUse, markOf, fileOf, leftOf}
 use Rattle.order.specs.Run.{unitsOf}
 use Rattle.assembly.specs.Assemble.{newPath, rewriteUse}
 use Rattle.assembly.specs.Paths.{LeftOf, left-of}
@@ -46,6 +48,8 @@ pub record UnitOf (s : List ℕ) (at : Layout) (file : Text) (index : ℕ) (file
   pub few : units ≤ file-limit
   -- a unit's id is the place of its file among the units' files
   pub ids : (p : Text) → member p (pathsOf (decode s)) ≡ true → position p (unitsOf (decode s)) ≡ indexIn (position p (pathsOf (decode s))) (take units files)
+  -- what is known of the uses
+  pub table : Sound (listsOf (decode s)) s files
   pub others : (p : Text) → member p (pathsOf (decode s)) ≡ false → position p (unitsOf (decode s)) ≡ units
 
 -- the segments that are left are the last ones
@@ -106,3 +110,16 @@ module _ (s : List ℕ) (at : Layout) (file : Text) (index : ℕ) (files : List 
 
   pub to-nothing : (r : Resolution) (n p : ℕ) → r ≡ answer (listsAt s at) (resolvePathInternal (listsAt s at) file segments) → r ≡ Refused n p → Right Nothing
   to-nothing r n p e k = subst (λ (x : Resolution). Right (targetBy files units x)) k (answered r e)
+
+-- a use that was found in the table
+module _ (s : List ℕ) (at : Layout) (file : Text) (index : ℕ) (files : List ℕ) (units : ℕ) (u : UnitOf s at file index files units) (mark : ℕ) where
+  pub to-known : (i id : ℕ) → FindsUse files index mark i → i < 256 → id ≡ indexIn (fileOf files i) (take units files)
+      → (rewriteUse (decode s) file (useAt s mark .segments) ≡ pathBy (useAt s mark .segments) (Unit id (leftOf files i))) × Within (useAt s mark .segments) (Unit id (leftOf files i))
+  to-known i id w lt h =
+      let k = w .found lt in
+      let imp : Importer (listsOf (decode s)) file index = subst (λ (l : Lists). Importer l file index) (u .lists) (u .importer) in
+      let says = u .table .says (k .0) i file index lt imp (k .1 .1) in
+      let q : answer (listsAt s at) (resolvePathInternal (listsAt s at) file (useAt s mark .segments)) ≡ File (fileOf files i) (leftOf files i) =
+      ap (λ (l : Lists). answer l (resolvePathInternal l file (useAt s mark .segments))) (u .lists)
+      ∙ (ap (λ (m : ℕ). answer (listsOf (decode s)) (resolvePathInternal (listsOf (decode s)) file (useAt s m .segments))) (sym (k .1 .0)) ∙ says) in
+      to-file s at file index files units u (useAt s mark .segments) (answer (listsAt s at) (resolvePathInternal (listsAt s at) file (useAt s mark .segments))) (fileOf files i) (leftOf files i) id refl q h

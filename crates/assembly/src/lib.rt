@@ -13,6 +13,8 @@ pub use image::write_image;
 pub use writing::rewrite_use;
 ghost use mathlib.Core.Path.{_≡_};
 ghost use Rattle.assembly.specs.Call.{assembleAnswer, assembleReport, assembleImage};
+use discovery::known::KNOWN;
+use discovery::known::put_files;
 
 // The most units of a bundle: the limit of the reader.
 pub const UNITS: usize = bundle::limits::FILES;
@@ -62,18 +64,20 @@ pub fn assemble(s: &[u8], report: &mut [u8], image: &mut [u8]) -> Answer
     ensures { λ r. ⌜ now (report .exit) ≡ assembleReport (now (s .entry)) (now (report .entry)) ⌝ }
     ensures { λ r. ⌜ now (image .exit) ≡ assembleImage (now (s .entry)) (now (image .entry)) ⌝ }
 {
-    let a = order::order(s, report);
+    let mut known = [0usize; KNOWN];
+    let a = order::order_known(s, report, &mut known);
     let units = a.units;
     if units == 0 {
         return answers::told(a.number, a.place, a.report);
     }
     let files = a.files;
     let ids = a.ids;
-    let f = checks::assembly_faults(s, &files, &ids, units);
+    put_files(&mut known, files);
+    let f = checks::assembly_faults(s, &known, &ids, units);
     let count = f.count;
     if count > 0 {
         return answers::reported(order::write_faults(&f.numbers, &f.places, count, report));
     }
-    let written = image::write_image(s, &files, &ids, units, image);
+    let written = image::write_image(s, &known, &ids, units, image);
     answers::imaged(written, files, ids, units)
 }

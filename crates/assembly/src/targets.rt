@@ -6,7 +6,11 @@ ghost use Rattle.assembly.specs.Assemble.{rewriteUse};
 ghost use Rattle.assembly.specs.Targets.{UnitOf, pathBy, Within};
 ghost use Rattle.assembly.specs.Walk.{segmentsAt};
 use crate::Target;
+use discovery::IDS;
 use discovery::index_of;
+use discovery::known::LEFTS;
+use discovery::known::TARGETS;
+use discovery::known::find_use;
 use resolution::Layout;
 use resolution::Resolution;
 
@@ -23,6 +27,13 @@ pub fn target_of(
     requires { ⌜ UnitOf (now s) at (now file) index (now files) units × UseMark (now s) mark ⌝ }
     ensures { λ r. ⌜ (rewriteUse (decode (now (s .entry))) (now (file .entry)) (segmentsAt (now (s .entry)) mark) ≡ pathBy (segmentsAt (now (s .entry)) mark) r) × Within (segmentsAt (now (s .entry)) mark) r ⌝ }
 {
+    let i = find_use(files, index, mark);
+    if i < IDS {
+        let f = files[TARGETS + i];
+        let left = files[LEFTS + i];
+        let id = index_of(files, units, f);
+        return Target::Unit(id, left);
+    }
     let segments = bundle::use_segments(s, mark);
     let first = segments.first;
     let n = segments.count;

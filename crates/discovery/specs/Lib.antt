@@ -12,4 +12,5 @@ pub mod Record
 pub mod Meaning
 pub mod Readings
 pub mod Turns
+pub mod Known
 pub mod Cases

@@ -6,32 +6,36 @@ ghost use Rattle.bundle.specs.Read.{verdict};
 ghost use Rattle.bundle.specs.declared.Checked.the-variants.{Ok};
 ghost use Rattle.resolution.specs.Lists.{listsOf};
 ghost use Rattle.resolution.specs.Layouts.{listsAt, Small};
+ghost use Rattle.discovery.specs.Known.{Table};
 ghost use Rattle.discovery.specs.Turns.{Invariant, Discovers};
 use crate::FOLDERS;
 use crate::Graph;
 use crate::IDS;
 use crate::UNITS;
 use crate::imports::uses_of;
+use crate::known::KNOWN;
 use crate::lookups::resolve_imports;
 use crate::readings::load_and_parse_dependencies;
 use resolution::Layout;
 
 // All lookups of a unit, then all its readings.
-fn turn(s: &[u8], at: Layout, g: Graph, unit: usize) -> Graph
-    requires { ⌜ (verdict (now s) ≡ Ok) × ((listsAt (now s) at ≡ listsOf (decode (now s))) × Small at) × (Invariant (decode (now s)) unit g × (unit < g .units)) ⌝ }
+fn turn(s: &[u8], at: Layout, g: Graph, unit: usize, known: &mut [usize; KNOWN]) -> Graph
+    requires { ⌜ (verdict (now s) ≡ Ok) × ((listsAt (now s) at ≡ listsOf (decode (now s))) × Small at) × (Invariant (decode (now s)) unit g × (unit < g .units)) × Table (listsOf (decode (now s))) (now s) (now known) ⌝ }
     ensures { λ r. ⌜ Invariant (decode (now (s .entry))) (unit + 1) r ⌝ }
+    ensures { λ r. ⌜ Table (listsOf (decode (now (s .entry)))) (now (s .entry)) (now (known .exit)) ⌝ }
 {
     let index = g.files[unit];
     let place = bundle::file_at(s, index);
     let u = uses_of(s, place);
-    let w = resolve_imports(s, at, bundle::file_path(s, place), index, u, g);
+    let w = resolve_imports(s, at, bundle::file_path(s, place), index, u, g, &mut *known);
     load_and_parse_dependencies(w, unit)
 }
 
 // The graph of a checked bundle. Ruled out: a graph of unit 0 alone where it imports another file; a list with an id twice.
-pub fn discover_dependencies(s: &[u8]) -> Graph
-    requires { ⌜ verdict (now s) ≡ Ok ⌝ }
+pub fn discover(s: &[u8], known: &mut [usize; KNOWN]) -> Graph
+    requires { ⌜ (verdict (now s) ≡ Ok) × Table (listsOf (decode (now s))) (now s) (now known) ⌝ }
     ensures { λ r. ⌜ Discovers (decode (now (s .entry))) r ⌝ }
+    ensures { λ r. ⌜ Table (listsOf (decode (now (s .entry)))) (now (s .entry)) (now (known .exit)) ⌝ }
 {
     let at = resolution::layout_of(s);
     let mut g = Graph {
@@ -52,8 +56,17 @@ pub fn discover_dependencies(s: &[u8]) -> Graph
     };
     let mut unit = 0;
     while unit < g.units {
-        g = turn(s, at, g, unit);
+        g = turn(s, at, g, unit, &mut *known);
         unit += 1;
     }
     g
+}
+
+// The graph alone.
+pub fn discover_dependencies(s: &[u8]) -> Graph
+    requires { ⌜ verdict (now s) ≡ Ok ⌝ }
+    ensures { λ r. ⌜ Discovers (decode (now (s .entry))) r ⌝ }
+{
+    let mut known = [0usize; KNOWN];
+    discover(s, &mut known)
 }

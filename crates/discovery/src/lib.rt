@@ -1,9 +1,11 @@
 // Discovery: which files an entry reaches, and what each of them imports. The functions have the names of driver/mod.rs.
 mod driver;
 mod imports;
+pub mod known;
 mod lookups;
 mod readings;
 
+pub use driver::discover;
 pub use driver::discover_dependencies;
 pub use readings::index_of;
 

@@ -7,9 +7,12 @@ ghost use Rattle.discovery.specs.Walk.{useAt, UseMark, UseMarks, useList
 ghost use Rattle.resolution.specs.Call.{answer};
 ghost use Rattle.resolution.specs.Resolution.{resolvePathInternal};
 ghost use Rattle.discovery.specs.Record.{lookedAll, noImports};
+ghost use Rattle.discovery.specs.Known.{Table};
 use crate::Graph;
 use crate::UNITS;
 use crate::Uses;
+use crate::known::KNOWN;
+use crate::known::keep;
 use resolution::Layout;
 use resolution::Resolution;
 
@@ -26,9 +29,18 @@ fn resolve_single(s: &[u8], at: Layout, file: &[u8], index: usize, mark: usize) 
 
 // All lookups of the file of this index, whose uses these are. What they push is stored here, so that no record is copied for a
 // use. Ruled out: a fault at the place of another use; a use that fails gathered as an import.
-pub fn resolve_imports(s: &[u8], at: Layout, file: &[u8], index: usize, u: Uses, g: Graph) -> Graph
-    requires { ⌜ (Small at × Importer (listsAt (now s) at) (now file) index) × (UseMarks (now s) u × ((u .count ≤ use-limit) × (g .faults + u .count ≤ use-limit))) ⌝ }
+pub fn resolve_imports(
+    s: &[u8],
+    at: Layout,
+    file: &[u8],
+    index: usize,
+    u: Uses,
+    g: Graph,
+    known: &mut [usize; KNOWN],
+) -> Graph
+    requires { ⌜ (Small at × Importer (listsAt (now s) at) (now file) index) × (UseMarks (now s) u × ((u .count ≤ use-limit) × (g .faults + u .count ≤ use-limit))) × Table (listsAt (now s) at) (now s) (now known) ⌝ }
     ensures { λ r. ⌜ r ≡ lookedAll (listsAt (now (s .entry)) at) (now (file .entry)) (useList (now (s .entry)) u) (noImports g) ⌝ }
+    ensures { λ r. ⌜ Table (listsAt (now (s .entry)) at) (now (s .entry)) (now (known .exit)) ⌝ }
 {
     let n = u.count;
     let mut w = g;
@@ -37,6 +49,7 @@ pub fn resolve_imports(s: &[u8], at: Layout, file: &[u8], index: usize, u: Uses,
     while i < n {
         let mark = u.marks[i];
         let found = resolve_single(s, at, file, index, mark);
+        keep(&mut *known, index, mark, found);
         let faults = w.faults;
         let imports = w.imports;
         match found {

@@ -146,7 +146,7 @@ module _ (s out img : List ℕ) (t : Tree) where
         go Ok v = read-due v (ordered b) refl h
 
     -- LINKED UNITS
-    module _ (u : units.Linked s (a .files) (a .ids) (a .units)) (kept : rep ≡ out) where
+    module _ (u : units.LinkedFiles s (a .files) (a .ids) (a .units)) (kept : rep ≡ out) where
       abbrev o : List ℕ
       o = take (a .units) (a .ids)
 

@@ -6,6 +6,8 @@ mod walk;
 ghost use mathlib.Core.Path.{_≡_};
 ghost use Rattle.linker.specs.Call.{linkAnswer, linkReport, linkImage, LinkTree};
 use assembly::Answer;
+use discovery::known::KNOWN;
+use discovery::known::put_files;
 use scopes::Tree;
 
 // Where a walk ended: 0, or the number and the place of the call that was refused.
@@ -36,14 +38,16 @@ pub fn link(s: &[u8], report: &mut [u8], image: &mut [u8], tree: Tree) -> Linked
     ensures { λ r. ⌜ now (image .exit) ≡ linkImage (now (s .entry)) (now (image .entry)) ⌝ }
     ensures { λ r. ⌜ LinkTree (now (s .entry)) (now (image .entry)) tree (r .tree) ⌝ }
 {
-    let a = order::order(s, report);
+    let mut known = [0usize; KNOWN];
+    let a = order::order_known(s, report, &mut known);
     let count = a.units;
     if count == 0 {
         return answers::told(a.number, a.place, a.report, tree);
     }
     let files = a.files;
     let ids = a.ids;
-    let f = assembly::assembly_faults(s, &files, &ids, count);
+    put_files(&mut known, files);
+    let f = assembly::assembly_faults(s, &known, &ids, count);
     let faults = f.count;
     if faults > 0 {
         return answers::reported(
@@ -51,11 +55,11 @@ pub fn link(s: &[u8], report: &mut [u8], image: &mut [u8], tree: Tree) -> Linked
             tree,
         );
     }
-    let w = units::walk_program(s, &files, &ids, count);
+    let w = units::walk_program(s, &known, &ids, count);
     if w.number != 0 {
         return answers::told(w.number, w.place, 0, tree);
     }
     let made = w.tree;
-    let written = assembly::write_image(s, &files, &ids, count, image);
+    let written = assembly::write_image(s, &known, &ids, count, image);
     answers::imaged(written, files, ids, count, made, tree)
 }

@@ -2,17 +2,17 @@
 use Prim.Native.Nat.{ℕ, suc, _+_, _-_, _≤_, _<_}
 use native.Mathlib.Omega.{arith}
 use native.Mathlib.Decide.{decLe}
-use mathlib.Core.Bool.{Bool, true, false, cond, _&&_, not, and-false}
+use mathlib.Core.Bool.{Bool, true, false, cond, _&&_, not, and-false, and-true}
 use mathlib.Core.Path.{_≡_, refl, sym, ap, _∙_}
 use mathlib.Core.List.{List, [], _∷_, _++_}
-use lib.Dec.{leb, leb·suc-suc, leb·suc-zero, leb·zero}
-use lib.ListN.{length, getD, take, drop, length-drop, List·getD-eq-default}
+use lib.Dec.{eqb, eqb·suc-suc, leb, leb·suc-suc, leb·suc-zero, leb·zero}
+use lib.ListN.{length, getD, take, drop, length-append, length-drop, List·getD-eq-default}
 use lib.Seq.{drop-drop, getD-drop, length-take-le}
-use borrow.Author.Tests.{eq-eqb, ne-eqb, lt-ltb, le-ltb, le-leb, lt-leb}
-use Rattle.names.specs.Bytes.{ascii, slash, same, same-eq, same-append, hasPrefix, all}
+use borrow.Author.Tests.{eq-eqb, ne-eqb, eqb-true, lt-ltb, le-ltb, le-leb, lt-leb}
+use Rattle.names.specs.Bytes.{ascii, slash, same, same-eq, same-append, different, hasPrefix, all}
 use Rattle.names.specs.Path.{split, components, render, root, printable, isComponent, wellFormed, isPath}
-use Rattle.names.specs.Prefix.{begins, startsWith, init, parent, depth, stemOf, child}
-use Rattle.names.specs.Pieces.{firstSlash, later, split-is, not-root, root-byte}
+use Rattle.names.specs.Prefix.{begins, startsWith, init, parent, depth, directlyIn, stemOf, child}
+use Rattle.names.specs.Pieces.{firstSlash, later, split-is, leads, begins-leads, not-root, root-byte}
 use Rattle.names.specs.Split.{slashes, length-split, init-split, init-none, render-split}
 
 -- at most n components
@@ -183,16 +183,82 @@ module _ (p d name ending base : List ℕ) (eb : base ≡ stemOf d) where
       (same-append (drop (length base) p) root (name ++ ending)
       ∙ ap (λ (t : Bool). hasPrefix (drop (length base) p) root && t) (same-append (drop 1 (drop (length base) p)) name ending)))
 
-  pub child-elsewhere : hasPrefix p base ≡ false → same p (child d (name ++ ending)) ≡ false
-  child-elsewhere h = child-parts ∙ rw h
+  -- a path of another length
+  pub child-longer : (length p ≡ length base + (1 + (length name + length ending)) → ⊥) → same p (child d (name ++ ending)) ≡ false
+  unfolding child
+  child-longer f = rw (← eb) (different p (base ++ (slash ∷ (name ++ ending))) (λ e. f (ap length e ∙ (let a = length-append base (slash ∷ (name ++ ending)) in let b = length-append name ending in omega arith))))
 
-  module _ (h : hasPrefix p base ≡ true) (rest : List ℕ) (er : rest ≡ drop (length base) p) where
-    pub child-unled : hasPrefix rest root ≡ false → same p (child d (name ++ ending)) ≡ false
-    child-unled k = child-parts ∙ rw (h, ← er, k)
+  module _ (rest : List ℕ) (er : rest ≡ drop (length base) p) (last : List ℕ) (el : last ≡ drop 1 rest) (end : List ℕ) (ee : end ≡ drop (length name) last) where
+    child-tests : same p (child d (name ++ ending)) ≡ (hasPrefix p base && (hasPrefix rest root && (hasPrefix last name && same end ending)))
+    child-tests = rw (ee, el, er) child-parts
 
-    module _ (k : hasPrefix rest root ≡ true) (last : List ℕ) (el : last ≡ drop 1 rest) where
-      pub child-other : hasPrefix last name ≡ false → same p (child d (name ++ ending)) ≡ false
-      child-other l = child-parts ∙ rw (h, ← er, k, ← el, l)
+    pub child-ended : same end ending ≡ false → same p (child d (name ++ ending)) ≡ false
+    child-ended h = child-tests ∙ simp (h, and-false)
 
-      pub child-named : hasPrefix last name ≡ true → same p (child d (name ++ ending)) ≡ same (drop (length name) last) ending
-      child-named l = child-parts ∙ rw (h, ← er, k, ← el, l)
+    pub child-named : hasPrefix last name ≡ false → same p (child d (name ++ ending)) ≡ false
+    child-named h = child-tests ∙ simp (h, and-false)
+
+    pub child-led : hasPrefix rest root ≡ false → same p (child d (name ++ ending)) ≡ false
+    child-led h = child-tests ∙ simp (h, and-false)
+
+    pub child-is : same end ending ≡ true → hasPrefix last name ≡ true → hasPrefix rest root ≡ true → same p (child d (name ++ ending)) ≡ hasPrefix p base
+    child-is h k l = child-tests ∙ rw (h, k, l) (and-true _)
+
+-- DIRECTLY IN A FOLDER
+
+in-pieces : (a b : List ℕ) → (leads a b && eqb (suc (slashes a)) (suc (suc (slashes b)))) ≡ (hasPrefix a b && (hasPrefix (drop (length b) a) root && eqb (slashes (drop 1 (drop (length b) a))) 0))
+unfolding leads slashes hasPrefix same
+in-pieces [] [] = refl
+in-pieces (x ∷ a) [] = go (eqb x slash)
+  where
+    go : (t : Bool) → (t && eqb (suc (cond t (suc (slashes a)) (slashes a))) 2) ≡ ((t && true) && eqb (slashes a) 0)
+    go true = eqb·suc-suc (suc (slashes a)) 1 ∙ eqb·suc-suc (slashes a) 0
+    go false = refl
+in-pieces [] (y ∷ b) = refl
+in-pieces (x ∷ a) (y ∷ b) = go (eqb x y) refl (in-pieces a b)
+  where
+    more : (t : Bool) (m n : ℕ) → eqb (suc (cond t (suc m) m)) (suc (suc (cond t (suc n) n))) ≡ eqb (suc m) (suc (suc n))
+    more true m n = eqb·suc-suc (suc m) (suc (suc n))
+    more false m n = refl
+
+    go : (t : Bool) → eqb x y ≡ t → (leads a b && eqb (suc (slashes a)) (suc (suc (slashes b)))) ≡ (hasPrefix a b && (hasPrefix (drop (length b) a) root && eqb (slashes (drop 1 (drop (length b) a))) 0))
+        → ((t && leads a b) && eqb (suc (cond (eqb x slash) (suc (slashes a)) (slashes a))) (suc (suc (cond (eqb y slash) (suc (slashes b)) (slashes b)))))
+        ≡ ((t && hasPrefix a b) && (hasPrefix (drop (length b) a) root && eqb (slashes (drop 1 (drop (length b) a))) 0))
+    go true h e = rw (eqb-true x y h, more (eqb y slash) (slashes a) (slashes b)) e
+    go false h e = refl
+
+-- no slash, where the first one is at the end
+no-slashes : (s : List ℕ) → eqb (firstSlash s) (length s) ≡ eqb (slashes s) 0
+unfolding slashes firstSlash
+no-slashes [] = refl
+no-slashes (b ∷ s) = go (eqb b slash) (no-slashes s)
+  where
+    go : (t : Bool) → eqb (firstSlash s) (length s) ≡ eqb (slashes s) 0
+        → eqb (cond t 0 (suc (firstSlash s))) (suc (length s)) ≡ eqb (cond t (suc (slashes s)) (slashes s)) 0
+    go true e = ne-eqb 0 (suc (length s)) (λ z. omega arith) ∙ sym (ne-eqb (suc (slashes s)) 0 (λ z. omega arith))
+    go false e = eqb·suc-suc (firstSlash s) (length s) ∙ e
+
+module _ (f d : List ℕ) where
+  pub root-in-none : same f root ≡ true → directlyIn f d ≡ false
+  unfolding directlyIn
+  root-in-none h = rw (depth-root f h, ne-eqb 0 (suc (depth d)) (λ z. omega arith), and-false)
+
+  module _ (nf : same f root ≡ false) (a : List ℕ) (ea : a ≡ drop 1 f) where
+    pub in-root : same d root ≡ true → directlyIn f d ≡ eqb (firstSlash a) (length a)
+    unfolding directlyIn
+    in-root h = rw (starts-root f d h, depth-root d h, depth-is f nf, ← ea) (eqb·suc-suc (slashes a) 0 ∙ sym (no-slashes a))
+
+    module _ (nd : same d root ≡ false) (b : List ℕ) (eb : b ≡ drop 1 d) (rest : List ℕ) (er : rest ≡ drop (length b) a) (last : List ℕ) (el : last ≡ drop 1 rest) where
+      in-tests : directlyIn f d ≡ (hasPrefix a b && (hasPrefix rest root && eqb (firstSlash last) (length last)))
+      unfolding directlyIn
+      in-tests =
+          rw (starts-pieces f d nd nf, depth-is f nf, depth-is d nd, ← ea, ← eb, begins-leads a b, in-pieces a b, ← er, ← el) (rw (no-slashes last))
+
+      pub in-other : hasPrefix rest root ≡ false → directlyIn f d ≡ false
+      in-other h = in-tests ∙ simp (h, and-false)
+
+      pub in-deeper : eqb (firstSlash last) (length last) ≡ false → directlyIn f d ≡ false
+      in-deeper h = in-tests ∙ simp (h, and-false)
+
+      pub in-is : hasPrefix rest root ≡ true → eqb (firstSlash last) (length last) ≡ true → directlyIn f d ≡ hasPrefix a b
+      in-is h k = in-tests ∙ rw (h, k) (and-true _)

@@ -6,7 +6,7 @@ ghost use lib.ListN.{length};
 ghost use Rattle.names.specs.Bytes.{all, same};
 ghost use Rattle.names.specs.Path.{isComponent, isPath, printable, root, wellFormed};
 ghost use Rattle.names.specs.Path.{split as Path·split};
-ghost use Rattle.names.specs.Prefix.{begins, child, childFile, depth, directlyIn, parent, startsWith, stemOf};
+ghost use Rattle.names.specs.Prefix.{begins, child, childFile, directlyIn, parent, startsWith, stemOf};
 ghost use Rattle.names.specs.Pieces.{firstSlash};
 use crate::bytes::after;
 use crate::bytes::has_prefix;
@@ -156,33 +156,28 @@ pub fn starts_with(f: &[u8], p: &[u8]) -> bool
     pieces_begin(after(f, 1), after(p, 1))
 }
 
-// How many components a path has.
-fn depth_of(s: &[u8]) -> usize
-    ensures { λ r. ⌜ (r ≡ depth (now (s .entry))) × (r ≤ length (now (s .entry)) + 1) ⌝ }
-{
-    if is_root(s) {
-        return 0;
-    }
-    let mut n = 1;
-    let mut i = 1;
-    while i < s.len() {
-        if s[i] == SLASH {
-            n += 1;
-        }
-        i += 1;
-    }
-    n
-}
-
 // Whether the path f lies in the folder d and in no folder between. Ruled out: `true` of `/r/a/b` in `/r`; `false` of
 // `/m.simf` in `/`.
 pub fn is_directly_in(f: &[u8], d: &[u8]) -> bool
     ensures { λ r. ⌜ r ≡ directlyIn (now (f .entry)) (now (d .entry)) ⌝ }
 {
-    if !starts_with(f, d) {
+    if is_root(f) {
         return false;
     }
-    depth_of(f) == depth_of(d) + 1
+    let a = after(f, 1);
+    if is_root(d) {
+        return first_slash(a) == a.len();
+    }
+    let b = after(d, 1);
+    let rest = after(a, b.len());
+    if !has_prefix(rest, b"/") {
+        return false;
+    }
+    let last = after(rest, 1);
+    if first_slash(last) != last.len() {
+        return false;
+    }
+    has_prefix(a, b)
 }
 
 // How many bytes the path of the folder has that a path lies in: of a path, as many of its own. Ruled out: 0 for `/a`;
@@ -210,23 +205,36 @@ fn stem(d: &[u8]) -> &[u8]
     d
 }
 
-// Whether p is the path of the name below the folder d, with the ending after it.
+// Whether p is the path of the name below the folder d, with the ending after it. Lengths are compared first, then the parts from the
+// name on, since paths of one folder begin alike.
 fn is_child_with(p: &[u8], d: &[u8], name: &[u8], ending: &[u8]) -> bool
     ensures { λ r. ⌜ r ≡ same (now (p .entry)) (child (now (d .entry)) (now (name .entry) ++ now (ending .entry))) ⌝ }
 {
     let base = stem(d);
-    if !has_prefix(p, base) {
+    let n = base.len();
+    if p.len() <= n {
         return false;
     }
-    let rest = after(p, base.len());
-    if !has_prefix(rest, b"/") {
+    let k = p.len() - n - 1;
+    if k < name.len() {
         return false;
     }
+    if k - name.len() != ending.len() {
+        return false;
+    }
+    let rest = after(p, n);
     let last = after(rest, 1);
     if !has_prefix(last, name) {
         return false;
     }
-    same_bytes(after(last, name.len()), ending)
+    let end = after(last, name.len());
+    if !same_bytes(end, ending) {
+        return false;
+    }
+    if !has_prefix(rest, b"/") {
+        return false;
+    }
+    has_prefix(p, base)
 }
 
 // Whether p is the path of the name below the folder d. Ruled out: `true` of `//a` for `a` below `/`; `false` of `/r/a` for

@@ -4,7 +4,11 @@ mod steps;
 
 pub use report::write_faults;
 ghost use mathlib.Core.Path.{_≡_};
+ghost use Rattle.bundle.specs.Decode.{decode};
+ghost use Rattle.resolution.specs.Lists.{listsOf};
+ghost use Rattle.discovery.specs.Known.{Table};
 ghost use Rattle.order.specs.Call.{orderAnswer, orderReport};
+use discovery::known::KNOWN;
 
 // The most units of a bundle: the limit of the reader.
 pub const UNITS: usize = bundle::limits::FILES;
@@ -32,16 +36,27 @@ pub struct Answer {
 // The units of a bundle in linked order, or a refusal: 1 to 13 of the bundle, the report of discovery's faults or of a ring, or
 // 14 where that exceeds the lent buffer, of which then not a byte is changed. Ruled out: the order of unit 0 alone where the
 // entry imports another file; a ring told of a file that imports only itself.
-pub fn order(s: &[u8], out: &mut [u8]) -> Answer
+pub fn order_known(s: &[u8], out: &mut [u8], known: &mut [usize; KNOWN]) -> Answer
+    requires { ⌜ Table (listsOf (decode (now s))) (now s) (now known) ⌝ }
     ensures { λ r. ⌜ r ≡ orderAnswer (now (s .entry)) (now (out .entry)) ⌝ }
     ensures { λ r. ⌜ now (out .exit) ≡ orderReport (now (s .entry)) (now (out .entry)) ⌝ }
+    ensures { λ r. ⌜ Table (listsOf (decode (now (s .entry)))) (now (s .entry)) (now (known .exit)) ⌝ }
 {
     let checked = bundle::check(s);
     match checked {
         bundle::Checked::Refused(n, p) => steps::refuse(n, p),
         bundle::Checked::Ok => {
-            let g = discovery::discover_dependencies(s);
+            let g = discovery::discover(s, &mut *known);
             steps::order_of(g, out)
         }
     }
+}
+
+// The same, where nothing more is asked.
+pub fn order(s: &[u8], out: &mut [u8]) -> Answer
+    ensures { λ r. ⌜ r ≡ orderAnswer (now (s .entry)) (now (out .entry)) ⌝ }
+    ensures { λ r. ⌜ now (out .exit) ≡ orderReport (now (s .entry)) (now (out .entry)) ⌝ }
+{
+    let mut known = [0usize; KNOWN];
+    order_known(s, out, &mut known)
 }

@@ -1,128 +1,110 @@
 use native.Mathlib.Omega.{arith}
-use mathlib.Core.Path.{_≡_}
+use mathlib.Core.Path.{_≡_, _∙_}
 use lib.ListN.{length}
 use denote.Ref.{now}
+use Rattle.discovery.specs.Known.{table-none}
+use Rattle.assembly.specs.Linked.{known-linked}
 use Rattle.assembly.specs.Join.{units-linked}
 use Rattle.linker.specs.Join.{no-units, faults-due, ended-due, image-due}
 use borrow.Author.Needs.{needs}
 use Rattle.linker.proofs.link.Statement.{statement}
 use Rattle.linker.proofs.link.Tie as tie
 
--- src/lib.rt:39:9
-order-requires : tie.Need-order-requires
-order-requires c κs = search needs
+order-known-requires : tie.Need-order-known-requires
+order-known-requires c κs = table-none _ _
 
--- src/lib.rt:42:9
 told-requires : tie.Need-told-requires
 told-requires c κs = search needs
 
--- src/lib.rt:42:9
 same-length : tie.Need-same-length
 same-length c = search needs
 
--- src/lib.rt:42:9
 returns : tie.Need-returns
-returns c = no-units (now (c .before .before .before .before .before .before .before .before .before .args .s)) (now (c .before .before .before .before .before .before .before .before .before .args .report)) (now (c .before .before .before .before .before .before .before .before .before .args .image)) (c .before .before .before .before .before .before .before .before .before .args .tree) (c .before .before .before .before .order .result) (c .before .before .before .before .order .last .1 .0) (c .before .before .before .before .order .ensures .0) (c .before .before .before .before .order .ensures .1) (c .before .if1 .taken) (c .told .result) (c .told .ensures)
+returns c = no-units (now (c .before .before .before .before .before .before .before .before .before .before .args .s)) (now (c .before .before .before .before .before .before .before .before .before .before .args .report)) (now (c .before .before .before .before .before .before .before .before .before .before .args .image)) (c .before .before .before .before .before .before .before .before .before .before .args .tree) (c .before .before .before .before .order-known .result) (c .before .before .before .before .order-known .last .1 .0) (c .before .before .before .before .order-known .ensures .0) (c .before .before .before .before .order-known .ensures .1 .0) (c .before .if1 .taken) (c .told .result) (c .told .ensures)
 
--- src/lib.rt:46:42
+put-files-requires : tie.Need-put-files-requires
+put-files-requires c κs = c .before .before .before .before .before .before .order-known .ensures .1 .1 .long
+
 slice-aggregate-assembly-faults : tie.Need-slice-aggregate-assembly-faults
 slice-aggregate-assembly-faults c = search needs
 
--- src/lib.rt:46:50
 slice-aggregate-assembly-faults-2 : tie.Need-slice-aggregate-assembly-faults-2
 slice-aggregate-assembly-faults-2 c = search needs
 
--- src/lib.rt:46:13
 assembly-faults-requires : tie.Need-assembly-faults-requires
-assembly-faults-requires c κs = units-linked (now (c .before .before .before .before .before .before .before .before .before .before .before .before .args .s)) (now (c .before .before .before .before .before .before .before .before .before .before .before .before .args .report)) (now (c .before .before .before .before .before .before .before .before .before .before .before .before .args .image)) (c .before .before .before .before .before .before .before .order .result) (c .before .before .before .before .before .before .before .order .last .1 .0) (c .before .before .before .before .before .before .before .order .ensures .0) (c .before .before .before .before .before .before .before .order .ensures .1) (c .before .before .before .before .if1 .left) .0
+assembly-faults-requires c κs = known-linked (units-linked (now (c .before .before .before .before .before .before .before .before .before .before .before .before .before .before .before .args .s)) (now (c .before .before .before .before .before .before .before .before .before .before .before .before .before .before .before .args .report)) (now (c .before .before .before .before .before .before .before .before .before .before .before .before .before .before .before .args .image)) (c .before .before .before .before .before .before .before .before .before .order-known .result) (c .before .before .before .before .before .before .before .before .before .order-known .last .1 .0) (c .before .before .before .before .before .before .before .before .before .order-known .ensures .0) (c .before .before .before .before .before .before .before .before .before .order-known .ensures .1 .0) (c .before .before .before .before .before .before .if1 .left) .0) (c .before .before .before .before .before .before .before .before .before .order-known .ensures .1 .1) (c .before .before .put-files .ensures)
 
--- src/lib.rt:50:13
 write-faults-requires : tie.Need-write-faults-requires
 write-faults-requires c κs = search needs
 
--- src/lib.rt:49:9
 reported-requires : tie.Need-reported-requires
 reported-requires c κs = search needs
 
--- src/lib.rt:49:9
 same-length-2 : tie.Need-same-length-2
-same-length-2 c = search (needs, c .before .before .before .write-faults, c .before .before .before .before .before .before .before .before .before .before .before .before .before .before .before .before .before .before .before .order)
+same-length-2 c = search (needs, c .before .before .before .write-faults, c .before .before .before .before .before .before .before .before .before .before .before .before .before .before .before .before .before .before .before .before .before .order-known)
 
--- src/lib.rt:49:9
 returns-2 : tie.Need-returns-2
 returns-2 c =
-    let l = units-linked (now (c .before .before .before .before .before .before .before .before .before .before .before .before .before .before .before .before .before .before .before .before .before .before .before .before .args .s)) (now (c .before .before .before .before .before .before .before .before .before .before .before .before .before .before .before .before .before .before .before .before .before .before .before .before .args .report)) (now (c .before .before .before .before .before .before .before .before .before .before .before .before .before .before .before .before .before .before .before .before .before .before .before .before .args .image)) (c .before .before .before .before .before .before .before .before .before .before .before .before .before .before .before .before .before .before .before .order .result) (c .before .before .before .before .before .before .before .before .before .before .before .before .before .before .before .before .before .before .before .order .last .1 .0) (c .before .before .before .before .before .before .before .before .before .before .before .before .before .before .before .before .before .before .before .order .ensures .0) (c .before .before .before .before .before .before .before .before .before .before .before .before .before .before .before .before .before .before .before .order .ensures .1) (c .before .before .before .before .before .before .before .before .before .before .before .before .before .before .before .before .if1 .left) in
+    let l = units-linked (now (c .before .before .before .before .before .before .before .before .before .before .before .before .before .before .before .before .before .before .before .before .before .before .before .before .before .before .before .args .s)) (now (c .before .before .before .before .before .before .before .before .before .before .before .before .before .before .before .before .before .before .before .before .before .before .before .before .before .before .before .args .report)) (now (c .before .before .before .before .before .before .before .before .before .before .before .before .before .before .before .before .before .before .before .before .before .before .before .before .before .before .before .args .image)) (c .before .before .before .before .before .before .before .before .before .before .before .before .before .before .before .before .before .before .before .before .before .order-known .result) (c .before .before .before .before .before .before .before .before .before .before .before .before .before .before .before .before .before .before .before .before .before .order-known .last .1 .0) (c .before .before .before .before .before .before .before .before .before .before .before .before .before .before .before .before .before .before .before .before .before .order-known .ensures .0) (c .before .before .before .before .before .before .before .before .before .before .before .before .before .before .before .before .before .before .before .before .before .order-known .ensures .1 .0) (c .before .before .before .before .before .before .before .before .before .before .before .before .before .before .before .before .before .before .if1 .left) in
     let zn : length (c .before .before .before .before .before .before .before .before .before .before .before .assembly-faults .result .numbers) ≡ 1025 = search (needs, c .before .before .before .before .before .before .before .before .before .before .before .assembly-faults) in
     let zp : length (c .before .before .before .before .before .before .before .before .before .before .before .assembly-faults .result .places) ≡ 1025 = search (needs, c .before .before .before .before .before .before .before .before .before .before .before .assembly-faults) in
     let few = c .before .before .before .before .before .before .before .before .before .before .before .assembly-faults .ensures .1 in
-    faults-due (now (c .before .before .before .before .before .before .before .before .before .before .before .before .before .before .before .before .before .before .before .before .before .before .before .before .args .s)) (now (c .before .before .before .before .before .before .before .before .before .before .before .before .before .before .before .before .before .before .before .before .before .before .before .before .args .report)) (now (c .before .before .before .before .before .before .before .before .before .before .before .before .before .before .before .before .before .before .before .before .before .before .before .before .args .image)) (c .before .before .before .before .before .before .before .before .before .before .before .before .before .before .before .before .before .before .before .before .before .before .before .before .args .tree) (c .before .before .before .before .before .before .before .before .before .before .before .before .before .before .before .before .before .before .before .order .result) (c .before .before .before .before .before .before .before .before .before .before .before .before .before .before .before .before .before .before .before .order .last .1 .0) (c .before .before .before .before .before .before .before .before .before .before .before .before .before .before .before .before .before .before .before .order .ensures .0) (c .before .before .before .before .before .before .before .before .before .before .before .before .before .before .before .before .before .before .before .order .ensures .1) (l .0) (l .1) (c .before .before .before .before .before .before .before .before .before .before .before .assembly-faults .result .numbers) (c .before .before .before .before .before .before .before .before .before .before .before .assembly-faults .result .places) (c .before .before .before .before .before .before .before .before .before .before .before .assembly-faults .result .count) (c .before .before .before .before .before .before .before .before .before .before .before .assembly-faults .ensures .0) (c .before .before .before .write-faults .last .1 .1 .1 .0) (c .before .before .before .write-faults .result) (c .reported .result) (omega arith) (omega arith) (c .before .before .before .before .before .before .before .before .before .before .if2 .taken) (c .before .before .before .write-faults .ensures .0) (c .reported .ensures) (c .before .before .before .write-faults .ensures .1)
+    faults-due (now (c .before .before .before .before .before .before .before .before .before .before .before .before .before .before .before .before .before .before .before .before .before .before .before .before .before .before .before .args .s)) (now (c .before .before .before .before .before .before .before .before .before .before .before .before .before .before .before .before .before .before .before .before .before .before .before .before .before .before .before .args .report)) (now (c .before .before .before .before .before .before .before .before .before .before .before .before .before .before .before .before .before .before .before .before .before .before .before .before .before .before .before .args .image)) (c .before .before .before .before .before .before .before .before .before .before .before .before .before .before .before .before .before .before .before .before .before .before .before .before .before .before .before .args .tree) (c .before .before .before .before .before .before .before .before .before .before .before .before .before .before .before .before .before .before .before .before .before .order-known .result) (c .before .before .before .before .before .before .before .before .before .before .before .before .before .before .before .before .before .before .before .before .before .order-known .last .1 .0) (c .before .before .before .before .before .before .before .before .before .before .before .before .before .before .before .before .before .before .before .before .before .order-known .ensures .0) (c .before .before .before .before .before .before .before .before .before .before .before .before .before .before .before .before .before .before .before .before .before .order-known .ensures .1 .0) (l .0) (l .1) (c .before .before .before .before .before .before .before .before .before .before .before .assembly-faults .result .numbers) (c .before .before .before .before .before .before .before .before .before .before .before .assembly-faults .result .places) (c .before .before .before .before .before .before .before .before .before .before .before .assembly-faults .result .count) (c .before .before .before .before .before .before .before .before .before .before .before .assembly-faults .ensures .0) (c .before .before .before .write-faults .last .1 .1 .1 .0) (c .before .before .before .write-faults .result) (c .reported .result) (omega arith) (omega arith) (c .before .before .before .before .before .before .before .before .before .before .if2 .taken) (c .before .before .before .write-faults .ensures .0) (c .reported .ensures) (c .before .before .before .write-faults .ensures .1)
 
--- src/lib.rt:54:36
 slice-aggregate-walk-program : tie.Need-slice-aggregate-walk-program
 slice-aggregate-walk-program c = search needs
 
--- src/lib.rt:54:44
 slice-aggregate-walk-program-2 : tie.Need-slice-aggregate-walk-program-2
-slice-aggregate-walk-program-2 c = search needs
+slice-aggregate-walk-program-2 c = search (needs, c .before .before .before .before .before .before .before .before .before .before .before .before .before .order-known)
 
--- src/lib.rt:54:9
 walk-program-requires : tie.Need-walk-program-requires
-walk-program-requires c κs = units-linked (now (c .before .before .before .before .before .before .before .before .before .before .before .before .before .before .before .before .args .s)) (now (c .before .before .before .before .before .before .before .before .before .before .before .before .before .before .before .before .args .report)) (now (c .before .before .before .before .before .before .before .before .before .before .before .before .before .before .before .before .args .image)) (c .before .before .before .before .before .before .before .before .before .before .before .order .result) (c .before .before .before .before .before .before .before .before .before .before .before .order .last .1 .0) (c .before .before .before .before .before .before .before .before .before .before .before .order .ensures .0) (c .before .before .before .before .before .before .before .before .before .before .before .order .ensures .1) (c .before .before .before .before .before .before .before .before .if1 .left) .0
+walk-program-requires c κs = known-linked (units-linked (now (c .before .before .before .before .before .before .before .before .before .before .before .before .before .before .before .before .before .before .before .args .s)) (now (c .before .before .before .before .before .before .before .before .before .before .before .before .before .before .before .before .before .before .before .args .report)) (now (c .before .before .before .before .before .before .before .before .before .before .before .before .before .before .before .before .before .before .before .args .image)) (c .before .before .before .before .before .before .before .before .before .before .before .before .before .order-known .result) (c .before .before .before .before .before .before .before .before .before .before .before .before .before .order-known .last .1 .0) (c .before .before .before .before .before .before .before .before .before .before .before .before .before .order-known .ensures .0) (c .before .before .before .before .before .before .before .before .before .before .before .before .before .order-known .ensures .1 .0) (c .before .before .before .before .before .before .before .before .before .before .if1 .left) .0) (c .before .before .before .before .before .before .before .before .before .before .before .before .before .order-known .ensures .1 .1) (c .before .before .before .before .before .before .put-files .ensures)
 
--- src/lib.rt:56:9
 told-requires-2 : tie.Need-told-requires-2
 told-requires-2 c κs = search needs
 
--- src/lib.rt:56:9
 same-length-3 : tie.Need-same-length-3
-same-length-3 c = search (needs, c .before .before .before .before .before .before .before .before .before .before .before .before .before .before .before .order)
+same-length-3 c = search (needs, c .before .before .before .before .before .before .before .before .before .before .before .before .before .before .before .before .before .order-known)
 
--- src/lib.rt:56:9
 returns-3 : tie.Need-returns-3
 returns-3 c =
-    let l = units-linked (now (c .before .before .before .before .before .before .before .before .before .before .before .before .before .before .before .before .before .before .before .before .args .s)) (now (c .before .before .before .before .before .before .before .before .before .before .before .before .before .before .before .before .before .before .before .before .args .report)) (now (c .before .before .before .before .before .before .before .before .before .before .before .before .before .before .before .before .before .before .before .before .args .image)) (c .before .before .before .before .before .before .before .before .before .before .before .before .before .before .before .order .result) (c .before .before .before .before .before .before .before .before .before .before .before .before .before .before .before .order .last .1 .0) (c .before .before .before .before .before .before .before .before .before .before .before .before .before .before .before .order .ensures .0) (c .before .before .before .before .before .before .before .before .before .before .before .before .before .before .before .order .ensures .1) (c .before .before .before .before .before .before .before .before .before .before .before .before .if1 .left) in
+    let l = units-linked (now (c .before .before .before .before .before .before .before .before .before .before .before .before .before .before .before .before .before .before .before .before .before .before .before .args .s)) (now (c .before .before .before .before .before .before .before .before .before .before .before .before .before .before .before .before .before .before .before .before .before .before .before .args .report)) (now (c .before .before .before .before .before .before .before .before .before .before .before .before .before .before .before .before .before .before .before .before .before .before .before .args .image)) (c .before .before .before .before .before .before .before .before .before .before .before .before .before .before .before .before .before .order-known .result) (c .before .before .before .before .before .before .before .before .before .before .before .before .before .before .before .before .before .order-known .last .1 .0) (c .before .before .before .before .before .before .before .before .before .before .before .before .before .before .before .before .before .order-known .ensures .0) (c .before .before .before .before .before .before .before .before .before .before .before .before .before .before .before .before .before .order-known .ensures .1 .0) (c .before .before .before .before .before .before .before .before .before .before .before .before .before .before .if1 .left) in
     let z : c .before .before .before .before .before .before .before .assembly-faults .result .count ≡ 0 = omega (arith, c .before .before .before .before .before .before .if2 .left) in
-    ended-due (now (c .before .before .before .before .before .before .before .before .before .before .before .before .before .before .before .before .before .before .before .before .args .s)) (now (c .before .before .before .before .before .before .before .before .before .before .before .before .before .before .before .before .before .before .before .before .args .report)) (now (c .before .before .before .before .before .before .before .before .before .before .before .before .before .before .before .before .before .before .before .before .args .image)) (c .before .before .before .before .before .before .before .before .before .before .before .before .before .before .before .before .before .before .before .before .args .tree) (c .before .before .before .before .before .before .before .before .before .before .before .before .before .before .before .order .result) (c .before .before .before .before .before .before .before .before .before .before .before .before .before .before .before .order .last .1 .0) (c .before .before .before .before .before .before .before .before .before .before .before .before .before .before .before .order .ensures .0) (c .before .before .before .before .before .before .before .before .before .before .before .before .before .before .before .order .ensures .1) (l .0) (l .1) (c .before .before .before .before .before .before .before .assembly-faults .result .numbers) (c .before .before .before .before .before .before .before .assembly-faults .result .places) (c .before .before .before .before .before .before .before .assembly-faults .result .count) (c .before .before .before .before .before .before .before .assembly-faults .ensures .0) z (c .before .before .before .walk-program .result) (c .before .before .before .walk-program .ensures) (c .before .if3 .taken) (c .told2 .result) (c .told2 .ensures)
+    ended-due (now (c .before .before .before .before .before .before .before .before .before .before .before .before .before .before .before .before .before .before .before .before .before .before .before .args .s)) (now (c .before .before .before .before .before .before .before .before .before .before .before .before .before .before .before .before .before .before .before .before .before .before .before .args .report)) (now (c .before .before .before .before .before .before .before .before .before .before .before .before .before .before .before .before .before .before .before .before .before .before .before .args .image)) (c .before .before .before .before .before .before .before .before .before .before .before .before .before .before .before .before .before .before .before .before .before .before .before .args .tree) (c .before .before .before .before .before .before .before .before .before .before .before .before .before .before .before .before .before .order-known .result) (c .before .before .before .before .before .before .before .before .before .before .before .before .before .before .before .before .before .order-known .last .1 .0) (c .before .before .before .before .before .before .before .before .before .before .before .before .before .before .before .before .before .order-known .ensures .0) (c .before .before .before .before .before .before .before .before .before .before .before .before .before .before .before .before .before .order-known .ensures .1 .0) (l .0) (l .1) (c .before .before .before .before .before .before .before .assembly-faults .result .numbers) (c .before .before .before .before .before .before .before .assembly-faults .result .places) (c .before .before .before .before .before .before .before .assembly-faults .result .count) (c .before .before .before .before .before .before .before .assembly-faults .ensures .0) z (c .before .before .before .walk-program .result) (c .before .before .before .walk-program .ensures) (c .before .if3 .taken) (c .told2 .result) (c .told2 .ensures)
 
--- src/lib.rt:59:44
 slice-aggregate-write-image : tie.Need-slice-aggregate-write-image
-slice-aggregate-write-image c = search (needs, c .before .before .before .before .before .before .before .before .before .before .before .before .before .before .before .before .order)
+slice-aggregate-write-image c = search (needs, c .before .before .before .before .before .before .before .before .before .before .before .put-files .ensures .wide ∙ c .before .before .before .before .before .before .before .before .before .before .before .before .before .before .before .before .before .before .order-known .ensures .1 .1 .long)
 
--- src/lib.rt:59:52
 slice-aggregate-write-image-2 : tie.Need-slice-aggregate-write-image-2
-slice-aggregate-write-image-2 c = search (needs, c .before .before .before .before .before .before .before .before .before .before .before .before .before .before .before .before .before .order)
+slice-aggregate-write-image-2 c = search (needs, c .before .before .before .before .before .before .before .before .before .before .before .before .before .before .before .before .before .before .before .order-known)
 
--- src/lib.rt:59:9
 write-image-requires : tie.Need-write-image-requires
-write-image-requires c κs = units-linked (now (c .before .before .before .before .before .before .before .before .before .before .before .before .before .before .before .before .before .before .before .before .before .before .before .args .s)) (now (c .before .before .before .before .before .before .before .before .before .before .before .before .before .before .before .before .before .before .before .before .before .before .before .args .report)) (now (c .before .before .before .before .before .before .before .before .before .before .before .before .before .before .before .before .before .before .before .before .before .before .before .args .image)) (c .before .before .before .before .before .before .before .before .before .before .before .before .before .before .before .before .before .before .order .result) (c .before .before .before .before .before .before .before .before .before .before .before .before .before .before .before .before .before .before .order .last .1 .0) (c .before .before .before .before .before .before .before .before .before .before .before .before .before .before .before .before .before .before .order .ensures .0) (c .before .before .before .before .before .before .before .before .before .before .before .before .before .before .before .before .before .before .order .ensures .1) (c .before .before .before .before .before .before .before .before .before .before .before .before .before .before .before .if1 .left) .0
+write-image-requires c κs = known-linked (units-linked (now (c .before .before .before .before .before .before .before .before .before .before .before .before .before .before .before .before .before .before .before .before .before .before .before .before .before .before .args .s)) (now (c .before .before .before .before .before .before .before .before .before .before .before .before .before .before .before .before .before .before .before .before .before .before .before .before .before .before .args .report)) (now (c .before .before .before .before .before .before .before .before .before .before .before .before .before .before .before .before .before .before .before .before .before .before .before .before .before .before .args .image)) (c .before .before .before .before .before .before .before .before .before .before .before .before .before .before .before .before .before .before .before .before .order-known .result) (c .before .before .before .before .before .before .before .before .before .before .before .before .before .before .before .before .before .before .before .before .order-known .last .1 .0) (c .before .before .before .before .before .before .before .before .before .before .before .before .before .before .before .before .before .before .before .before .order-known .ensures .0) (c .before .before .before .before .before .before .before .before .before .before .before .before .before .before .before .before .before .before .before .before .order-known .ensures .1 .0) (c .before .before .before .before .before .before .before .before .before .before .before .before .before .before .before .before .before .if1 .left) .0) (c .before .before .before .before .before .before .before .before .before .before .before .before .before .before .before .before .before .before .before .before .order-known .ensures .1 .1) (c .before .before .before .before .before .before .before .before .before .before .before .before .before .put-files .ensures)
 
--- src/lib.rt:60:5
 imaged-requires : tie.Need-imaged-requires
 imaged-requires c κs = search needs
 
--- src/lib.rt:33:1
 same-length-4 : tie.Need-same-length-4
-same-length-4 c = search (needs, c .before .before .before .before .before .before .before .before .before .before .before .before .before .before .before .before .before .before .before .before .before .before .order)
+same-length-4 c = search (needs, c .before .before .before .before .before .before .before .before .before .before .before .before .before .before .before .before .before .before .before .before .before .before .before .before .order-known)
 
--- src/lib.rt:33:1
 same-length-5 : tie.Need-same-length-5
 same-length-5 c = search needs
 
--- src/lib.rt:33:1
 returns-4 : tie.Need-returns-4
 returns-4 c =
-    let l = units-linked (now (c .before .before .before .before .before .before .before .before .before .before .before .before .before .before .before .before .before .before .before .before .before .before .before .before .before .before .before .args .s)) (now (c .before .before .before .before .before .before .before .before .before .before .before .before .before .before .before .before .before .before .before .before .before .before .before .before .before .before .before .args .report)) (now (c .before .before .before .before .before .before .before .before .before .before .before .before .before .before .before .before .before .before .before .before .before .before .before .before .before .before .before .args .image)) (c .before .before .before .before .before .before .before .before .before .before .before .before .before .before .before .before .before .before .before .before .before .before .order .result) (c .before .before .before .before .before .before .before .before .before .before .before .before .before .before .before .before .before .before .before .before .before .before .order .last .1 .0) (c .before .before .before .before .before .before .before .before .before .before .before .before .before .before .before .before .before .before .before .before .before .before .order .ensures .0) (c .before .before .before .before .before .before .before .before .before .before .before .before .before .before .before .before .before .before .before .before .before .before .order .ensures .1) (c .before .before .before .before .before .before .before .before .before .before .before .before .before .before .before .before .before .before .before .if1 .left) in
+    let l = units-linked (now (c .before .before .before .before .before .before .before .before .before .before .before .before .before .before .before .before .before .before .before .before .before .before .before .before .before .before .before .before .before .before .args .s)) (now (c .before .before .before .before .before .before .before .before .before .before .before .before .before .before .before .before .before .before .before .before .before .before .before .before .before .before .before .before .before .before .args .report)) (now (c .before .before .before .before .before .before .before .before .before .before .before .before .before .before .before .before .before .before .before .before .before .before .before .before .before .before .before .before .before .before .args .image)) (c .before .before .before .before .before .before .before .before .before .before .before .before .before .before .before .before .before .before .before .before .before .before .before .before .order-known .result) (c .before .before .before .before .before .before .before .before .before .before .before .before .before .before .before .before .before .before .before .before .before .before .before .before .order-known .last .1 .0) (c .before .before .before .before .before .before .before .before .before .before .before .before .before .before .before .before .before .before .before .before .before .before .before .before .order-known .ensures .0) (c .before .before .before .before .before .before .before .before .before .before .before .before .before .before .before .before .before .before .before .before .before .before .before .before .order-known .ensures .1 .0) (c .before .before .before .before .before .before .before .before .before .before .before .before .before .before .before .before .before .before .before .before .before .if1 .left) in
     let z : c .before .before .before .before .before .before .before .before .before .before .before .before .before .before .assembly-faults .result .count ≡ 0 = omega (arith, c .before .before .before .before .before .before .before .before .before .before .before .before .before .if2 .left) in
-    image-due (now (c .before .before .before .before .before .before .before .before .before .before .before .before .before .before .before .before .before .before .before .before .before .before .before .before .before .before .before .args .s)) (now (c .before .before .before .before .before .before .before .before .before .before .before .before .before .before .before .before .before .before .before .before .before .before .before .before .before .before .before .args .report)) (now (c .before .before .before .before .before .before .before .before .before .before .before .before .before .before .before .before .before .before .before .before .before .before .before .before .before .before .before .args .image)) (c .before .before .before .before .before .before .before .before .before .before .before .before .before .before .before .before .before .before .before .before .before .before .before .before .before .before .before .args .tree) (c .before .before .before .before .before .before .before .before .before .before .before .before .before .before .before .before .before .before .before .before .before .before .order .result) (c .before .before .before .before .before .before .before .before .before .before .before .before .before .before .before .before .before .before .before .before .before .before .order .last .1 .0) (c .before .before .before .before .before .before .before .before .before .before .before .before .before .before .before .before .before .before .before .before .before .before .order .ensures .0) (c .before .before .before .before .before .before .before .before .before .before .before .before .before .before .before .before .before .before .before .before .before .before .order .ensures .1) (l .0) (l .1) (c .before .before .before .before .before .before .before .before .before .before .before .before .before .before .assembly-faults .result .numbers) (c .before .before .before .before .before .before .before .before .before .before .before .before .before .before .assembly-faults .result .places) (c .before .before .before .before .before .before .before .before .before .before .before .before .before .before .assembly-faults .result .count) (c .before .before .before .before .before .before .before .before .before .before .before .before .before .before .assembly-faults .ensures .0) z (c .before .before .before .before .before .before .before .before .before .before .walk-program .result) (c .before .before .before .before .before .before .before .before .before .before .walk-program .ensures) (c .before .before .before .before .before .before .before .before .if3 .left) (c .before .before .before .write-image .last .1 .1 .1 .1 .0) (c .before .before .before .write-image .result) (c .imaged .result) (c .before .before .before .write-image .ensures .0) (c .imaged .ensures) (c .before .before .before .write-image .ensures .1)
+    image-due (now (c .before .before .before .before .before .before .before .before .before .before .before .before .before .before .before .before .before .before .before .before .before .before .before .before .before .before .before .before .before .before .args .s)) (now (c .before .before .before .before .before .before .before .before .before .before .before .before .before .before .before .before .before .before .before .before .before .before .before .before .before .before .before .before .before .before .args .report)) (now (c .before .before .before .before .before .before .before .before .before .before .before .before .before .before .before .before .before .before .before .before .before .before .before .before .before .before .before .before .before .before .args .image)) (c .before .before .before .before .before .before .before .before .before .before .before .before .before .before .before .before .before .before .before .before .before .before .before .before .before .before .before .before .before .before .args .tree) (c .before .before .before .before .before .before .before .before .before .before .before .before .before .before .before .before .before .before .before .before .before .before .before .before .order-known .result) (c .before .before .before .before .before .before .before .before .before .before .before .before .before .before .before .before .before .before .before .before .before .before .before .before .order-known .last .1 .0) (c .before .before .before .before .before .before .before .before .before .before .before .before .before .before .before .before .before .before .before .before .before .before .before .before .order-known .ensures .0) (c .before .before .before .before .before .before .before .before .before .before .before .before .before .before .before .before .before .before .before .before .before .before .before .before .order-known .ensures .1 .0) (l .0) (l .1) (c .before .before .before .before .before .before .before .before .before .before .before .before .before .before .assembly-faults .result .numbers) (c .before .before .before .before .before .before .before .before .before .before .before .before .before .before .assembly-faults .result .places) (c .before .before .before .before .before .before .before .before .before .before .before .before .before .before .assembly-faults .result .count) (c .before .before .before .before .before .before .before .before .before .before .before .before .before .before .assembly-faults .ensures .0) z (c .before .before .before .before .before .before .before .before .before .before .walk-program .result) (c .before .before .before .before .before .before .before .before .before .before .walk-program .ensures) (c .before .before .before .before .before .before .before .before .if3 .left) (c .before .before .before .write-image .last .1 .1 .1 .1 .0) (c .before .before .before .write-image .result) (c .imaged .result) (c .before .before .before .write-image .ensures .0) (c .imaged .ensures) (c .before .before .before .write-image .ensures .1)
 
 pub link-spec : {M : Type 1} → statement M
 link-spec =
     tie.close
     (tie.spec
-    order-requires
+    order-known-requires
     told-requires
     same-length
     returns
+    put-files-requires
     slice-aggregate-assembly-faults
     slice-aggregate-assembly-faults-2
     assembly-faults-requires

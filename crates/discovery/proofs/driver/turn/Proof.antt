@@ -10,6 +10,7 @@ use Rattle.bundle.specs.Decode.{decode, fileAt}
 use Rattle.resolution.specs.Lists.{Lists}
 use Rattle.resolution.specs.Layouts.{listsAt, Importer}
 use Rattle.discovery.specs.declared.Graph.{Graph}
+use Rattle.discovery.specs.Known.{table-of}
 use Rattle.discovery.specs.Room.{checked-roomy}
 use Rattle.discovery.specs.Walk.{useList}
 use Rattle.discovery.specs.Record.{ReadsRoom, readAll}
@@ -49,25 +50,25 @@ file-path-requires c κs = omega (arith, c .before .file-at .ensures .1)
 -- src/driver.rt:27:9
 resolve-imports-requires : tie.Need-resolve-imports-requires
 resolve-imports-requires c κs =
-    let i = importer (decode (c .before .before .before .before .before .args .s .now)) (checked-roomy (c .before .before .before .before .before .args .s .now) (c .before .before .before .before .before .pre .0)) (c .before .before .before .before .before .args .unit) (c .before .before .before .before .before .args .t3) (c .before .before .before .before .before .pre .2 .0) (c .before .before .before .before .before .pre .2 .1) (fileAt (c .before .before .before .before .before .args .s .now) (c .before .before .file-at .result)) (c .before .before .file-at .ensures .0 (fileAt (c .before .before .before .before .before .args .s .now) (c .before .before .file-at .result)) (place-small (decode (c .before .before .before .before .before .args .s .now)) (checked-roomy (c .before .before .before .before .before .args .s .now) (c .before .before .before .before .before .pre .0)) (c .before .before .before .before .before .args .unit) (c .before .before .before .before .before .args .t3) (c .before .before .before .before .before .pre .2 .0) (c .before .before .before .before .before .pre .2 .1))) in
-    let w = faults-fit (decode (c .before .before .before .before .before .args .s .now)) (checked-roomy (c .before .before .before .before .before .args .s .now) (c .before .before .before .before .before .pre .0)) (c .before .before .before .before .before .args .unit) (c .before .before .before .before .before .args .t3) (c .before .before .before .before .before .pre .2 .0) (c .before .before .before .before .before .pre .2 .1) (fileAt (c .before .before .before .before .before .args .s .now) (c .before .before .file-at .result)) (c .before .before .file-at .ensures .0 (fileAt (c .before .before .before .before .before .args .s .now) (c .before .before .file-at .result)) (place-small (decode (c .before .before .before .before .before .args .s .now)) (checked-roomy (c .before .before .before .before .before .args .s .now) (c .before .before .before .before .before .pre .0)) (c .before .before .before .before .before .args .unit) (c .before .before .before .before .before .args .t3) (c .before .before .before .before .before .pre .2 .0) (c .before .before .before .before .before .pre .2 .1))) in
-    let k = uses-fit (decode (c .before .before .before .before .before .args .s .now)) (checked-roomy (c .before .before .before .before .before .args .s .now) (c .before .before .before .before .before .pre .0)) (c .before .before .before .before .before .args .unit) (c .before .before .before .before .before .args .t3) (c .before .before .before .before .before .pre .2 .0) (c .before .before .before .before .before .pre .2 .1) (fileAt (c .before .before .before .before .before .args .s .now) (c .before .before .file-at .result)) (c .before .before .file-at .ensures .0 (fileAt (c .before .before .before .before .before .args .s .now) (c .before .before .file-at .result)) (place-small (decode (c .before .before .before .before .before .args .s .now)) (checked-roomy (c .before .before .before .before .before .args .s .now) (c .before .before .before .before .before .pre .0)) (c .before .before .before .before .before .args .unit) (c .before .before .before .before .before .args .t3) (c .before .before .before .before .before .pre .2 .0) (c .before .before .before .before .before .pre .2 .1))) in
-    let n = c .before .uses-of .ensures .count in
-    let e = subst (λ (l : Lists). Importer l (fileAt (c .before .before .before .before .before .args .s .now) (c .before .before .file-at .result) .path) (getD (c .before .before .before .before .before .args .t3 .files) (c .before .before .before .before .before .args .unit) 0)) (sym (c .before .before .before .before .before .pre .1 .0)) i in
-    ((c .before .before .before .before .before .pre .1 .1, subst (λ (p : Text). Importer (listsAt (c .before .before .before .before .before .args .s .now) (c .before .before .before .before .before .args .at)) p (getD (c .before .before .before .before .before .args .t3 .files) (c .before .before .before .before .before .args .unit) 0)) (sym (c .file-path .ensures)) e), (c .before .uses-of .ensures .marks, (omega arith, omega arith)))
+    let i = importer (decode (c .before .before .before .before .before .before .args .s .now)) (checked-roomy (c .before .before .before .before .before .before .args .s .now) (c .before .before .before .before .before .before .pre .0)) (c .before .before .before .before .before .before .args .unit) (c .before .before .before .before .before .before .args .t3) (c .before .before .before .before .before .before .pre .2 .0) (c .before .before .before .before .before .before .pre .2 .1) (fileAt (c .before .before .before .before .before .before .args .s .now) (c .before .before .before .file-at .result)) (c .before .before .before .file-at .ensures .0 (fileAt (c .before .before .before .before .before .before .args .s .now) (c .before .before .before .file-at .result)) (place-small (decode (c .before .before .before .before .before .before .args .s .now)) (checked-roomy (c .before .before .before .before .before .before .args .s .now) (c .before .before .before .before .before .before .pre .0)) (c .before .before .before .before .before .before .args .unit) (c .before .before .before .before .before .before .args .t3) (c .before .before .before .before .before .before .pre .2 .0) (c .before .before .before .before .before .before .pre .2 .1))) in
+    let w = faults-fit (decode (c .before .before .before .before .before .before .args .s .now)) (checked-roomy (c .before .before .before .before .before .before .args .s .now) (c .before .before .before .before .before .before .pre .0)) (c .before .before .before .before .before .before .args .unit) (c .before .before .before .before .before .before .args .t3) (c .before .before .before .before .before .before .pre .2 .0) (c .before .before .before .before .before .before .pre .2 .1) (fileAt (c .before .before .before .before .before .before .args .s .now) (c .before .before .before .file-at .result)) (c .before .before .before .file-at .ensures .0 (fileAt (c .before .before .before .before .before .before .args .s .now) (c .before .before .before .file-at .result)) (place-small (decode (c .before .before .before .before .before .before .args .s .now)) (checked-roomy (c .before .before .before .before .before .before .args .s .now) (c .before .before .before .before .before .before .pre .0)) (c .before .before .before .before .before .before .args .unit) (c .before .before .before .before .before .before .args .t3) (c .before .before .before .before .before .before .pre .2 .0) (c .before .before .before .before .before .before .pre .2 .1))) in
+    let k = uses-fit (decode (c .before .before .before .before .before .before .args .s .now)) (checked-roomy (c .before .before .before .before .before .before .args .s .now) (c .before .before .before .before .before .before .pre .0)) (c .before .before .before .before .before .before .args .unit) (c .before .before .before .before .before .before .args .t3) (c .before .before .before .before .before .before .pre .2 .0) (c .before .before .before .before .before .before .pre .2 .1) (fileAt (c .before .before .before .before .before .before .args .s .now) (c .before .before .before .file-at .result)) (c .before .before .before .file-at .ensures .0 (fileAt (c .before .before .before .before .before .before .args .s .now) (c .before .before .before .file-at .result)) (place-small (decode (c .before .before .before .before .before .before .args .s .now)) (checked-roomy (c .before .before .before .before .before .before .args .s .now) (c .before .before .before .before .before .before .pre .0)) (c .before .before .before .before .before .before .args .unit) (c .before .before .before .before .before .before .args .t3) (c .before .before .before .before .before .before .pre .2 .0) (c .before .before .before .before .before .before .pre .2 .1))) in
+    let n = c .before .before .uses-of .ensures .count in
+    let e = subst (λ (l : Lists). Importer l (fileAt (c .before .before .before .before .before .before .args .s .now) (c .before .before .before .file-at .result) .path) (getD (c .before .before .before .before .before .before .args .t3 .files) (c .before .before .before .before .before .before .args .unit) 0)) (sym (c .before .before .before .before .before .before .pre .1 .0)) i in
+    ((c .before .before .before .before .before .before .pre .1 .1, subst (λ (p : Text). Importer (listsAt (c .before .before .before .before .before .before .args .s .now) (c .before .before .before .before .before .before .args .at)) p (getD (c .before .before .before .before .before .before .args .t3 .files) (c .before .before .before .before .before .before .args .unit) 0)) (sym (c .before .file-path .ensures)) e), (c .before .before .uses-of .ensures .marks, (omega arith, omega arith)), table-of (sym (c .before .before .before .before .before .before .pre .1 .0)) (c .before .before .before .before .before .before .pre .3))
 
 -- src/driver.rt:28:5
 load-and-parse-dependencies-requires : tie.Need-load-and-parse-dependencies-requires
 load-and-parse-dependencies-requires c κs =
-    let r = reads-fit (decode (c .before .before .before .before .before .before .args .s .now)) (checked-roomy (c .before .before .before .before .before .before .args .s .now) (c .before .before .before .before .before .before .pre .0)) (c .before .before .before .before .before .before .args .unit) (c .before .before .before .before .before .before .args .t3) (c .before .before .before .before .before .before .pre .2 .0) (c .before .before .before .before .before .before .pre .2 .1) (fileAt (c .before .before .before .before .before .before .args .s .now) (c .before .before .before .file-at .result)) (c .before .before .before .file-at .ensures .0 (fileAt (c .before .before .before .before .before .before .args .s .now) (c .before .before .before .file-at .result)) (place-small (decode (c .before .before .before .before .before .before .args .s .now)) (checked-roomy (c .before .before .before .before .before .before .args .s .now) (c .before .before .before .before .before .before .pre .0)) (c .before .before .before .before .before .before .args .unit) (c .before .before .before .before .before .before .args .t3) (c .before .before .before .before .before .before .pre .2 .0) (c .before .before .before .before .before .before .pre .2 .1))) in
-    subst (λ (w : Graph). ReadsRoom w (c .before .before .before .before .before .before .args .unit)) (sym (seen-is (decode (c .before .before .before .before .before .before .args .s .now)) (checked-roomy (c .before .before .before .before .before .before .args .s .now) (c .before .before .before .before .before .before .pre .0)) (c .before .before .before .before .before .before .args .unit) (c .before .before .before .before .before .before .args .t3) (c .before .before .before .before .before .before .pre .2 .0) (c .before .before .before .before .before .before .pre .2 .1) (fileAt (c .before .before .before .before .before .before .args .s .now) (c .before .before .before .file-at .result)) (c .before .before .before .file-at .ensures .0 (fileAt (c .before .before .before .before .before .before .args .s .now) (c .before .before .before .file-at .result)) (place-small (decode (c .before .before .before .before .before .before .args .s .now)) (checked-roomy (c .before .before .before .before .before .before .args .s .now) (c .before .before .before .before .before .before .pre .0)) (c .before .before .before .before .before .before .args .unit) (c .before .before .before .before .before .before .args .t3) (c .before .before .before .before .before .before .pre .2 .0) (c .before .before .before .before .before .before .pre .2 .1))) (listsAt (c .before .before .before .before .before .before .args .s .now) (c .before .before .before .before .before .before .args .at)) (c .before .file-path .result .now) (useList (c .before .before .before .before .before .before .args .s .now) (c .before .before .uses-of .result)) (c .resolve-imports .result) (c .before .before .before .before .before .before .pre .1 .0) (c .before .file-path .ensures) (c .before .before .uses-of .ensures .list) (c .resolve-imports .ensures))) r
+    let r = reads-fit (decode (c .before .before .before .before .before .before .before .args .s .now)) (checked-roomy (c .before .before .before .before .before .before .before .args .s .now) (c .before .before .before .before .before .before .before .pre .0)) (c .before .before .before .before .before .before .before .args .unit) (c .before .before .before .before .before .before .before .args .t3) (c .before .before .before .before .before .before .before .pre .2 .0) (c .before .before .before .before .before .before .before .pre .2 .1) (fileAt (c .before .before .before .before .before .before .before .args .s .now) (c .before .before .before .before .file-at .result)) (c .before .before .before .before .file-at .ensures .0 (fileAt (c .before .before .before .before .before .before .before .args .s .now) (c .before .before .before .before .file-at .result)) (place-small (decode (c .before .before .before .before .before .before .before .args .s .now)) (checked-roomy (c .before .before .before .before .before .before .before .args .s .now) (c .before .before .before .before .before .before .before .pre .0)) (c .before .before .before .before .before .before .before .args .unit) (c .before .before .before .before .before .before .before .args .t3) (c .before .before .before .before .before .before .before .pre .2 .0) (c .before .before .before .before .before .before .before .pre .2 .1))) in
+    subst (λ (w : Graph). ReadsRoom w (c .before .before .before .before .before .before .before .args .unit)) (sym (seen-is (decode (c .before .before .before .before .before .before .before .args .s .now)) (checked-roomy (c .before .before .before .before .before .before .before .args .s .now) (c .before .before .before .before .before .before .before .pre .0)) (c .before .before .before .before .before .before .before .args .unit) (c .before .before .before .before .before .before .before .args .t3) (c .before .before .before .before .before .before .before .pre .2 .0) (c .before .before .before .before .before .before .before .pre .2 .1) (fileAt (c .before .before .before .before .before .before .before .args .s .now) (c .before .before .before .before .file-at .result)) (c .before .before .before .before .file-at .ensures .0 (fileAt (c .before .before .before .before .before .before .before .args .s .now) (c .before .before .before .before .file-at .result)) (place-small (decode (c .before .before .before .before .before .before .before .args .s .now)) (checked-roomy (c .before .before .before .before .before .before .before .args .s .now) (c .before .before .before .before .before .before .before .pre .0)) (c .before .before .before .before .before .before .before .args .unit) (c .before .before .before .before .before .before .before .args .t3) (c .before .before .before .before .before .before .before .pre .2 .0) (c .before .before .before .before .before .before .before .pre .2 .1))) (listsAt (c .before .before .before .before .before .before .before .args .s .now) (c .before .before .before .before .before .before .before .args .at)) (c .before .before .file-path .result .now) (useList (c .before .before .before .before .before .before .before .args .s .now) (c .before .before .before .uses-of .result)) (c .resolve-imports .result) (c .before .before .before .before .before .before .before .pre .1 .0) (c .before .before .file-path .ensures) (c .before .before .before .uses-of .ensures .list) (c .resolve-imports .ensures .0))) r
 
 -- src/driver.rt:20:1
 returns : tie.Need-returns
 returns c =
-    let r = next (decode (c .before .before .before .before .before .before .before .args .s .now)) (checked-roomy (c .before .before .before .before .before .before .before .args .s .now) (c .before .before .before .before .before .before .before .pre .0)) (c .before .before .before .before .before .before .before .args .unit) (c .before .before .before .before .before .before .before .args .t3) (c .before .before .before .before .before .before .before .pre .2 .0) (c .before .before .before .before .before .before .before .pre .2 .1) (fileAt (c .before .before .before .before .before .before .before .args .s .now) (c .before .before .before .before .file-at .result)) (c .before .before .before .before .file-at .ensures .0 (fileAt (c .before .before .before .before .before .before .before .args .s .now) (c .before .before .before .before .file-at .result)) (place-small (decode (c .before .before .before .before .before .before .before .args .s .now)) (checked-roomy (c .before .before .before .before .before .before .before .args .s .now) (c .before .before .before .before .before .before .before .pre .0)) (c .before .before .before .before .before .before .before .args .unit) (c .before .before .before .before .before .before .before .args .t3) (c .before .before .before .before .before .before .before .pre .2 .0) (c .before .before .before .before .before .before .before .pre .2 .1))) in
-    let e = c .load-and-parse-dependencies .ensures ∙ ap (λ (w : Graph). readAll w (c .before .before .before .before .before .before .before .args .unit)) (seen-is (decode (c .before .before .before .before .before .before .before .args .s .now)) (checked-roomy (c .before .before .before .before .before .before .before .args .s .now) (c .before .before .before .before .before .before .before .pre .0)) (c .before .before .before .before .before .before .before .args .unit) (c .before .before .before .before .before .before .before .args .t3) (c .before .before .before .before .before .before .before .pre .2 .0) (c .before .before .before .before .before .before .before .pre .2 .1) (fileAt (c .before .before .before .before .before .before .before .args .s .now) (c .before .before .before .before .file-at .result)) (c .before .before .before .before .file-at .ensures .0 (fileAt (c .before .before .before .before .before .before .before .args .s .now) (c .before .before .before .before .file-at .result)) (place-small (decode (c .before .before .before .before .before .before .before .args .s .now)) (checked-roomy (c .before .before .before .before .before .before .before .args .s .now) (c .before .before .before .before .before .before .before .pre .0)) (c .before .before .before .before .before .before .before .args .unit) (c .before .before .before .before .before .before .before .args .t3) (c .before .before .before .before .before .before .before .pre .2 .0) (c .before .before .before .before .before .before .before .pre .2 .1))) (listsAt (c .before .before .before .before .before .before .before .args .s .now) (c .before .before .before .before .before .before .before .args .at)) (c .before .before .file-path .result .now) (useList (c .before .before .before .before .before .before .before .args .s .now) (c .before .before .before .uses-of .result)) (c .before .resolve-imports .result) (c .before .before .before .before .before .before .before .pre .1 .0) (c .before .before .file-path .ensures) (c .before .before .before .uses-of .ensures .list) (c .before .resolve-imports .ensures)) in
-    rw (add-one (c .before .before .before .before .before .before .before .args .unit)) (subst (λ (w : Graph). Invariant (decode (c .before .before .before .before .before .before .before .args .s .now)) (suc (c .before .before .before .before .before .before .before .args .unit)) w) (sym e) r)
+    let r = next (decode (c .before .before .before .before .before .before .before .before .args .s .now)) (checked-roomy (c .before .before .before .before .before .before .before .before .args .s .now) (c .before .before .before .before .before .before .before .before .pre .0)) (c .before .before .before .before .before .before .before .before .args .unit) (c .before .before .before .before .before .before .before .before .args .t3) (c .before .before .before .before .before .before .before .before .pre .2 .0) (c .before .before .before .before .before .before .before .before .pre .2 .1) (fileAt (c .before .before .before .before .before .before .before .before .args .s .now) (c .before .before .before .before .before .file-at .result)) (c .before .before .before .before .before .file-at .ensures .0 (fileAt (c .before .before .before .before .before .before .before .before .args .s .now) (c .before .before .before .before .before .file-at .result)) (place-small (decode (c .before .before .before .before .before .before .before .before .args .s .now)) (checked-roomy (c .before .before .before .before .before .before .before .before .args .s .now) (c .before .before .before .before .before .before .before .before .pre .0)) (c .before .before .before .before .before .before .before .before .args .unit) (c .before .before .before .before .before .before .before .before .args .t3) (c .before .before .before .before .before .before .before .before .pre .2 .0) (c .before .before .before .before .before .before .before .before .pre .2 .1))) in
+    let e = c .load-and-parse-dependencies .ensures ∙ ap (λ (w : Graph). readAll w (c .before .before .before .before .before .before .before .before .args .unit)) (seen-is (decode (c .before .before .before .before .before .before .before .before .args .s .now)) (checked-roomy (c .before .before .before .before .before .before .before .before .args .s .now) (c .before .before .before .before .before .before .before .before .pre .0)) (c .before .before .before .before .before .before .before .before .args .unit) (c .before .before .before .before .before .before .before .before .args .t3) (c .before .before .before .before .before .before .before .before .pre .2 .0) (c .before .before .before .before .before .before .before .before .pre .2 .1) (fileAt (c .before .before .before .before .before .before .before .before .args .s .now) (c .before .before .before .before .before .file-at .result)) (c .before .before .before .before .before .file-at .ensures .0 (fileAt (c .before .before .before .before .before .before .before .before .args .s .now) (c .before .before .before .before .before .file-at .result)) (place-small (decode (c .before .before .before .before .before .before .before .before .args .s .now)) (checked-roomy (c .before .before .before .before .before .before .before .before .args .s .now) (c .before .before .before .before .before .before .before .before .pre .0)) (c .before .before .before .before .before .before .before .before .args .unit) (c .before .before .before .before .before .before .before .before .args .t3) (c .before .before .before .before .before .before .before .before .pre .2 .0) (c .before .before .before .before .before .before .before .before .pre .2 .1))) (listsAt (c .before .before .before .before .before .before .before .before .args .s .now) (c .before .before .before .before .before .before .before .before .args .at)) (c .before .before .before .file-path .result .now) (useList (c .before .before .before .before .before .before .before .before .args .s .now) (c .before .before .before .before .uses-of .result)) (c .before .resolve-imports .result) (c .before .before .before .before .before .before .before .before .pre .1 .0) (c .before .before .before .file-path .ensures) (c .before .before .before .before .uses-of .ensures .list) (c .before .resolve-imports .ensures .0)) in
+    (rw (add-one (c .before .before .before .before .before .before .before .before .args .unit)) (subst (λ (w : Graph). Invariant (decode (c .before .before .before .before .before .before .before .before .args .s .now)) (suc (c .before .before .before .before .before .before .before .before .args .unit)) w) (sym e) r), table-of (c .before .before .before .before .before .before .before .before .pre .1 .0) (c .before .resolve-imports .ensures .1))
 
 pub turn-spec : {M : Type 1} → statement M
 turn-spec =

@@ -1,49 +1,85 @@
--- `names::path::is_directly_in` meets its contract. Assumes nothing.
-use mathlib.Core.Bool.{true, false}
-use Rattle.names.specs.Prefix.{startsWith}
+-- `names::path::is_directly_in` meets its contract, test by test. Assumes nothing.
 use borrow.Author.Needs.{needs}
-use borrow.Author.Tests.{not-true, not-false}
-use native.Mathlib.Numerals.{add-one}
-use mathlib.Core.Path.{_≡_, sym, _∙_}
-use Rattle.names.specs.Prefix.{directlyIn}
+use borrow.Author.Tests.{not-true, not-false, eq-eqb, ne-eqb}
+use mathlib.Core.Path.{refl, sym, _∙_}
+use Rattle.names.specs.PathSteps.{root-in-none, in-root, in-other, in-deeper, in-is}
 use Rattle.names.proofs.path.is_directly_in.Statement.{statement}
 use Rattle.names.proofs.path.is_directly_in.Tie as tie
 
--- `names::path::is_directly_in` meets its contract. Assumes nothing.
-
--- `names::path::is_directly_in` meets its contract. Assumes nothing.
-
-starts-with-requires : tie.Need-starts-with-requires
-starts-with-requires c κs = search needs
+is-root-requires : tie.Need-is-root-requires
+is-root-requires c κs = search needs
 
 returns : tie.Need-returns
-unfolding directlyIn
-returns c =
-    let h : startsWith (c .before .before .before .before .args .f .now) (c .before .before .before .before .args .d .now) ≡ false = sym (c .before .starts-with .ensures) ∙ not-true _ (c .if1 .taken) in
-    rw h
+returns c = sym (root-in-none _ _ (sym (c .before .is-root .ensures) ∙ c .if1 .taken))
 
-depth-of-requires : tie.Need-depth-of-requires
-depth-of-requires c κs = search needs
+after-requires : tie.Need-after-requires
+after-requires c κs = search needs
 
-depth-of-requires-2 : tie.Need-depth-of-requires-2
-depth-of-requires-2 c κs = search needs
+is-root-requires-2 : tie.Need-is-root-requires-2
+is-root-requires-2 c κs = search needs
 
-add-result : tie.Need-add-result
-add-result c = search needs
+first-slash-requires : tie.Need-first-slash-requires
+first-slash-requires c κs = search needs
 
 returns-2 : tie.Need-returns-2
-unfolding directlyIn
-returns-2 c =
-    let h : startsWith (c .before .before .before .before .before .before .args .f .now) (c .before .before .before .before .before .before .args .d .now) ≡ true = sym (c .before .before .before .starts-with .ensures) ∙ not-false _ (c .before .before .if1 .left) in
-    rw (h, add-one, c .before .depth-of .ensures .0, c .depth-of2 .ensures .0)
+returns-2 c = rw (c .first-slash .ensures .0) (sym (in-root _ _ (sym (c .before .before .before .before .before .is-root .ensures) ∙ c .before .before .before .before .if1 .left) _ (c .before .before .before .after .ensures) (sym (c .before .before .is-root2 .ensures) ∙ c .before .if2 .taken)))
+
+after-requires-2 : tie.Need-after-requires-2
+after-requires-2 c κs = search needs
+
+after-requires-3 : tie.Need-after-requires-3
+after-requires-3 c κs = search needs
+
+slice-aggregate-has-prefix : tie.Need-slice-aggregate-has-prefix
+slice-aggregate-has-prefix c = search needs
+
+has-prefix-requires : tie.Need-has-prefix-requires
+has-prefix-requires c κs = search needs
+
+returns-3 : tie.Need-returns-3
+returns-3 c =
+    sym
+    (in-other _ _ (sym (c .before .before .before .before .before .before .before .before .before .is-root .ensures) ∙ c .before .before .before .before .before .before .before .before .if1 .left) _ (c .before .before .before .before .before .before .before .after .ensures) (sym (c .before .before .before .before .before .before .is-root2 .ensures) ∙ c .before .before .before .before .before .if2 .left) _ (c .before .before .before .before .after2 .ensures) _ (c .before .before .before .after3 .ensures) _ refl (sym (c .before .has-prefix .ensures) ∙ not-true _ (c .if3 .taken)))
+
+after-requires-4 : tie.Need-after-requires-4
+after-requires-4 c κs = search needs
+
+first-slash-requires-2 : tie.Need-first-slash-requires-2
+first-slash-requires-2 c κs = search needs
+
+returns-4 : tie.Need-returns-4
+returns-4 c =
+    sym
+    (in-deeper _ _ (sym (c .before .before .before .before .before .before .before .before .before .before .before .before .is-root .ensures) ∙ c .before .before .before .before .before .before .before .before .before .before .before .if1 .left) _ (c .before .before .before .before .before .before .before .before .before .before .after .ensures) (sym (c .before .before .before .before .before .before .before .before .before .is-root2 .ensures) ∙ c .before .before .before .before .before .before .before .before .if2 .left) _ (c .before .before .before .before .before .before .before .after2 .ensures) _ (c .before .before .before .before .before .before .after3 .ensures) _ (c .before .before .after4 .ensures)
+    (ne-eqb _ _ (λ e. c .if4 .taken (c .before .first-slash2 .ensures .0 ∙ e))))
+
+has-prefix-requires-2 : tie.Need-has-prefix-requires-2
+has-prefix-requires-2 c κs = search needs
+
+returns-5 : tie.Need-returns-5
+returns-5 c =
+    c .has-prefix2 .ensures
+    ∙ sym
+    (in-is _ _ (sym (c .before .before .before .before .before .before .before .before .before .before .before .before .before .is-root .ensures) ∙ c .before .before .before .before .before .before .before .before .before .before .before .before .if1 .left) _ (c .before .before .before .before .before .before .before .before .before .before .before .after .ensures) (sym (c .before .before .before .before .before .before .before .before .before .before .is-root2 .ensures) ∙ c .before .before .before .before .before .before .before .before .before .if2 .left) _ (c .before .before .before .before .before .before .before .before .after2 .ensures) _ (c .before .before .before .before .before .before .before .after3 .ensures) _ (c .before .before .before .after4 .ensures)
+    (sym (c .before .before .before .before .before .has-prefix .ensures) ∙ not-false _ (c .before .before .before .before .if3 .left)) (eq-eqb _ _ (sym (c .before .before .first-slash2 .ensures .0) ∙ c .before .if4 .left)))
 
 pub is-directly-in-spec : {M : Type 1} → statement M
 is-directly-in-spec =
     tie.close
     (tie.spec
-    starts-with-requires
+    is-root-requires
     returns
-    depth-of-requires
-    depth-of-requires-2
-    add-result
-    returns-2)
+    after-requires
+    is-root-requires-2
+    first-slash-requires
+    returns-2
+    after-requires-2
+    after-requires-3
+    slice-aggregate-has-prefix
+    has-prefix-requires
+    returns-3
+    after-requires-4
+    first-slash-requires-2
+    returns-4
+    has-prefix-requires-2
+    returns-5)
