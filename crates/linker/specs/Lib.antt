@@ -4,6 +4,8 @@ pub mod Call
 pub mod Steps
 pub mod Fit
 pub mod Units
+pub mod Cursor
+pub mod Loop
 pub mod Join
 pub mod Theorems
 pub mod Cases

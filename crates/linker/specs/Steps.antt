@@ -29,7 +29,6 @@ use Rattle.assembly.specs.Targets.{UnitOf}
 use Rattle.assembly.specs.UseRoom.{use-few}
 use Rattle.assembly.specs.Walk.{segmentsAt, useBytes, oneAt, kind-byte, kind-of, next-is}
 use Rattle.linker.specs.Scopes.{Asked, asked, isPublic, scopeCalls, Walked, done, stopped, onwards, walkFrom}
-use Rattle.linker.specs.declared.Stop.{Stop}
 
 -- A DECLARATION'S KIND, as the tree's calls take it
 abbrev pub item-code : ℕ → ℕ
@@ -87,6 +86,11 @@ walk-append {X} M x (a ∷ l) k = go (step M x (call-of (a .request)) .1) (step 
     go ok y h = h y
     go (marked m) y h = h y
     go (refused n) y h = refl
+
+-- where a walk ended: 0, or the number and the place of the call that was refused
+pub record Stop : Type 0 where
+  pub number : ℕ
+  pub place : ℕ
 
 -- what a stop tells: 0 and the tree, or a number and a place
 abbrev pub reached : Stop → Flat → Walked Flat
@@ -276,11 +280,11 @@ module _ (s : List ℕ) (at k : ℕ) (kind : (d e : ℕ) → at < e → k ≡ ki
       let f = subst Plain i b .0 in
       (f .0, (f .1 .0 .0, use-few s l file index files units at u (f .1 .0) (f .1 .1)))
 
-  pub plain-mark : (k ≡ ignored-kind → ⊥) → (k ≡ use-kind → ⊥) → at < 65536
+  pub plain-mark : (k ≡ ignored-kind → ⊥) → at < 65536
   unfolding Plain
-  plain-mark n6 n3 =
+  plain-mark n6 =
       by-kind (insideOf depth s) s at none (λ i. Plain i → at < 65536)
-      (λ q f. f .0) (λ q f. absurd (n3 (sym (kind-byte s at k kind) ∙ q))) (λ q f. absurd (n6 (sym (kind-byte s at k kind) ∙ q))) (λ n m l f. f .0) b
+      (λ q f. f .0) (λ q f. f .0 .0) (λ q f. absurd (n6 (sym (kind-byte s at k kind) ∙ q))) (λ n m l f. f .0) b
 
   pub plain-inside : (end' at' : ℕ) → k ≡ module-kind → (depth ≡ 0 → ⊥)
       → ((d e : ℕ) → at < e → kindOf (itemsAt (suc d) s e at) ≡ module-kind → itemsAt d s end' at' ≡ innerOf (itemsAt (suc d) s e at))
@@ -289,74 +293,3 @@ module _ (s : List ℕ) (at k : ℕ) (kind : (d e : ℕ) → at < e → k ≡ ki
   plain-inside end' at' e z inner =
       let q : byte s (at + 2) ≡ module-kind = kind-byte s at k kind ∙ e in
       subst Plain (inside-is s at k kind depth end' at' e z inner) (subst Plain (item-module (insideOf depth s) s at none q) b .1 .0)
-
--- GOING ON: what the items from a on come to from t, those from `from` on come to from t₀
-abbrev pub Going : List ℕ → Text → ℕ → ℕ → ℕ → ℕ → Tree → Tree → Type 0
-Going s file depth end from a t₀ t = (r : Stop) (w : Tree) → Walks t (itemsCalls s file depth end a) r w → Walks t₀ (itemsCalls s file depth end from) r w
-
-pub going-start : (s : List ℕ) (file : Text) (depth end from : ℕ) (t : Tree) → Going s file depth end from from t t
-going-start s file depth end from t r w h = h
-
-module _ (s : List ℕ) (file : Text) (depth end from a : ℕ) (t₀ t : Tree) (g : Going s file depth end from a t₀ t) where
-  -- one more item
-  pub going-on : {r : Stop} {u : Tree} → a < end → Walks t (itemCalls s file depth a) r u → r .number ≡ 0 → (next : ℕ)
-      → ((d e : ℕ) → a < e → itemsAt d s e next ≡ restOf (itemsAt d s e a)) → Going s file depth end from next t₀ u
-  going-on h i e next f r' w j = g r' w (walks-as (next-calls s file depth end a next h f) (walks-then i e j))
-
-  -- a call of the item is refused
-  pub going-stop : {r : Stop} {u : Tree} → a < end → Walks t (itemCalls s file depth a) r u → (r .number ≡ 0 → ⊥) → Walks t₀ (itemsCalls s file depth end from) r u
-  going-stop {r} {u} h i e = g r u (walks-as (calls-step s file depth end a h) (walks-stop i (itemsCalls s file depth end (afterLength s a)) e))
-
-  -- no item is left
-  pub going-end : end ≤ a → (r : Stop) → r .number ≡ 0 → Walks t₀ (itemsCalls s file depth end from) r t
-  going-end h r e = g r t (walks-as (calls-end s file depth end a h) (walks-none t r e))
-
--- WHAT AN ITEM COMES TO, by its kind
-abbrev pub StopIs : Stop → ℕ → ℕ → Type 0
-StopIs r n p = (r .number ≡ n) × (r .place ≡ p)
-
-pub walks-exit : {t u : Tree} {l : List Asked} {r : Stop} → Walks t l r u → r .number ≡ 0 → {n e : ℕ} → Leaves (u .depth) n e → (r' : Stop) (p : ℕ) → StopIs r' n p
-    → Walks t (l ++ (asked p exits ∷ [])) r' (at-depth u e)
-walks-exit {t} {u} h z {n} {e} x r' p is = walks-then h z (walks-one u exits n (at-depth u e) (x u) r' p (is .0) (is .1))
-
-module _ (s : List ℕ) (at k : ℕ) (kind : (d e : ℕ) → at < e → k ≡ kindOf (itemsAt d s e at)) (file : Text) (depth : ℕ) where
-  pub item-ignored-walks : k ≡ ignored-kind → (t : Tree) (r : Stop) → r .number ≡ 0 → Walks t (itemCalls s file depth at) r t
-  item-ignored-walks e t r z = walks-as (ignored-calls s at k kind file depth e) (walks-none t r z)
-
-  pub item-use-walks : k ≡ use-kind → {t u : Tree} {n : ℕ} → Keeps t (resolves-use (useBytes s file at) (isPublic (byte s (at + 3)))) n u → (r : Stop) → StopIs r n at
-      → Walks t (itemCalls s file depth at) r u
-  item-use-walks e {t} {u} {n} h r is = walks-as (use-calls s at k kind file depth e) (walks-one t _ n u h r at (is .0) (is .1))
-
-  pub item-named-walks : (k ≡ ignored-kind → ⊥) → (k ≡ use-kind → ⊥) → (k ≡ module-kind → ⊥) → {t u : Tree} {n : ℕ}
-      → Keeps t (declares (byte s (at + 2)) (text s (at + 4)) (isPublic (byte s (at + 3))) at) n u → (r : Stop) → StopIs r n at → Walks t (itemCalls s file depth at) r u
-  item-named-walks n6 n3 n5 {t} {u} {n} h r is = walks-as (named-calls s at k kind file depth n6 n3 n5) (walks-one t _ n u h r at (is .0) (is .1))
-
-  module _ (e : k ≡ module-kind) {t u : Tree} {n : ℕ} (h : Keeps t (enters (text s (at + 4)) (isPublic (byte s (at + 3))) at) n u) where
-    entered : Walks t (asked at (enters (text s (at + 4)) (isPublic (byte s (at + 3))) at) ∷ []) (record { number = n; place = at }) u
-    entered = walks-one t _ n u h (record { number = n; place = at }) at refl refl
-
-    -- the module is refused
-    pub item-shut-walks : (n ≡ 0 → ⊥) → (r : Stop) → StopIs r n at → Walks t (itemCalls s file depth at) r u
-    item-shut-walks z r is =
-        walks-as (module-with s at k kind file depth (insideOf depth s (afterLength s at) (after s (at + 4))) e refl)
-        (walks-stop (walks-one t _ n u h r at (is .0) (is .1)) _ (λ y. z (sym (is .0) ∙ y)))
-
-    module _ (z : n ≡ 0) where
-      -- it has no items
-      pub item-flat-walks : depth ≡ 0 → {m d : ℕ} → Leaves (u .depth) m d → (r : Stop) → StopIs r m at → Walks t (itemCalls s file depth at) r (at-depth u d)
-      item-flat-walks y x r is = walks-as (flat-calls s at k kind file depth e y) (walks-exit entered z x r at is)
-
-      module _ (y : depth ≡ 0 → ⊥) (end' at' : ℕ)
-          (inner : (d e : ℕ) → at < e → kindOf (itemsAt (suc d) s e at) ≡ module-kind → itemsAt d s end' at' ≡ innerOf (itemsAt (suc d) s e at))
-          {w : Tree} {r : Stop} (i : Walks u (itemsCalls s file (depth - 1) end' at') r w) where
-        -- a call inside is refused
-        pub item-inner-stops : (r .number ≡ 0 → ⊥) → Walks t (itemCalls s file depth at) r w
-        item-inner-stops q =
-            walks-as (module-calls s at k kind file depth end' at' e y inner)
-            (walks-then entered z (walks-stop i (asked at exits ∷ []) q))
-
-        -- it is left
-        pub item-inner-walks : r .number ≡ 0 → {m d : ℕ} → Leaves (w .depth) m d → (r' : Stop) → StopIs r' m at → Walks t (itemCalls s file depth at) r' (at-depth w d)
-        item-inner-walks q x r' is =
-            walks-as (module-calls s at k kind file depth end' at' e y inner)
-            (walks-then entered z (walks-exit i q x r' at is))

@@ -1,6 +1,6 @@
 // From a bundle to one linked program: steps 1 to 6 of document 01 and the image as one operation.
 mod answers;
-mod units;
+mod cursor;
 mod walk;
 
 ghost use mathlib.Core.Path.{_≡_};
@@ -9,12 +9,6 @@ use assembly::Answer;
 use discovery::known::KNOWN;
 use discovery::known::put_files;
 use scopes::Tree;
-
-// Where a walk ended: 0, or the number and the place of the call that was refused.
-pub struct Stop {
-    pub number: u8,
-    pub place: usize,
-}
 
 // What step 6 comes to: 0 and the tree, or a number from 40 to 51 and a place.
 pub struct Scoped {
@@ -55,7 +49,7 @@ pub fn link(s: &[u8], report: &mut [u8], image: &mut [u8], tree: Tree) -> Linked
             tree,
         );
     }
-    let w = units::walk_program(s, &known, &ids, count);
+    let w = walk::walk_program(s, &known, &ids, count);
     if w.number != 0 {
         return answers::told(w.number, w.place, 0, tree);
     }
