@@ -22,4 +22,5 @@ pub mod CompleteItems
 pub mod CompleteBundle
 pub mod Marks
 pub mod Theorems
+pub mod AcceptedTheorems
 pub mod Numbers

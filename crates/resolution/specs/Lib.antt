@@ -9,4 +9,5 @@ pub mod SegmentLaws
 pub mod UseLaws
 pub mod CornerCases
 pub mod Theorems
+pub mod LookupTheorems
 pub mod Accepted
