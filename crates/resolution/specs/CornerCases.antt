@@ -92,6 +92,10 @@ corner-rows =
 abbrev outside : List ℕ
 outside = bytes "/r" ("/r" ∷ []) [] ("/z.simf" ∷ "/r/m.simf" ∷ [])
 
+-- files under no root; one uses the library of `/l`
+abbrev no-root : List ℕ
+no-root = bytes "/r" ("/r" ∷ "/l" ∷ "/x" ∷ []) (remap "/" "lib" "/l" ∷ []) ("/z.simf" ∷ "/l/a.simf" ∷ "/x/m.simf" ∷ "/r/m.simf" ∷ [])
+
 abbrev raw : List ℕ → String → List ℕ → Resolution → Row
 raw s file u r = record { bundle = s; importer = ascii file; use-bytes = u; answer = r }
 
@@ -107,6 +111,14 @@ number-rows =
     -- a target takes `crate` away from the entry root
     ∷ row pay "/l/x.simf" ("crate" ∷ "pay" ∷ "m" ∷ []) (File 2 2)
     ∷ row outside "/z.simf" ("crate" ∷ "m" ∷ []) (Refused 25 0)
+    -- a library use from a file under no root is never 24, but what is found, or 22
+    ∷ row no-root "/z.simf" ("lib" ∷ "a" ∷ "f" ∷ []) (File 1 1)
+    ∷ row no-root "/x/m.simf" ("lib" ∷ "a" ∷ []) (File 1 0)
+    ∷ row no-root "/z.simf" ("lib" ∷ "b" ∷ []) (Refused 22 0)
+    ∷ row no-root "/x/m.simf" ("crate" ∷ "m" ∷ []) (Refused 25 0)
+    -- from a file of the library itself it is 24, from one under another root the file
+    ∷ row no-root "/l/a.simf" ("lib" ∷ "a" ∷ []) (Refused 24 0)
+    ∷ row no-root "/r/m.simf" ("lib" ∷ "a" ∷ []) (File 1 0)
     -- not listed; a folder
     ∷ row beside "/r/none.simf" ("crate" ∷ "a" ∷ []) (Refused 29 0)
     ∷ row beside "/r/a" ("crate" ∷ "a" ∷ []) (Refused 29 0)

@@ -1,13 +1,16 @@
+-- DEFINITIONS: steps 1 and 2 of document 01, the resolution call, and what the code's inner answers mean
 pub mod Lists
 pub mod Longest
-pub mod LongestLaws
 pub mod Resolution
 pub mod Call
 pub mod Layouts
-pub mod SearchLaws
-pub mod SegmentLaws
-pub mod UseLaws
+-- THEOREMS to cite: the table of cases; what holds of any lists; the lookup and 20 to 25 exactly when; accepted bundles
 pub mod CornerCases
 pub mod Theorems
 pub mod LookupTheorems
-pub mod Accepted
+pub mod AcceptedTheorems
+-- LAWS, for the code and the proofs
+pub mod LongestLaws
+pub mod SearchLaws
+pub mod SegmentLaws
+pub mod UseLaws
