@@ -13,9 +13,7 @@ use borrow.Author.Tests.{ne-eqb, lt-ltb, le-ltb, le-leb, lt-leb}
 use Rattle.names.specs.declared.Name.{Name}
 use Rattle.names.specs.Packed.{packed}
 use Rattle.names.specs.Identifier.{isIdentifier}
-use Rattle.scopes.specs.declared.Tree.{Tree}
 use Rattle.scopes.specs.declared.Answer.the-variants.{Refused}
-use Rattle.scopes.specs.declared.Outcome.{Outcome}
 use Rattle.scopes.specs.declared.look.Spot.{Spot}
 use Rattle.scopes.specs.declared.look.Spot.the-variants.{At, Nothing}
 use Rattle.scopes.specs.Step.{declared, head, Call, enter, alias, enum, function, get-alias, get-function, bad, Answer, ok, refused, done, fail, is-got, told-mark, held, full, deep, fresh, settle, close, step}
@@ -26,8 +24,7 @@ use Rattle.scopes.specs.Index.{spot-first}
 use Rattle.scopes.specs.Nav.{stack-of, current-top, Doors}
 use Rattle.scopes.specs.Staging.{is-at}
 use Rattle.scopes.specs.Note.{accepted}
-use Rattle.scopes.specs.Trees.{Added, bit-of, told, rows, entries-of, flat-of, Good, Sized, push-law, push-sized, push-indexed, refusing, accepting, here-of, current-spot, declared-in, no-entry, added-of, ended, opened-last, mark-at, got-of}
-use Rattle.scopes.specs.Meets.{Meets, Answers}
+use Rattle.scopes.specs.Views.{View, ViewOutcome, ViewMeets, ViewAnswers, Added, bit-of, told, rows, entries-of, flat-of, Good, Sized, push-law, push-sized, push-indexed, refusing, accepting, here-of, current-spot, declared-in, no-entry, added-of, ended, opened-last, mark-at, got-of}
 
 pub length-names : (l : List Entry) (ss : List ℕ) → length (stack-names l ss) ≡ length ss
 unfolding stack-names
@@ -40,7 +37,7 @@ length-stack a zero = refl
 length-stack a (suc d) = ap suc (length-stack a d)
 
 -- the current module
-pub found-here : (t : Tree) → Good t → (k : ℕ) (n : Name) → flat .find (flat .here (flat-of t)) k n ≡ spotted (rows t) (t .count) (current-spot t k n)
+pub found-here : (t : View) → Good t → (k : ℕ) (n : Name) → flat .find (flat .here (flat-of t)) k n ≡ spotted (rows t) (t .count) (current-spot t k n)
 unfolding current-spot
 found-here t g k n =
     rw (spot-first (g .indexed) (g .small) (here-of t) (t .count) k n (omega arith), current-top (t .stack) (t .depth))
@@ -50,15 +47,15 @@ spotted-got : (f : ℕ → Entry) (c : ℕ) (s : Spot) → is-got (spotted f c s
 spotted-got f c Nothing = refl
 spotted-got f c (At i) = refl
 
-pub held-here : (t : Tree) → Good t → (k : ℕ) (n : Name) → held flat (flat-of t) k n ≡ is-at (current-spot t k n)
+pub held-here : (t : View) → Good t → (k : ℕ) (n : Name) → held flat (flat-of t) k n ≡ is-at (current-spot t k n)
 held-here t g k n = ap is-got (found-here t g k n) ∙ spotted-got (rows t) (t .count) (current-spot t k n)
 
-told-spot : (t : Tree) (s : Spot) → told (mark-at t s) ≡ told-mark (spotted (rows t) (t .count) s)
+told-spot : (t : View) (s : Spot) → told (mark-at t s) ≡ told-mark (spotted (rows t) (t .count) s)
 told-spot t Nothing = refl
 told-spot t (At i) = refl
 
 -- GET
-got-step : (t : Tree) (s : List ℕ) (k : ℕ) → Good t → (f : Name → Call) → ((n : Name) → step flat (flat-of t) (f n) ≡ (flat-of t, told-mark (flat .find (flat .here (flat-of t)) k n)))
+got-step : (t : View) (s : List ℕ) (k : ℕ) → Good t → (f : Name → Call) → ((n : Name) → step flat (flat-of t) (f n) ≡ (flat-of t, told-mark (flat .find (flat .here (flat-of t)) k n)))
     → (flat-of t ≡ step flat (flat-of t) (named s f) .0) × (told (got-of t s k) ≡ step flat (flat-of t) (named s f) .1)
 unfolding got-of step
 got-step t s k g f h = go (isIdentifier s)
@@ -70,16 +67,16 @@ got-step t s k g f h = go (isIdentifier s)
         rw (h (packed s), le-ltb 1024 (t .count) (g .small), le-ltb 9 (t .depth) (g .shallow))
         (refl, told-spot t (current-spot t k (packed s)) ∙ ap told-mark (sym (found-here t g k (packed s))))
 
-pub got-alias : (t : Tree) (s : List ℕ) → Answers t (gets-alias s) (got-of t s 1)
+pub got-alias : (t : View) (s : List ℕ) → ViewAnswers t (gets-alias s) (got-of t s 1)
 unfolding call-of step
 got-alias t s = record { tree = λ g. got-step t s 1 g get-alias (λ n. refl) .0; answer = λ g. got-step t s 1 g get-alias (λ n. refl) .1 }
 
-pub got-function : (t : Tree) (s : List ℕ) → Answers t (gets-function s) (got-of t s 2)
+pub got-function : (t : View) (s : List ℕ) → ViewAnswers t (gets-function s) (got-of t s 2)
 unfolding call-of step
 got-function t s = record { tree = λ g. got-step t s 2 g get-function (λ n. refl) .0; answer = λ g. got-step t s 2 g get-function (λ n. refl) .1 }
 
 -- EXIT
-abbrev pub popped : Tree → Tree
+abbrev pub popped : View → View
 popped t =
     record { count = t .count; kinds = t .kinds; visible = t .visible; scopes = t .scopes; marks = t .marks; n0 = t .n0; n1 = t .n1; n2 = t .n2; n3 = t .n3; origins = t .origins; targets = t .targets; times = t .times; heads = t .heads; links = t .links; depth = t .depth - 1; stack = t .stack }
 
@@ -90,7 +87,7 @@ exit-names l ss x h = go (stack-names l ss) (length-names l ss)
     go [] e = absurd (h (sym e))
     go (n ∷ ns) e = refl
 
-pub exit-root : (t : Tree) → t .depth ≡ 0 → Meets t exits (refusing 50 t)
+pub exit-root : (t : View) → t .depth ≡ 0 → ViewMeets t exits (refusing 50 t)
 unfolding call-of step stack-of stack-names
 exit-root t z =
     record {
@@ -100,7 +97,7 @@ exit-root t z =
       kept = λ e. refl;
     }
 
-pub exit-module : (t : Tree) → (t .depth ≡ 0 → ⊥) → Meets t exits (accepting (popped t))
+pub exit-module : (t : View) → (t .depth ≡ 0 → ⊥) → ViewMeets t exits (accepting (popped t))
 unfolding call-of step stack-of
 exit-module t z =
     record {
@@ -120,11 +117,11 @@ exit-module t z =
 -- DECLARATIONS
 
 -- how a declaration ends: refused with the tree as it was, or with an entry more
-data Ends (t : Tree) (x : Tree) : Added → Type 0 where
+data Ends (t : View) (x : View) : Added → Type 0 where
   turned-down : (n : ℕ) → (n ≡ 0 → ⊥) → Ends t x (no-entry n t)
   taken-up : Ends t x (no-entry 0 x)
 
-ends : (t : Tree) (s : List ℕ) (k twice : ℕ) (v : Bool) (m deepest : ℕ) → (twice ≡ 0 → ⊥) → Ends t (declared-in t k v m (packed s)) (added-of t s k twice v m deepest)
+ends : (t : View) (s : List ℕ) (k twice : ℕ) (v : Bool) (m deepest : ℕ) → (twice ≡ 0 → ⊥) → Ends t (declared-in t k v m (packed s)) (added-of t s k twice v m deepest)
 unfolding added-of
 ends t s k twice v m deepest z = go (isIdentifier s) (ltb 1024 (t .count)) (ltb 9 (t .depth)) (is-at (current-spot t k (packed s))) (leb 1024 (t .count)) (ltb deepest (t .depth))
   where
@@ -138,18 +135,10 @@ ends t s k twice v m deepest z = go (isIdentifier s) (ltb 1024 (t .count)) (ltb 
     go true false false false false true = turned-down 51 (λ q. omega arith)
     go true false false false false false = taken-up
 
-ends-kept : (f : Tree → Tree) {t x : Tree} {a : Added} → Ends t x a → accepted (told (ended f a .answer)) ≡ false → ended f a .tree ≡ t
+ends-kept : (f : View → View) {t x : View} {a : Added} → Ends t x a → accepted (told (ended f a .answer)) ≡ false → ended f a .tree ≡ t
 unfolding ended
 ends-kept f (turned-down n z) e = rw (ne-eqb n 0 z)
 ends-kept f taken-up e = let y : _≡_ {A = ℕ} 0 1 = cc in absurd (omega arith)
-
--- the arrays keep their lengths
-pub added-sized : (t : Tree) (s : List ℕ) (k twice : ℕ) (v : Bool) (m deepest : ℕ) → (twice ≡ 0 → ⊥) → Sized t → Sized (added-of t s k twice v m deepest .tree)
-added-sized t s k twice v m deepest nz z = go (ends t s k twice v m deepest nz)
-  where
-    go : {a : Added} → Ends t (declared-in t k v m (packed s)) a → Sized (a .tree)
-    go (turned-down n q) = z
-    go taken-up = push-sized t k (bit-of v) (here-of t) m (packed s) 0 0 0 z
 
 full-is : (c : ℕ) → ltb 1024 (c + 1) ≡ leb 1024 c
 full-is c = go (decLe 1024 c)
@@ -158,15 +147,15 @@ full-is c = go (decLe 1024 c)
     go (yes h) = rw (le-leb 1024 c h, lt-ltb 1024 (c + 1) (omega arith))
     go (no h) = rw (lt-leb 1024 c (omega arith), le-ltb 1024 (c + 1) (omega arith))
 
-module _ (t : Tree) (s : List ℕ) (k twice : ℕ) (v : Bool) (m deepest : ℕ) (nz : twice ≡ 0 → ⊥) (fin : Tree → Tree) (call : Name → Call) (y : Name → Flat)
+module _ (t : View) (s : List ℕ) (k twice : ℕ) (v : Bool) (m deepest : ℕ) (nz : twice ≡ 0 → ⊥) (fin : View → View) (call : Name → Call) (y : Name → Flat)
     (steps : (n : Name) → step flat (flat-of t) (call n) ≡ settle flat (flat-of t) (fresh flat (flat-of t) k n twice (y n)))
     (fulls : (n : Name) → full flat (y n) ≡ leb 1024 (t .count)) (deeps : (n : Name) → Good t → deep flat (y n) ≡ ltb deepest (t .depth))
     (made : (n : Name) → Good t → t .count < 1024 → t .depth ≤ deepest → flat-of (fin (declared-in t k v m n)) ≡ y n)
     (fine : (n : Name) → Good t → t .count < 1024 → t .depth ≤ deepest → Good (fin (declared-in t k v m n))) where
-  result : Outcome
+  result : ViewOutcome
   result = ended fin (added-of t s k twice v m deepest)
 
-  abbrev Same : Outcome → Call → Type 0
+  abbrev Same : ViewOutcome → Call → Type 0
   Same r c = (flat-of (r .tree) ≡ step flat (flat-of t) c .0) × (told (r .answer) ≡ step flat (flat-of t) c .1)
 
   same : Good t → Same (ended fin (added-of t s k twice v m deepest)) (named s call)
@@ -207,7 +196,7 @@ module _ (t : Tree) (s : List ℕ) (k twice : ℕ) (v : Bool) (m deepest : ℕ) 
           rw (le-ltb 1024 (t .count) (g .small), le-ltb 9 (t .depth) (g .shallow))
           (fine (packed s) g (omega (arith, borrow.Author.Tests.leb-false 1024 (t .count) p)) (borrow.Author.Tests.ltb-false deepest (t .depth) q))
 
-  meets : (q : Request) → call-of q ≡ named s call → Meets t q (ended fin (added-of t s k twice v m deepest))
+  meets : (q : Request) → call-of q ≡ named s call → ViewMeets t q (ended fin (added-of t s k twice v m deepest))
   meets q e =
       record {
         good = fine-result;
@@ -220,21 +209,21 @@ bit-is : (v : Bool) → eqb (bit-of v) 1 ≡ v
 bit-is true = refl
 bit-is false = refl
 
-push-full : (t : Tree) (e : Entry) → ltb 1024 (length (entries-of t ++ (e ∷ []))) ≡ leb 1024 (t .count)
+push-full : (t : View) (e : Entry) → ltb 1024 (length (entries-of t ++ (e ∷ []))) ≡ leb 1024 (t .count)
 push-full t e = rw (length-append (entries-of t) (e ∷ []), length-tab (rows t) (t .count)) (full-is (t .count))
 
-push-doors : (t : Tree) → Good t → Doors (t .stack) (t .depth) (t .count + 1)
+push-doors : (t : View) → Good t → Doors (t .stack) (t .depth) (t .count + 1)
 push-doors t g j l = (g .doors j l .0, omega (arith, g .doors j l .1))
 
 -- the entry pushed is the definition's
-push-same : (t : Tree) (k : ℕ) (v : Bool) (m : ℕ) (n : Name) (b : Body) → Sized t → t .count < 1024 → body-of k 0 0 0 ≡ b
+push-same : (t : View) (k : ℕ) (v : Bool) (m : ℕ) (n : Name) (b : Body) → Sized t → t .count < 1024 → body-of k 0 0 0 ≡ b
     → entries-of (declared-in t k v m n) ≡ push (flat-of t) (head k n v m declared) b
 push-same t k v m n b z l q = push-law t k (bit-of v) (here-of t) m n 0 0 0 z l ∙ rw (bit-is v, current-top (t .stack) (t .depth), q)
 
-module _ (t : Tree) (s : List ℕ) (v : Bool) (m : ℕ) (z : Sized t) where
+module _ (t : View) (s : List ℕ) (v : Bool) (m : ℕ) (z : Sized t) where
   item : (k twice : ℕ) → (twice ≡ 0 → ⊥) → body-of k 0 0 0 ≡ copy 0 0 → (call : Name → Call)
       → ((n : Name) → step flat (flat-of t) (call n) ≡ settle flat (flat-of t) (fresh flat (flat-of t) k n twice (flat .add (flat-of t) (head k n v m declared) (flat .empty))))
-      → (q : Request) → call-of q ≡ named s call → Meets t q (ended (λ x. x) (added-of t s k twice v m 9))
+      → (q : Request) → call-of q ≡ named s call → ViewMeets t q (ended (λ x. x) (added-of t s k twice v m 9))
   item k twice nz b call st q e =
       meets t s k twice v m 9 nz (λ x. x) call (λ n. flat .add (flat-of t) (head k n v m declared) (flat .empty)) st
       (λ n. push-full t _)
@@ -243,15 +232,15 @@ module _ (t : Tree) (s : List ℕ) (v : Bool) (m : ℕ) (z : Sized t) where
       (λ n g l d. record { small = omega arith; shallow = g .shallow; doors = push-doors t g; indexed = push-indexed t k (bit-of v) (here-of t) m n 0 0 0 z l (g .indexed) })
       q e
 
-  pub alias-meets : Meets t (inserts-alias s v m) (ended (λ x. x) (added-of t s 1 48 v m 9))
+  pub alias-meets : ViewMeets t (inserts-alias s v m) (ended (λ x. x) (added-of t s 1 48 v m 9))
   unfolding call-of step isOwn
   alias-meets = item 1 48 (λ e. omega arith) refl (λ n. alias n v m) (λ n. refl) (inserts-alias s v m) refl
 
-  pub enum-meets : Meets t (inserts-enum s v m) (ended (λ x. x) (added-of t s 1 48 v m 9))
+  pub enum-meets : ViewMeets t (inserts-enum s v m) (ended (λ x. x) (added-of t s 1 48 v m 9))
   unfolding call-of step isOwn
   enum-meets = item 1 48 (λ e. omega arith) refl (λ n. enum n v m) (λ n. refl) (inserts-enum s v m) refl
 
-  pub function-meets : Meets t (inserts-function s v m) (ended (λ x. x) (added-of t s 2 49 v m 9))
+  pub function-meets : ViewMeets t (inserts-function s v m) (ended (λ x. x) (added-of t s 2 49 v m 9))
   unfolding call-of step isOwn
   function-meets = item 2 49 (λ e. omega arith) refl (λ n. function n v m) (λ n. refl) (inserts-function s v m) refl
 
@@ -293,7 +282,7 @@ module _ (t : Tree) (s : List ℕ) (v : Bool) (m : ℕ) (z : Sized t) where
           let w : t .depth < length (t .stack) = omega (arith, z .stack) in
           rw (e, getD-set-same (t .stack) (t .depth) (t .count + 1) 0 w) (omega arith, omega arith)
 
-  pub enter-meets : Meets t (enters s v m) (ended opened-last (added-of t s 3 47 v m 8))
+  pub enter-meets : ViewMeets t (enters s v m) (ended opened-last (added-of t s 3 47 v m 8))
   unfolding call-of step isOwn stack-names
   enter-meets =
       meets t s 3 47 v m 8 (λ e. omega arith) opened-last (λ n. enter n v m) (λ n. flat .opened (flat-of t) (head 3 n v m declared)) (λ n. refl)
@@ -306,25 +295,3 @@ module _ (t : Tree) (s : List ℕ) (v : Bool) (m : ℕ) (z : Sized t) where
       λ i. record { entries = e i; stack = u i })
       opened-good
       (enters s v m) refl
-
--- AS THE CODE HAS IT
-pub via : {t : Tree} {q : Request} (f : Tree → Tree) {r : Outcome} {a b : Added} → r ≡ ended f a → a ≡ b → Meets t q (ended f b) → Meets t q r
-via {t} {q} f p e w = subst (Meets t q) (sym (p ∙ ap (ended f) e)) w
-
-module _ (t : Tree) (s : List ℕ) (k twice : ℕ) (v : Bool) (m deepest : ℕ) (nz : twice ≡ 0 → ⊥) (a : Added) (e : a ≡ added-of t s k twice v m deepest) (y : a .number ≡ 0) where
-  -- what was added left room for it
-  pub room : (a .tree .count ≤ 1024) × (a .tree .depth ≤ deepest)
-  unfolding added-of
-  room = subst (λ (x : Added). x .number ≡ 0 → (x .tree .count ≤ 1024) × (x .tree .depth ≤ deepest)) (sym e) (go (isIdentifier s) (ltb 1024 (t .count)) (ltb 9 (t .depth)) (is-at (current-spot t k (packed s))) (leb 1024 (t .count)) (ltb deepest (t .depth)) refl refl) y
-    where
-      go : (a b c d e f : Bool) → leb 1024 (t .count) ≡ e → ltb deepest (t .depth) ≡ f
-          → (cond {A = Added} a (cond b (no-entry 51 t) (cond c (no-entry 51 t) (cond d (no-entry twice t) (cond e (no-entry 51 t) (cond f (no-entry 51 t) (no-entry 0 (declared-in t k v m (packed s)))))))) (no-entry 5 t) .number ≡ 0)
-          → (cond {A = Added} a (cond b (no-entry 51 t) (cond c (no-entry 51 t) (cond d (no-entry twice t) (cond e (no-entry 51 t) (cond f (no-entry 51 t) (no-entry 0 (declared-in t k v m (packed s)))))))) (no-entry 5 t) .tree .count ≤ 1024)
-          × (cond {A = Added} a (cond b (no-entry 51 t) (cond c (no-entry 51 t) (cond d (no-entry twice t) (cond e (no-entry 51 t) (cond f (no-entry 51 t) (no-entry 0 (declared-in t k v m (packed s)))))))) (no-entry 5 t) .tree .depth ≤ deepest)
-      go false b c d e f p q z = absurd (omega arith)
-      go true true c d e f p q z = absurd (omega arith)
-      go true false true d e f p q z = absurd (omega arith)
-      go true false false true e f p q z = absurd (nz z)
-      go true false false false true f p q z = absurd (omega arith)
-      go true false false false false true p q z = absurd (omega arith)
-      go true false false false false false p q z = (omega (arith, borrow.Author.Tests.leb-false 1024 (t .count) p), borrow.Author.Tests.ltb-false deepest (t .depth) q)

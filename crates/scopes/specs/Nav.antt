@@ -11,7 +11,7 @@ use mathlib.Core.List.{List, [], _∷_}
 use lib.Dec.{eqb, ltb, leb}
 use lib.ListN.{getD, length, drop, drop-of-length-le}
 use lib.Seq.{drop-cons}
-use borrow.Author.Tests.{eq-eqb, ne-eqb, lt-ltb, le-ltb, le-leb, eqb-true}
+use borrow.Author.Tests.{eq-eqb, ne-eqb, lt-ltb, le-ltb, le-leb, lt-leb, eqb-true}
 use Rattle.names.specs.declared.Name.{Name}
 use Rattle.names.specs.Packed.{packed, sameName}
 use Rattle.scopes.specs.declared.look.Spot.{Spot}
@@ -285,3 +285,31 @@ module _ (ks vs ss n0 n1 n2 n3 os ts us hs ls : List ℕ) (total : ℕ) (stack :
         next = λ k. sym (w .after ∙ strings-none s p i n h);
         below = omega (arith, w .below, w .within);
       }
+
+-- WHETHER A PATH LEADS THE OPEN PATH, test by test
+module _ (a b c d stack : List ℕ) (depth i : ℕ) (n : Name) where
+  pub leads-off : {led : Bool} → led ≡ false → false ≡ leads-on a b c d stack depth led i n
+  unfolding leads-on
+  leads-off l = rw l
+
+  module _ {led : Bool} (l : led ≡ true) where
+    pub leads-short : depth ≤ i → false ≡ leads-on a b c d stack depth led i n
+    unfolding leads-on
+    leads-short h = rw (l, le-ltb i depth h)
+
+    module _ (h : i < depth) (s : ℕ) (q : s ≡ getD stack i 0) where
+      pub leads-root : s ≡ 0 → false ≡ leads-on a b c d stack depth led i n
+      unfolding leads-on
+      leads-root z = rw (l, lt-ltb i depth h, ← q, z)
+
+      module _ (z : s ≡ 0 → ⊥) where
+        pos : 0 < s
+        pos = omega arith
+
+        pub leads-far : 1024 < s → false ≡ leads-on a b c d stack depth led i n
+        unfolding leads-on
+        leads-far k = rw (l, lt-ltb i depth h, ← q, lt-ltb 0 s pos, lt-leb s 1024 k)
+
+        pub leads-near : s ≤ 1024 → (r : Bool) → r ≡ sameName (name-at a b c d (s - 1)) n → r ≡ leads-on a b c d stack depth led i n
+        unfolding leads-on
+        leads-near k r e = e ∙ rw (l, lt-ltb i depth h, ← q, lt-ltb 0 s pos, le-leb s 1024 k)

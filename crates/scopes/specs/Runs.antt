@@ -1,8 +1,10 @@
--- Demand 3, second half, of the code's trees: whatever calls are made one after another from the empty tree, refused ones included. Assumes nothing.
+-- Demand 3, second half, of the code's trees: whatever calls are made one after another from the empty tree, by value or over lent
+-- arrays in any order, refused ones included. Assumes nothing.
 use native.Mathlib.Omega.{arith}
+use Prim.Native.Nat.{ℕ, zero}
 use mathlib.Core.Path.{_≡_, refl, ap, sym, subst, _∙_}
 use mathlib.Core.List.{List, [], _∷_}
-use lib.ListN.{getD-replicate}
+use lib.ListN.{length, replicate, length-replicate, getD-replicate}
 use Rattle.scopes.specs.declared.Tree.{Tree}
 use Rattle.scopes.specs.declared.Answer.{Answer as Told}
 use Rattle.scopes.specs.declared.Outcome.{Outcome}
@@ -12,11 +14,15 @@ use Rattle.scopes.specs.Form.{Request, call-of, calls-of}
 use Rattle.scopes.specs.Rows.{tab}
 use Rattle.scopes.specs.Index.{last-of}
 use Rattle.scopes.specs.Nav.{stack-of}
-use Rattle.scopes.specs.Trees.{cleared, told, Good, flat-of}
+use Rattle.scopes.specs.Views.{told}
+use Rattle.scopes.specs.Views as views
+use Rattle.scopes.specs.Trees.{cleared, Good, flat-of}
+use Rattle.scopes.specs.Pack.{cleared-view}
 use Rattle.scopes.specs.Meets.{Meets, Answers}
 use Rattle.scopes.specs.Demand.{Demand, demand}
 
--- the tree u and the answers that the calls qs, made one after another from the tree t, leave: each call's record meets its contract
+-- the tree u and the answers that the calls qs, made one after another from the tree t, leave: each call, by value or over lent arrays,
+-- meets its contract
 pub data Called : Tree → List Request → Tree → List Told → Type 0 where
   none : {t : Tree} → Called t [] t []
   then : {t u : Tree} {q : Request} {r : Outcome} {qs : List Request} {as′ : List Told} → Meets t q r → Called (r .tree) qs u as′ → Called t (q ∷ qs) u (r .answer ∷ as′)
@@ -27,18 +33,29 @@ all-told [] = []
 all-told (a ∷ as′) = told a ∷ all-told as′
 
 -- the abstraction: the empty record is the empty flat tree
-pub first-is : flat-of cleared ≡ first-flat
+first-view : views.flat-of views.cleared ≡ first-flat
 unfolding tab stack-of
-first-is = refl
+first-view = refl
 
-pub first-good : Good cleared
+pub first-is : flat-of cleared ≡ first-flat
+first-is = ap views.flat-of cleared-view ∙ first-view
+
+good-view : views.Good views.cleared
 unfolding last-of
-first-good =
+good-view =
     record {
       small = omega arith;
       shallow = omega arith;
       doors = λ j h. absurd (omega arith);
       indexed = record { heads = λ b h. getD-replicate 1024 b 0 0 h; links = λ i h. absurd (omega arith) };
+    }
+
+pub first-good : Good cleared
+first-good =
+    let z : (n : ℕ) → length (replicate n zero) ≡ n = λ n. length-replicate {A = ℕ} n zero in
+    record {
+      sized = record { opened = z 11; cells = z 6144; visible = z 1024; scopes = z 1024; marks = z 1024; n0 = z 1024; n1 = z 1024; n2 = z 1024; n3 = z 1024 };
+      good = subst views.Good (sym cleared-view) good-view;
     }
 
 -- and each call is a step, so calls are the definition's run

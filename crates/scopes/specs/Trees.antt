@@ -1,69 +1,44 @@
--- The record of a tree: what its calls make of it, and the flat tree that it is. Assumes nothing.
-use Prim.Native.Nat.{ℕ, zero, suc, _+_, _≤_, _<_}
-use native.Mathlib.Omega.{arith}
-use native.Mathlib.Numerals.{add-one}
-use mathlib.Core.Path.{_≡_, refl, ap, sym, _∙_}
-use mathlib.Core.Bool.{Bool, true, false, cond}
-use mathlib.Core.List.{List, [], _∷_, _++_, append-assoc, append-nil}
-use lib.Dec.{eqb, ltb, leb}
-use lib.ListN.{length, getD, set, replicate, length-set}
-use lib.Seq.{getD-set-same, getD-set-other}
-use Rattle.names.specs.declared.Name.{Name}
-use Rattle.names.specs.Packed.{packed}
-use Rattle.names.specs.Identifier.{isIdentifier}
+-- The record of a tree: nine arrays, the tree that they are seen as, and what holds of it. Assumes nothing.
+use Prim.Native.Nat.{ℕ}
+use mathlib.Core.Path.{_≡_}
+use mathlib.Core.List.{List}
+use lib.ListN.{length, getD, take, drop, replicate}
+use Rattle.scopes.specs.Flat.{Flat}
+use Rattle.scopes.specs.Views.{View}
+use Rattle.scopes.specs.Views as views
 use Rattle.scopes.specs.declared.Tree.{Tree}
-use Rattle.scopes.specs.declared.Answer.{Answer as Told}
-use Rattle.scopes.specs.declared.Answer.the-variants.{Done, Mark, Refused}
-use Rattle.scopes.specs.declared.Outcome.{Outcome}
-use Rattle.scopes.specs.declared.look.Spot.{Spot}
-use Rattle.scopes.specs.declared.look.Spot.the-variants.{At, Nothing}
-use Rattle.scopes.specs.declared.stage.Staged.{Staged}
-use Rattle.scopes.specs.Step.{Answer, ok, marked, refused}
-use Rattle.scopes.specs.Flat.{Entry, Flat}
-use Rattle.scopes.specs.Rows.{tab, tab-agree, Arrays, row, row-at, name-at}
-use Rattle.scopes.specs.Index.{bucket, bucket-below, look-up, key-at, last-of, last-agree, IndexOf}
-use Rattle.scopes.specs.Nav.{stack-of, current-of, Doors}
-use Rattle.scopes.specs.Staging.{is-at}
 
--- 1,024 cleared places, no module open
+-- A PART: 1,024 numbers from the place p on
+unfoldable pub part : ℕ → List ℕ → List ℕ
+part p xs = take 1024 (drop p xs)
+
+-- the open modules' scopes
+unfoldable pub doors-of : List ℕ → List ℕ
+doors-of o = take 9 o
+
+-- THE VIEW: which part is what. Kinds, origins, targets, times, links of the entries, and the heads of the index; the open modules'
+-- scopes, then the count of entries and the depth.
+abbrev pub view : Tree → View
+view t =
+    record { count = getD (t .opened) 9 0; kinds = part 0 (t .cells); visible = t .visible; scopes = t .scopes; marks = t .marks; n0 = t .n0; n1 = t .n1; n2 = t .n2; n3 = t .n3; origins = part 1024 (t .cells); targets = part 2048 (t .cells); times = part 3072 (t .cells); heads = part 5120 (t .cells); links = part 4096 (t .cells); depth = getD (t .opened) 10 0; stack = doors-of (t .opened) }
+
+abbrev pub packed-in : List ℕ → List ℕ → List ℕ → List ℕ → List ℕ → List ℕ → List ℕ → List ℕ → List ℕ → Tree
+packed-in opened cells visible scopes marks n0 n1 n2 n3 =
+    record { opened = opened; cells = cells; visible = visible; scopes = scopes; marks = marks; n0 = n0; n1 = n1; n2 = n2; n3 = n3 }
+
+-- THE FLAT TREE
+abbrev pub flat-of : Tree → Flat
+flat-of t = views.flat-of (view t)
+
+-- 1,024 cleared places
 abbrev pub cleared : Tree
 cleared =
-    record { count = 0; kinds = replicate 1024 0; visible = replicate 1024 0; scopes = replicate 1024 0; marks = replicate 1024 0; n0 = replicate 1024 0; n1 = replicate 1024 0; n2 = replicate 1024 0; n3 = replicate 1024 0; origins = replicate 1024 0; targets = replicate 1024 0; times = replicate 1024 0; heads = replicate 1024 0; links = replicate 1024 0; depth = 0; stack = replicate 9 0 }
-
-abbrev pub bit-of : Bool → ℕ
-bit-of true = 1
-bit-of false = 0
-
--- an answer's number; its place is 0
-abbrev pub told : Told → Answer
-told Done = ok
-told (Mark m) = marked m
-told (Refused n) = refused n
-
--- THE FLAT TREE OF A RECORD
-abbrev pub arrays-of : Tree → Arrays
-arrays-of t =
-    record { kinds = t .kinds; visible = t .visible; scopes = t .scopes; marks = t .marks; n0 = t .n0; n1 = t .n1; n2 = t .n2; n3 = t .n3; origins = t .origins; targets = t .targets; times = t .times; heads = t .heads; links = t .links }
-
-abbrev pub rows : Tree → ℕ → Entry
-rows t = row-at (arrays-of t)
-
-abbrev pub entries-of : Tree → List Entry
-entries-of t = tab (rows t) (t .count)
-
-abbrev pub flat-of : Tree → Flat
-flat-of t = record { entries = entries-of t; stack = stack-of (t .stack) (t .depth) }
-
--- what holds of every tree that calls from the empty one left
-pub record Good (t : Tree) : Type 0 where
-  pub small : t .count ≤ 1024
-  pub shallow : t .depth ≤ 9
-  pub doors : Doors (t .stack) (t .depth) (t .count)
-  pub indexed : IndexOf (arrays-of t) (t .count)
+    record { opened = replicate 11 0; cells = replicate 6144 0; visible = replicate 1024 0; scopes = replicate 1024 0; marks = replicate 1024 0; n0 = replicate 1024 0; n1 = replicate 1024 0; n2 = replicate 1024 0; n3 = replicate 1024 0 }
 
 -- the arrays have their lengths
 pub record Sized (t : Tree) : Type 0 where
-  pub kinds : length (t .kinds) ≡ 1024
+  pub opened : length (t .opened) ≡ 11
+  pub cells : length (t .cells) ≡ 6144
   pub visible : length (t .visible) ≡ 1024
   pub scopes : length (t .scopes) ≡ 1024
   pub marks : length (t .marks) ≡ 1024
@@ -71,310 +46,8 @@ pub record Sized (t : Tree) : Type 0 where
   pub n1 : length (t .n1) ≡ 1024
   pub n2 : length (t .n2) ≡ 1024
   pub n3 : length (t .n3) ≡ 1024
-  pub origins : length (t .origins) ≡ 1024
-  pub targets : length (t .targets) ≡ 1024
-  pub times : length (t .times) ≡ 1024
-  pub heads : length (t .heads) ≡ 1024
-  pub links : length (t .links) ≡ 1024
-  pub stack : length (t .stack) ≡ 9
 
-last-more : (key : ℕ → ℕ) (b n : ℕ) → last-of key b (suc n) ≡ cond (eqb (key n) b) (suc n) (last-of key b n)
-unfolding last-of
-last-more key b n = refl
-
--- AN ENTRY MORE
--- under the hash b
-abbrev pub pushed-under : ℕ → Tree → ℕ → ℕ → ℕ → ℕ → Name → ℕ → ℕ → ℕ → Tree
-pushed-under b t k v s m n o a u =
-    record {
-      count = t .count + 1;
-      kinds = set (t .kinds) (t .count) k;
-      visible = set (t .visible) (t .count) v;
-      scopes = set (t .scopes) (t .count) s;
-      marks = set (t .marks) (t .count) m;
-      n0 = set (t .n0) (t .count) (n .w0);
-      n1 = set (t .n1) (t .count) (n .w1);
-      n2 = set (t .n2) (t .count) (n .w2);
-      n3 = set (t .n3) (t .count) (n .w3);
-      origins = set (t .origins) (t .count) o;
-      targets = set (t .targets) (t .count) a;
-      times = set (t .times) (t .count) u;
-      heads = set (t .heads) b (t .count + 1);
-      links = set (t .links) (t .count) (getD (t .heads) b 0);
-      depth = t .depth;
-      stack = t .stack;
-    }
-
--- kind, visibility, scope, mark, name, origin, from scope, from time
-abbrev pub pushed : Tree → ℕ → ℕ → ℕ → ℕ → Name → ℕ → ℕ → ℕ → Tree
-pushed t k v s m n o a u = pushed-under (bucket s k n) t k v s m n o a u
-
-same-set : (xs : List ℕ) (i a : ℕ) → length xs ≡ 1024 → i < 1024 → getD (set xs i a) i 0 ≡ a
-same-set xs i a z l = getD-set-same xs i a 0 (rw z l)
-
-module _ (t : Tree) (k v s m : ℕ) (n : Name) (o a u : ℕ) where
-  below : (i : ℕ) → i < t .count → rows (pushed t k v s m n o a u) i ≡ rows t i
-  below i l =
-      let ne : i ≡ t .count → ⊥ = λ e. omega arith in
-      simp getD-set-other
-
-  at-last : Sized t → t .count < 1024 → rows (pushed t k v s m n o a u) (t .count) ≡ row k v s m n o a u
-  at-last z l =
-      simp (same-set (t .kinds) (t .count) k (z .kinds) l, same-set (t .visible) (t .count) v (z .visible) l, same-set (t .scopes) (t .count) s (z .scopes) l, same-set (t .marks) (t .count) m (z .marks) l, same-set (t .n0) (t .count) (n .w0) (z .n0) l, same-set (t .n1) (t .count) (n .w1) (z .n1) l, same-set (t .n2) (t .count) (n .w2) (z .n2) l, same-set (t .n3) (t .count) (n .w3) (z .n3) l, same-set (t .origins) (t .count) o (z .origins) l, same-set (t .targets) (t .count) a (z .targets) l, same-set (t .times) (t .count) u (z .times) l)
-
-  pub push-law : Sized t → t .count < 1024 → entries-of (pushed t k v s m n o a u) ≡ entries-of t ++ (row k v s m n o a u ∷ [])
-  unfolding tab
-  push-law z l = rw (add-one, tab-agree (rows (pushed t k v s m n o a u)) (rows t) (t .count) below, at-last z l)
-
-  pub push-sized : Sized t → Sized (pushed t k v s m n o a u)
-  push-sized z =
-      record {
-        kinds = simp length-set (z .kinds);
-        visible = simp length-set (z .visible);
-        scopes = simp length-set (z .scopes);
-        marks = simp length-set (z .marks);
-        n0 = simp length-set (z .n0);
-        n1 = simp length-set (z .n1);
-        n2 = simp length-set (z .n2);
-        n3 = simp length-set (z .n3);
-        origins = simp length-set (z .origins);
-        targets = simp length-set (z .targets);
-        times = simp length-set (z .times);
-        heads = simp length-set (z .heads);
-        links = simp length-set (z .links);
-        stack = z .stack;
-      }
-
-  -- the index holds the entry too
-  pub push-indexed : Sized t → t .count < 1024 → IndexOf (arrays-of t) (t .count) → IndexOf (arrays-of (pushed t k v s m n o a u)) (t .count + 1)
-  push-indexed z l w = record { heads = heads; links = links }
-    where
-      before : ℕ → ℕ
-      before = key-at (t .scopes) (t .kinds) (t .n0) (t .n1) (t .n2) (t .n3)
-
-      after : ℕ → ℕ
-      after i = let r = pushed t k v s m n o a u in key-at (r .scopes) (r .kinds) (r .n0) (r .n1) (r .n2) (r .n3) i
-
-      kept : (i : ℕ) → i < t .count → after i ≡ before i
-      kept i h =
-          let ne : i ≡ t .count → ⊥ = λ e. omega arith in
-          simp getD-set-other
-
-      last : after (t .count) ≡ bucket s k n
-      last =
-          simp (same-set (t .kinds) (t .count) k (z .kinds) l, same-set (t .scopes) (t .count) s (z .scopes) l, same-set (t .n0) (t .count) (n .w0) (z .n0) l, same-set (t .n1) (t .count) (n .w1) (z .n1) l, same-set (t .n2) (t .count) (n .w2) (z .n2) l, same-set (t .n3) (t .count) (n .w3) (z .n3) l)
-
-      agree : (b i : ℕ) → i ≤ t .count → last-of after b i ≡ last-of before b i
-      agree b i h = last-agree after before b i (λ j y. kept j (omega arith))
-
-      heads : (h : ℕ) → h < 1024 → getD (set (t .heads) (bucket s k n) (t .count + 1)) h 0 ≡ last-of after h (t .count + 1)
-      heads h y = rw (add-one, head-step) (go (eqb (bucket s k n) h) refl)
-        where
-          head-step : last-of after h (suc (t .count)) ≡ cond (eqb (after (t .count)) h) (suc (t .count)) (last-of after h (t .count))
-          head-step = last-more after h (t .count)
-
-          go : (u : Bool) → eqb (bucket s k n) h ≡ u → getD (set (t .heads) (bucket s k n) (suc (t .count))) h 0 ≡ cond (eqb (after (t .count)) h) (suc (t .count)) (last-of after h (t .count))
-          go true e =
-              let q = borrow.Author.Tests.eqb-true (bucket s k n) h e in
-              rw (last, e, ← q) (same-set (t .heads) (bucket s k n) (suc (t .count)) (z .heads) (bucket-below s k n))
-          go false e =
-              let ne : h ≡ bucket s k n → ⊥ = λ q. borrow.Author.Tests.eqb-false (bucket s k n) h e (sym q) in
-              rw (last, e) (getD-set-other (t .heads) (bucket s k n) h (suc (t .count)) 0 ne ∙ w .heads h y ∙ sym (agree h (t .count) (omega arith)))
-
-      links : (i : ℕ) → i < t .count + 1 → getD (set (t .links) (t .count) (getD (t .heads) (bucket s k n) 0)) i 0 ≡ last-of after (after i) i
-      links i y = go (native.Mathlib.Decide.decLt i (t .count))
-        where
-          go : Dec (i < t .count) → getD (set (t .links) (t .count) (getD (t .heads) (bucket s k n) 0)) i 0 ≡ last-of after (after i) i
-          go (yes b) =
-              let ne : i ≡ t .count → ⊥ = λ e. omega arith in
-              getD-set-other (t .links) (t .count) i (getD (t .heads) (bucket s k n) 0) 0 ne ∙ w .links i b ∙ ap (λ (h : ℕ). last-of before h i) (sym (kept i b)) ∙ sym (agree (after i) i (omega arith))
-          go (no b) =
-              let e : i ≡ t .count = omega arith in
-              rw (e, last) (same-set (t .links) (t .count) (getD (t .heads) (bucket s k n) 0) (z .links) l ∙ w .heads (bucket s k n) (bucket-below s k n) ∙ sym (agree (bucket s k n) (t .count) (omega arith)))
-
--- DECLARATIONS
-abbrev pub refusing : ℕ → Tree → Outcome
-refusing n t = record { answer = Refused n; tree = t }
-
-abbrev pub accepting : Tree → Outcome
-accepting t = record { answer = Done; tree = t }
-
-abbrev pub here-of : Tree → ℕ
-here-of t = current-of (t .stack) (t .depth)
-
--- the entry of a kind and a name in the current module
-unfoldable pub current-spot : Tree → ℕ → Name → Spot
-current-spot t k n = look-up (arrays-of t) (here-of t) (t .count) k n
-
-abbrev pub declared-in : Tree → ℕ → Bool → ℕ → Name → Tree
-declared-in t k v m n = pushed t k (bit-of v) (here-of t) m n 0 0 0
-
--- a call's number, or 0, and the tree that it left
-pub record Added : Type 0 where
-  pub number : ℕ
-  pub tree : Tree
-
-abbrev pub no-entry : ℕ → Tree → Added
-no-entry n t = record { number = n; tree = t }
-
--- name form, record, held name, place
-unfoldable pub added-of : Tree → List ℕ → ℕ → ℕ → Bool → ℕ → ℕ → Added
-added-of t s k twice v m deepest =
-    cond (isIdentifier s)
-    (cond (ltb 1024 (t .count)) (no-entry 51 t)
-    (cond (ltb 9 (t .depth)) (no-entry 51 t)
-    (cond (is-at (current-spot t k (packed s))) (no-entry twice t)
-    (cond (leb 1024 (t .count)) (no-entry 51 t)
-    (cond (ltb deepest (t .depth)) (no-entry 51 t) (no-entry 0 (declared-in t k v m (packed s))))))))
-    (no-entry 5 t)
-
--- the answer, and the tree with its last step
-unfoldable pub ended : (Tree → Tree) → Added → Outcome
-ended fin a = cond (eqb (a .number) 0) (accepting (fin (a .tree))) (refusing (a .number) (a .tree))
-
-abbrev pub outcome-of : Added → Outcome
-outcome-of = ended (λ t. t)
-
--- the last entry opened
-abbrev pub opened-last : Tree → Tree
-opened-last t =
-    record { count = t .count; kinds = t .kinds; visible = t .visible; scopes = t .scopes; marks = t .marks; n0 = t .n0; n1 = t .n1; n2 = t .n2; n3 = t .n3; origins = t .origins; targets = t .targets; times = t .times; heads = t .heads; links = t .links; depth = t .depth + 1; stack = set (t .stack) (t .depth) (t .count) }
-
-abbrev pub mark-at : Tree → Spot → Told
-mark-at t Nothing = Refused 43
-mark-at t (At i) = Mark (getD (t .marks) i 0)
-
-unfoldable pub got-of : Tree → List ℕ → ℕ → Told
-got-of t s k =
-    cond (isIdentifier s)
-    (cond (ltb 1024 (t .count)) (Refused 51) (cond (ltb 9 (t .depth)) (Refused 51) (mark-at t (current-spot t k (packed s)))))
-    (Refused 5)
-
--- COMMITS: the first n staged entries
-unfoldable pub committed : Tree → Staged → ℕ → ℕ → ℕ → Tree
-committed t s h v zero = t
-committed t s h v (suc n) =
-    pushed (committed t s h v n) (getD (s .kinds) n 0) v h (getD (s .marks) n 0) (name-at (s .n0) (s .n1) (s .n2) (s .n3) n) (getD (s .origins) n 0) (getD (s .targets) n 0) (getD (s .times) n 0)
-
--- a staged entry
-abbrev pub staged-row : ℕ → ℕ → Staged → ℕ → Entry
-staged-row v h s n =
-    row (getD (s .kinds) n 0) v h (getD (s .marks) n 0) (name-at (s .n0) (s .n1) (s .n2) (s .n3) n) (getD (s .origins) n 0) (getD (s .targets) n 0) (getD (s .times) n 0)
-
-pub record Committed (t : Tree) (s : Staged) (h v n : ℕ) : Type 0 where
-  pub count : committed t s h v n .count ≡ t .count + n
-  pub depth : committed t s h v n .depth ≡ t .depth
-  pub stack : committed t s h v n .stack ≡ t .stack
-  pub sized : Sized (committed t s h v n)
-  pub entries : entries-of (committed t s h v n) ≡ entries-of t ++ tab (staged-row v h s) n
-  pub indexed : IndexOf (arrays-of t) (t .count) → IndexOf (arrays-of (committed t s h v n)) (committed t s h v n .count)
-
-pub commits : (t : Tree) (s : Staged) (h v n : ℕ) → Sized t → t .count + n ≤ 1024 → Committed t s h v n
-unfolding committed tab
-commits t s h v zero z l = record { count = sym (native.Mathlib.Nat.add-zero (t .count)); depth = refl; stack = refl; sized = z; entries = sym (append-nil (entries-of t)); indexed = λ w. w }
-commits t s h v (suc n) z l =
-    let c = commits t s h v n z (omega arith) in
-    let x = committed t s h v n in
-    let p = push-law x (getD (s .kinds) n 0) v h (getD (s .marks) n 0) (name-at (s .n0) (s .n1) (s .n2) (s .n3) n) (getD (s .origins) n 0) (getD (s .targets) n 0) (getD (s .times) n 0) (c .sized) (omega (arith, c .count)) in
-    record {
-      count = omega (arith, c .count);
-      depth = c .depth;
-      stack = c .stack;
-      sized = push-sized x (getD (s .kinds) n 0) v h (getD (s .marks) n 0) (name-at (s .n0) (s .n1) (s .n2) (s .n3) n) (getD (s .origins) n 0) (getD (s .targets) n 0) (getD (s .times) n 0) (c .sized);
-      entries = p ∙ rw (c .entries, append-assoc);
-      indexed = λ w. push-indexed x (getD (s .kinds) n 0) v h (getD (s .marks) n 0) (name-at (s .n0) (s .n1) (s .n2) (s .n3) n) (getD (s .origins) n 0) (getD (s .targets) n 0) (getD (s .times) n 0) (c .sized) (omega (arith, c .count)) (c .indexed w);
-    }
-
--- AS THE CODE HAS IT
-pub ended-no : (f : Tree → Tree) (a : Added) → (a .number ≡ 0 → ⊥) → refusing (a .number) (a .tree) ≡ ended f a
-unfolding ended
-ended-no f a z = rw (borrow.Author.Tests.ne-eqb (a .number) 0 z)
-
-pub ended-yes : (f : Tree → Tree) (a : Added) → a .number ≡ 0 → accepting (f (a .tree)) ≡ ended f a
-unfolding ended
-ended-yes f a z = rw (borrow.Author.Tests.eq-eqb (a .number) 0 z)
-
-abbrev spot-at : Tree → ℕ → ℕ → Name → Spot
-spot-at t h k n = look-up (arrays-of t) h (t .count) k n
-
-module _ (t : Tree) (s : List ℕ) (k : ℕ) {b : Bool} (i : b ≡ isIdentifier s) where
-  pub get-bad : b ≡ false → Refused 5 ≡ got-of t s k
-  unfolding got-of
-  get-bad z = rw (← i, z)
-
-  module _ (y : b ≡ true) where
-    pub get-many : 1024 < t .count → Refused 51 ≡ got-of t s k
-    unfolding got-of
-    get-many c = rw (← i, y, borrow.Author.Tests.lt-ltb 1024 (t .count) c)
-
-    module _ (c : t .count ≤ 1024) where
-      pub get-deep : 9 < t .depth → Refused 51 ≡ got-of t s k
-      unfolding got-of
-      get-deep d = rw (← i, y, borrow.Author.Tests.le-ltb 1024 (t .count) c, borrow.Author.Tests.lt-ltb 9 (t .depth) d)
-
-      pub get-found : t .depth ≤ 9 → (n : Name) → n ≡ packed s → (h : ℕ) → h ≡ here-of t → (o : Spot) → o ≡ spot-at t h k n → mark-at t o ≡ got-of t s k
-      unfolding got-of current-spot
-      get-found d n q h w o e =
-          let f : o ≡ current-spot t k (packed s) = e ∙ rw (w, q) in
-          rw (← i, y, borrow.Author.Tests.le-ltb 1024 (t .count) c, borrow.Author.Tests.le-ltb 9 (t .depth) d) (ap (mark-at t) f)
-
-module _ (t : Tree) (s : List ℕ) (k twice : ℕ) (v : Bool) (m deepest : ℕ) {b : Bool} (i : b ≡ isIdentifier s) where
-  pub add-bad : b ≡ false → no-entry 5 t ≡ added-of t s k twice v m deepest
-  unfolding added-of
-  add-bad z = rw (← i, z)
-
-  module _ (y : b ≡ true) where
-    pub add-many : 1024 < t .count → no-entry 51 t ≡ added-of t s k twice v m deepest
-    unfolding added-of
-    add-many c = rw (← i, y, borrow.Author.Tests.lt-ltb 1024 (t .count) c)
-
-    module _ (c : t .count ≤ 1024) where
-      pub add-deep : 9 < t .depth → no-entry 51 t ≡ added-of t s k twice v m deepest
-      unfolding added-of
-      add-deep d = rw (← i, y, borrow.Author.Tests.le-ltb 1024 (t .count) c, borrow.Author.Tests.lt-ltb 9 (t .depth) d)
-
-      module _ (d : t .depth ≤ 9) (n : Name) (q : n ≡ packed s) (h : ℕ) (w : h ≡ here-of t) (o : Bool) (e : o ≡ is-at (spot-at t h k n)) where
-        rest : cond o (no-entry twice t) (cond (leb 1024 (t .count)) (no-entry 51 t) (cond (ltb deepest (t .depth)) (no-entry 51 t) (no-entry 0 (pushed t k (bit-of v) h m n 0 0 0)))) ≡ added-of t s k twice v m deepest
-        unfolding added-of current-spot
-        rest = rw (← i, y, borrow.Author.Tests.le-ltb 1024 (t .count) c, borrow.Author.Tests.le-ltb 9 (t .depth) d, e, w, q)
-
-        pub add-held : o ≡ true → no-entry twice t ≡ added-of t s k twice v m deepest
-        add-held z = rw z at rest
-
-        module _ (z : o ≡ false) where
-          pub add-full : 1024 ≤ t .count → no-entry 51 t ≡ added-of t s k twice v m deepest
-          add-full l = rw (z, borrow.Author.Tests.le-leb 1024 (t .count) l) at rest
-
-          module _ (l : t .count < 1024) where
-            pub add-open : deepest < t .depth → no-entry 51 t ≡ added-of t s k twice v m deepest
-            add-open g = rw (z, borrow.Author.Tests.lt-leb 1024 (t .count) l, borrow.Author.Tests.lt-ltb deepest (t .depth) g) at rest
-
-            pub add-made : t .depth ≤ deepest → (x : ℕ) → x ≡ bit-of v → (y : ℕ) → (y ≡ bucket h k n) × (y < 1024) → no-entry 0 (pushed-under y t k x h m n 0 0 0) ≡ added-of t s k twice v m deepest
-            add-made g x f y j = rw (f, j .0) (rw (z, borrow.Author.Tests.lt-leb 1024 (t .count) l, borrow.Author.Tests.le-ltb deepest (t .depth) g) at rest)
-
--- the loop of a commit: t is the tree with the first i staged entries
-pub record Counting (t₀ : Tree) (s : Staged) (h v : ℕ) (t : Tree) (i : ℕ) : Type 0 where
-  pub within : i ≤ s .count
-  pub count : t .count ≡ t₀ .count + i
-  pub same : t ≡ committed t₀ s h v i
-
-module _ (t₀ : Tree) (s : Staged) (h v : ℕ) where
-  pub counting-start : Counting t₀ s h v t₀ 0
-  unfolding committed
-  counting-start = record { within = omega arith; count = omega arith; same = refl }
-
-  module _ (t : Tree) (i : ℕ) (w : Counting t₀ s h v t i) where
-    pub counting-turn : i < s .count → (b : ℕ) → (b ≡ bucket h (getD (s .kinds) i 0) (name-at (s .n0) (s .n1) (s .n2) (s .n3) i)) × (b < 1024)
-        → Counting t₀ s h v (pushed-under b t (getD (s .kinds) i 0) v h (getD (s .marks) i 0) (name-at (s .n0) (s .n1) (s .n2) (s .n3) i) (getD (s .origins) i 0) (getD (s .targets) i 0) (getD (s .times) i 0)) (i + 1)
-    unfolding committed
-    counting-turn l b e =
-        rw (e .0)
-        (record {
-          within = omega arith;
-          count = omega (arith, w .count);
-          same = ap (λ (x : Tree). pushed x (getD (s .kinds) i 0) v h (getD (s .marks) i 0) (name-at (s .n0) (s .n1) (s .n2) (s .n3) i) (getD (s .origins) i 0) (getD (s .targets) i 0) (getD (s .times) i 0)) (w .same)
-              ∙ ap (λ (n : ℕ). committed t₀ s h v n) (sym (add-one i));
-        })
-
-    pub counting-end : s .count ≤ i → t ≡ committed t₀ s h v (s .count)
-    counting-end l = let e : i ≡ s .count = omega (arith, w .within) in w .same ∙ ap (λ (n : ℕ). committed t₀ s h v n) e
+-- what holds of every tree that calls from the empty one left
+pub record Good (t : Tree) : Type 0 where
+  pub sized : Sized t
+  pub good : views.Good (view t)

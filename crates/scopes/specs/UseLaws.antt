@@ -22,7 +22,7 @@ use Rattle.scopes.specs.Form.{string, local-name, after-element, element
 use Rattle.scopes.specs.Rows.{tab, tab-agree, length-tab, Arrays, row, row-at, isOwn, isRow, hit, first-in, looked, spotted, find-spot, placed, inside-site}
 use Rattle.scopes.specs.Index.{look-up, IndexOf, spot-found, spot-first}
 use Rattle.scopes.specs.Staging.{is-at, any-to, numbered, put, staged-test, staged-held, no-choice, with-choice, sought, occupied, inside-of, chosen, choice-of, staged-item, verdict-of, staged-element, staged-all, item-count, element-count}
-use Rattle.scopes.specs.Trees.{staged-row}
+use Rattle.scopes.specs.Views.{staged-row}
 
 -- WHETHER AN ENTRY IS AMONG THEM
 unfoldable any-hit : ℕ → ℕ → Name → List Entry → Bool

@@ -10,7 +10,6 @@ use borrow.Author.Tests.{eq-eqb, ne-eqb, lt-ltb, le-ltb}
 use Rattle.names.specs.declared.Name.{Name}
 use Rattle.names.specs.Packed.{packed}
 use Rattle.names.specs.Keywords.{isCrate}
-use Rattle.scopes.specs.declared.Tree.{Tree}
 use Rattle.scopes.specs.declared.look.Way.{Way}
 use Rattle.scopes.specs.declared.stage.Staged.{Staged}
 use Rattle.scopes.specs.Step.{Answer, ok, refused, Tried, done, fail, any-main, bind, shared, nav, stage, settle, use-of, step}
@@ -19,12 +18,11 @@ use Rattle.scopes.specs.Form.{Request, resolves-use, string, after-strin
 use Rattle.scopes.specs.Rows.{tab, length-tab, placed}
 use Rattle.scopes.specs.Nav.{stack-of, current-top, Doors, way, Arrived}
 use Rattle.scopes.specs.Staging.{refusal, staged-all, element-count}
-use Rattle.scopes.specs.Trees.{bit-of, arrays-of, rows, entries-of, flat-of, Good, Sized, refusing, accepting, here-of, committed, staged-row, commits}
+use Rattle.scopes.specs.Views.{View, ViewMeets, bit-of, arrays-of, rows, entries-of, flat-of, Good, Sized, refusing, accepting, here-of, committed, staged-row, commits}
 use Rattle.scopes.specs.Calls.{length-names, length-stack}
 use Rattle.scopes.specs.UseLaws.{Sized-staged, stage-same}
-use Rattle.scopes.specs.Meets.{Meets}
 
-pub refused-meets : (t : Tree) (q : Request) (n : ℕ) → (Good t → step flat (flat-of t) (call-of q) ≡ (flat-of t, refused n)) → Meets t q (refusing n t)
+pub refused-meets : (t : View) (q : Request) (n : ℕ) → (Good t → step flat (flat-of t) (call-of q) ≡ (flat-of t, refused n)) → ViewMeets t q (refusing n t)
 refused-meets t q n h =
     record {
       good = λ g. g;
@@ -33,7 +31,7 @@ refused-meets t q n h =
       kept = λ e. refl;
     }
 
-accepted-meets : (t : Tree) (q : Request) (x : Tree) → (Good t → Good x) → (Good t → step flat (flat-of t) (call-of q) ≡ (flat-of x, ok)) → Meets t q (accepting x)
+accepted-meets : (t : View) (q : Request) (x : View) → (Good t → Good x) → (Good t → step flat (flat-of t) (call-of q) ≡ (flat-of x, ok)) → ViewMeets t q (accepting x)
 accepted-meets t q x g h =
     record {
       good = g;
@@ -96,15 +94,15 @@ module _ (s : List ℕ) (f : ℕ) (fq : f ≡ use-fault s) (fz : f ≡ 0) (n : �
       let e : p ≡ after-strings s (getD s 0 0) 1 = pq ∙ after-all s n a (nq .0) nz (aq .0) in
       subst (λ (y : ℕ). y ≤ 32) (sym (mq .0 ∙ ap (λ (i : ℕ). getD s i 0) e)) (second-fine s (after-strings s (getD s 0 0) 1) (x .1))
 
-module _ (t : Tree) (s : List ℕ) (v : Bool) where
-  pub use-bad : (n : ℕ) → n ≡ use-fault s → (n ≡ 0 → ⊥) → Meets t (resolves-use s v) (refusing n t)
+module _ (t : View) (s : List ℕ) (v : Bool) where
+  pub use-bad : (n : ℕ) → n ≡ use-fault s → (n ≡ 0 → ⊥) → ViewMeets t (resolves-use s v) (refusing n t)
   unfolding call-of step
   use-bad n q z = refused-meets t (resolves-use s v) n (λ g. rw (← q, ne-eqb n 0 z))
 
-  pub use-many : 1024 < t .count → Meets t (resolves-use s v) (refusing 51 t)
+  pub use-many : 1024 < t .count → ViewMeets t (resolves-use s v) (refusing 51 t)
   use-many h = refused-meets t (resolves-use s v) 51 (λ g. absurd (omega (arith, g .small)))
 
-  pub use-deep : 9 < t .depth → Meets t (resolves-use s v) (refusing 51 t)
+  pub use-deep : 9 < t .depth → ViewMeets t (resolves-use s v) (refusing 51 t)
   use-deep h = refused-meets t (resolves-use s v) 51 (λ g. absurd (omega (arith, g .shallow)))
 
   module _ (f : ℕ) (fq : f ≡ use-fault s) (fz : f ≡ 0) (n : ℕ) (nq : (n ≡ getD s 0 0) × (n < 256)) where
@@ -119,14 +117,14 @@ module _ (t : Tree) (s : List ℕ) (v : Bool) where
     unfolding call-of step use-call
     stepped = rw (← fq, fz)
 
-    pub use-empty : n ≡ 0 → Meets t (resolves-use s v) (refusing 40 t)
+    pub use-empty : n ≡ 0 → ViewMeets t (resolves-use s v) (refusing 40 t)
     use-empty z = refused-meets t (resolves-use s v) 40 (λ g. stepped ∙ rw (← nq .0, z))
 
     module _ (nz : n ≡ 0 → ⊥) (l : List ℕ) (lq : l ≡ string s 1) (b : Bool) (bq : b ≡ isCrate l) where
       led : led-by-crate s ≡ b
       led = rw (← nq .0, ne-eqb n 0 nz, bq, lq)
 
-      pub use-no-crate : b ≡ false → Meets t (resolves-use s v) (refusing 40 t)
+      pub use-no-crate : b ≡ false → ViewMeets t (resolves-use s v) (refusing 40 t)
       use-no-crate z = refused-meets t (resolves-use s v) 40 (λ g. stepped ∙ rw (led, z))
 
       module _ (bz : b ≡ true) (a : ℕ) (aq : (a ≡ after-string s 1) × (a ≤ 1 + 256)) (w : Way)
@@ -139,7 +137,7 @@ module _ (t : Tree) (s : List ℕ) (v : Bool) where
         tail : Good t → step flat (flat-of t) (call-of (resolves-use s v)) ≡ settle flat (flat-of t) (bind (way (rows t) w) (λ c. cond (any-main elems) (fail 46) (stage flat c v elems (flat-of t))))
         tail g = stepped ∙ rw (led, bz, walk g)
 
-        pub use-lost : (w .number ≡ 0 → ⊥) → Meets t (resolves-use s v) (refusing (w .number) t)
+        pub use-lost : (w .number ≡ 0 → ⊥) → ViewMeets t (resolves-use s v) (refusing (w .number) t)
         use-lost z = refused-meets t (resolves-use s v) (w .number) (λ g. tail g ∙ rw (ne-eqb (w .number) 0 z))
 
         module _ (wz : w .number ≡ 0) (m : ℕ) (mq : (m ≡ getD s (w .next) 0) × (m < 256)) where
@@ -156,7 +154,7 @@ module _ (t : Tree) (s : List ℕ) (v : Bool) where
           arrived g = tail g ∙ rw (wz, same-elems)
 
           module _ (x : Bool) (xq : x ≡ any-main (elements-from s m (w .next + 1))) where
-            pub use-main : x ≡ true → Meets t (resolves-use s v) (refusing 46 t)
+            pub use-main : x ≡ true → ViewMeets t (resolves-use s v) (refusing 46 t)
             use-main z = refused-meets t (resolves-use s v) 46 (λ g. arrived g ∙ rw (← xq, z))
 
             module _ (xz : x ≡ false) (h : ℕ) (hq : h ≡ here-of t) (r : Staged) (rq : r ≡ staged-all (arrays-of t) (t .count) h (w .scope) (w .time) s m (w .next + 1) (refusal 0)) where
@@ -198,7 +196,7 @@ module _ (t : Tree) (s : List ℕ) (v : Bool) where
               staged-step : Good t → step flat (flat-of t) (call-of (resolves-use s v)) ≡ settle flat (flat-of t) after-use
               staged-step g = arrived g ∙ rw (← xq, xz, staged-is g)
 
-              pub use-refused : (r .number ≡ 0 → ⊥) → Meets t (resolves-use s v) (refusing (r .number) t)
+              pub use-refused : (r .number ≡ 0 → ⊥) → ViewMeets t (resolves-use s v) (refusing (r .number) t)
               use-refused z = refused-meets t (resolves-use s v) (r .number) (λ g. staged-step g ∙ rw (ne-eqb (r .number) 0 z))
 
               module _ (rz : r .number ≡ 0) where
@@ -208,10 +206,10 @@ module _ (t : Tree) (s : List ℕ) (v : Bool) where
                 after-deep : Good t → ltb 9 (length (stack-names (entries-of t ++ tab (staged-row (bit-of v) h r) (r .count)) (stack-of (t .stack) (t .depth)))) ≡ false
                 after-deep g = rw (length-names, length-stack) (le-ltb 9 (t .depth) (g .shallow))
 
-                pub use-full : 1024 < t .count + r .count → Meets t (resolves-use s v) (refusing 51 t)
+                pub use-full : 1024 < t .count + r .count → ViewMeets t (resolves-use s v) (refusing 51 t)
                 use-full z = refused-meets t (resolves-use s v) 51 (λ g. staged-step g ∙ rw (eq-eqb (r .number) 0 rz, after-full, lt-ltb 1024 (t .count + r .count) z))
 
-                pub use-done : t .count + r .count ≤ 1024 → Sized t → (y : ℕ) → y ≡ bit-of v → (o : Tree) → o ≡ committed t r h y (r .count) → Meets t (resolves-use s v) (accepting o)
+                pub use-done : t .count + r .count ≤ 1024 → Sized t → (y : ℕ) → y ≡ bit-of v → (o : View) → o ≡ committed t r h y (r .count) → ViewMeets t (resolves-use s v) (accepting o)
                 use-done z sz y yq o oq =
                     let c = commits t r h (bit-of v) (r .count) sz z in
                     rw (oq, yq)

@@ -1,14 +1,15 @@
 // A use's entries before they are committed: each is found, public and free, or the use is refused.
 ghost use mathlib.Core.Path.{_≡_};
 ghost use Prim.Native.Nat.{_+_, _*_, _<_, _≤_};
-ghost use Rattle.scopes.specs.Rows.{arrays};
 ghost use Rattle.scopes.specs.Staging.{refusal, any-to, staged-test, no-choice, choice-of, clash-of, verdict-so-far, staged-all};
+ghost use Rattle.scopes.specs.Pack.{arrays-in};
+use crate::CELLS;
 use crate::form::local_at;
 use crate::form::name_at;
 use crate::form::next;
 use crate::look::Spot;
 use crate::look::find_in;
-use crate::look::inside;
+use crate::look::inside_at;
 use crate::look::is_held;
 use crate::look::is_row;
 use names::Name;
@@ -17,7 +18,7 @@ use names::Name;
 pub struct Staged {
     pub number: u8,
     pub count: usize,
-    pub kinds: [u8; 96],
+    pub kinds: [u16; 96],
     pub marks: [u16; 96],
     pub n0: [u64; 96],
     pub n1: [u64; 96],
@@ -48,14 +49,14 @@ pub fn refused(number: u8) -> Staged
 
 // Whether one of the first `count` staged entries has this kind and name.
 fn staged_has<'a>(
-    kinds: &'a [u8; 96],
+    kinds: &'a [u16; 96],
     n0: &'a [u64; 96],
     n1: &'a [u64; 96],
     n2: &'a [u64; 96],
     n3: &'a [u64; 96],
     count: usize,
     here: u16,
-    kind: u8,
+    kind: u16,
     name: Name,
 ) -> bool
     requires { ⌜ count ≤ 96 ⌝ }
@@ -100,7 +101,7 @@ fn no_choice(number: u8) -> Choice
 
 // One kind of one element, looked up in the tree before the use.
 fn choose<'a>(
-    kinds: &'a [u8; 1024],
+    cells: &'a [u16; CELLS],
     visible: &'a [u8; 1024],
     scopes: &'a [u16; 1024],
     marks: &'a [u16; 1024],
@@ -108,59 +109,28 @@ fn choose<'a>(
     n1: &'a [u64; 1024],
     n2: &'a [u64; 1024],
     n3: &'a [u64; 1024],
-    origins: &'a [u16; 1024],
-    targets: &'a [u16; 1024],
-    times: &'a [u16; 1024],
-    heads: &'a [u16; 1024],
-    links: &'a [u16; 1024],
     total: usize,
     here: u16,
     scope: u16,
     time: usize,
-    kind: u8,
+    kind: u16,
     name: Name,
     local: Name,
 ) -> Choice
     requires { ⌜ (total ≤ 1024) × (time ≤ 1024) ⌝ }
-    ensures { λ r. ⌜ r ≡ choice-of (arrays (now (kinds .entry)) (now (visible .entry)) (now (scopes .entry)) (now (marks .entry)) (now (n0 .entry)) (now (n1 .entry)) (now (n2 .entry)) (now (n3 .entry)) (now (origins .entry)) (now (targets .entry)) (now (times .entry)) (now (heads .entry)) (now (links .entry))) total here scope time kind name local ⌝ }
+    ensures { λ r. ⌜ r ≡ choice-of (arrays-in (now (cells .entry)) (now (visible .entry)) (now (scopes .entry)) (now (marks .entry)) (now (n0 .entry)) (now (n1 .entry)) (now (n2 .entry)) (now (n3 .entry))) total here scope time kind name local ⌝ }
 {
-    let found = find_in(
-        heads,
-        links,
-        scopes,
-        kinds,
-        n0,
-        n1,
-        n2,
-        n3,
-        scope,
-        time,
-        kind,
-        name,
-    );
+    let found = find_in(cells, scopes, n0, n1, n2, n3, scope, time, kind, name);
     let Spot::At(e) = found else {
         return no_choice(43);
     };
     if visible[e] != 1 {
         return no_choice(44);
     }
-    if is_held(
-        heads,
-        links,
-        scopes,
-        kinds,
-        n0,
-        n1,
-        n2,
-        n3,
-        here,
-        total,
-        kind,
-        local,
-    ) {
+    if is_held(cells, scopes, n0, n1, n2, n3, here, total, kind, local) {
         return no_choice(45);
     }
-    let to = inside(e, kinds[e], origins[e], targets[e], times[e], time);
+    let to = inside_at(cells, e, time);
     Choice {
         number: 0,
         mark: marks[e],
@@ -201,7 +171,7 @@ fn verdict(told: u8, number: u8) -> u8
 
 // `count` elements that stand at `at`.
 pub fn stage<'a>(
-    kinds: &'a [u8; 1024],
+    cells: &'a [u16; CELLS],
     visible: &'a [u8; 1024],
     scopes: &'a [u16; 1024],
     marks: &'a [u16; 1024],
@@ -209,11 +179,6 @@ pub fn stage<'a>(
     n1: &'a [u64; 1024],
     n2: &'a [u64; 1024],
     n3: &'a [u64; 1024],
-    origins: &'a [u16; 1024],
-    targets: &'a [u16; 1024],
-    times: &'a [u16; 1024],
-    heads: &'a [u16; 1024],
-    links: &'a [u16; 1024],
     total: usize,
     here: u16,
     scope: u16,
@@ -223,7 +188,7 @@ pub fn stage<'a>(
     count: usize,
 ) -> Staged
     requires { ⌜ (total ≤ 1024) × ((time ≤ 1024) × ((count ≤ 32) × (at < 32768))) ⌝ }
-    ensures { λ r. ⌜ r ≡ staged-all (arrays (now (kinds .entry)) (now (visible .entry)) (now (scopes .entry)) (now (marks .entry)) (now (n0 .entry)) (now (n1 .entry)) (now (n2 .entry)) (now (n3 .entry)) (now (origins .entry)) (now (targets .entry)) (now (times .entry)) (now (heads .entry)) (now (links .entry))) total here scope time (now (decl .entry)) count at (refusal 0) ⌝ }
+    ensures { λ r. ⌜ r ≡ staged-all (arrays-in (now (cells .entry)) (now (visible .entry)) (now (scopes .entry)) (now (marks .entry)) (now (n0 .entry)) (now (n1 .entry)) (now (n2 .entry)) (now (n3 .entry))) total here scope time (now (decl .entry)) count at (refusal 0) ⌝ }
 {
     let mut s = refused(0);
     let mut p = at;
@@ -232,11 +197,11 @@ pub fn stage<'a>(
         let name = name_at(decl, p);
         let local = local_at(decl, p);
         let mut told: u8 = 43;
-        let mut kind: u8 = 1;
+        let mut kind: u16 = 1;
         while kind < 4 {
             let k = kind;
             let x = choose(
-                kinds,
+                cells,
                 visible,
                 scopes,
                 marks,
@@ -244,11 +209,6 @@ pub fn stage<'a>(
                 n1,
                 n2,
                 n3,
-                origins,
-                targets,
-                times,
-                heads,
-                links,
                 total,
                 here,
                 scope,

@@ -1,15 +1,13 @@
 use borrow.Author.Needs.{needs}
 use Rattle.scopes.proofs.get_function.Statement.{statement}
 use Rattle.scopes.proofs.get_function.Tie as tie
-use mathlib.Core.Path.{sym, subst}
-use Rattle.scopes.specs.Meets.{Answers}
-use Rattle.scopes.specs.Calls.{got-function}
+use Rattle.scopes.specs.Declares.{answers-function}
 
 get-requires : tie.Need-get-requires
 get-requires c κs = search needs
 
 returns : tie.Need-returns
-returns c = subst (Answers _ _) (sym ((c .get) .ensures)) (got-function _ _)
+returns c = answers-function _ _ _ (c .get .ensures)
 
 pub get-function-spec : {M : Type 1} → statement M
 get-function-spec = tie.close (tie.spec get-requires returns)

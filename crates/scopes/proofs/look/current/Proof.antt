@@ -1,8 +1,10 @@
 use borrow.Author.Needs.{needs}
+use native.Mathlib.Omega.{arith}
 use Rattle.scopes.proofs.look.current.Statement.{statement}
 use Rattle.scopes.proofs.look.current.Tie as tie
-use borrow.Author.Tests.{eq-eqb, ne-eqb}
+use borrow.Author.Tests.{eq-eqb}
 use Rattle.scopes.specs.Nav.{current-of}
+use Rattle.scopes.specs.Pack.{stack-current}
 
 returns : tie.Need-returns
 unfolding current-of
@@ -18,8 +20,7 @@ element-copy-out-result : tie.Need-element-copy-out-result
 element-copy-out-result c = search needs
 
 returns-2 : tie.Need-returns-2
-unfolding current-of
-returns-2 c = simp (ne-eqb _ _ ((c .before .if1) .left))
+returns-2 c = stack-current _ _ ((c .before .if1) .left) ((c .before .before .pre))
 
 pub current-spec : {M : Type 1} → statement M
 current-spec = tie.close (tie.spec returns sub-result mul-result element-copy-out-result returns-2)

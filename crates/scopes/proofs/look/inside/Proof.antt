@@ -1,4 +1,5 @@
 use borrow.Author.Needs.{needs}
+use native.Mathlib.Omega.{arith}
 use Rattle.scopes.proofs.look.inside.Statement.{statement}
 use Rattle.scopes.proofs.look.inside.Tie as tie
 use mathlib.Core.Path.{sym, _∙_}
@@ -16,15 +17,15 @@ cast-t10 c = search needs
 
 returns : tie.Need-returns
 unfolding site
-returns c = simp (sym (c .before .is-own .ensures) ∙ c .if1 .taken)
+returns c = simp (sym ((c .before .is-own) .ensures) ∙ (c .if1) .taken)
 
 returns-2 : tie.Need-returns-2
 unfolding site
-returns-2 c = simp (sym (c .before .before .is-own .ensures) ∙ c .before .if1 .left, lt-ltb _ _ (c .if2 .taken))
+returns-2 c = simp (sym ((c .before .before .is-own) .ensures) ∙ (c .before .if1) .left, lt-ltb _ _ ((c .if2) .taken))
 
 returns-3 : tie.Need-returns-3
 unfolding site
-returns-3 c = simp (sym (c .before .before .is-own .ensures) ∙ c .before .if1 .left, le-ltb _ _ (c .if2 .left))
+returns-3 c = simp (sym ((c .before .before .is-own) .ensures) ∙ (c .before .if1) .left, le-ltb _ _ ((c .if2) .left))
 
 pub inside-spec : {M : Type 1} → statement M
 inside-spec = tie.close (tie.spec is-own-requires add-t9 cast-t10 returns returns-2 returns-3)

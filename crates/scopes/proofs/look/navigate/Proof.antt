@@ -3,15 +3,16 @@ use native.Mathlib.Omega.{arith}
 use Rattle.scopes.proofs.look.navigate.Statement.{statement}
 use Rattle.scopes.proofs.look.navigate.Tie as tie
 use Prim.Native.Nat.{_-_}
+use Rattle.scopes.specs.Trees.{part, doors-of}
 use mathlib.Core.Path.{sym, _∙_}
 use Rattle.scopes.specs.Nav.{Walking, walking-start, walking-missing, walking-private, walking-turn, walking-end}
 use Rattle.scopes.specs.Index.{spot-found}
 
 abbrev Inv-loop : tie.InvT-loop
-Inv-loop kinds visible scopes n0 n1 n2 n3 origins targets times heads links total stack depth decl at count scope₀ time₀ p₀ led₀ i₀ scope time p led i = Walking kinds visible scopes n0 n1 n2 n3 origins targets times heads links total stack depth decl at count i p scope time led
+Inv-loop opened cells visible scopes n0 n1 n2 n3 total depth decl at count scope₀ time₀ p₀ led₀ i₀ scope time p led i = Walking (part 0 cells) visible scopes n0 n1 n2 n3 (part 1024 cells) (part 2048 cells) (part 3072 cells) (part 5120 cells) (part 4096 cells) total (doors-of opened) depth decl at count i p scope time led
 
 abbrev μ-loop : tie.MeasureT-loop
-μ-loop kinds visible scopes n0 n1 n2 n3 origins targets times heads links total stack depth decl at count scope₀ time₀ p₀ led₀ i₀ scope time p led i = count - i
+μ-loop opened cells visible scopes n0 n1 n2 n3 total depth decl at count scope₀ time₀ p₀ led₀ i₀ scope time p led i = count - i
 
 loop-holds : tie.Need-loop-holds Inv-loop μ-loop
 loop-holds c = walking-start _ _ _ _ _ _ _ _ _ _ _ _ _ _ _ _ _ _
@@ -46,76 +47,26 @@ no-way-requires-2 c κs = search needs
 returns-2 : tie.Need-returns-2 Inv-loop μ-loop
 returns-2 c = rw ((c .no-way2) .ensures) (walking-private _ _ _ _ _ _ _ _ _ _ _ _ _ _ _ _ _ _ _ _ _ _ _ ((c .before .before .before .before .before .before .before .before .before .before .loop) .inv) ((c .before .before .before .before .before .before .before .before .before .loop-test) .taken) _ ((c .before .before .before .before .before .before .before .before .name-at) .ensures) _ (sym ((c .before .before .before .before .before .found) .given .1) ∙ (c .before .before .before .before .before .before .before .find-in) .ensures) _ ((c .before .before .is-barred) .ensures) ((c .before .if1) .taken))
 
-element-copy-out-inside : tie.Need-element-copy-out-inside Inv-loop μ-loop
-element-copy-out-inside c = let b = spot-found _ _ _ _ _ _ _ _ _ _ _ _ _ (sym ((c .before .before .before .before .before .before .find-in) .ensures) ∙ (c .before .before .before .before .found) .given .1) in let d = (c .before .before .before .before .before .before .before .before .before .loop) .inv in let e = (c .before .before .before .before .before .before .before .before .before .before .before .pre) in omega arith
-
-mul-inside : tie.Need-mul-inside Inv-loop μ-loop
-mul-inside c = let b = spot-found _ _ _ _ _ _ _ _ _ _ _ _ _ (sym ((c .before .before .before .before .before .before .before .find-in) .ensures) ∙ (c .before .before .before .before .before .found) .given .1) in let d = (c .before .before .before .before .before .before .before .before .before .before .loop) .inv in let e = (c .before .before .before .before .before .before .before .before .before .before .before .before .pre) in omega arith
-
-element-copy-out-inside-2 : tie.Need-element-copy-out-inside-2 Inv-loop μ-loop
-element-copy-out-inside-2 c = let b = spot-found _ _ _ _ _ _ _ _ _ _ _ _ _ (sym ((c .before .before .before .before .before .before .before .find-in) .ensures) ∙ (c .before .before .before .before .before .found) .given .1) in let d = (c .before .before .before .before .before .before .before .before .before .before .loop) .inv in let e = (c .before .before .before .before .before .before .before .before .before .before .before .before .pre) in omega arith
-
-mul-inside-2 : tie.Need-mul-inside-2 Inv-loop μ-loop
-mul-inside-2 c = let b = spot-found _ _ _ _ _ _ _ _ _ _ _ _ _ (sym ((c .before .before .before .before .before .before .before .before .find-in) .ensures) ∙ (c .before .before .before .before .before .before .found) .given .1) in let d = (c .before .before .before .before .before .before .before .before .before .before .before .loop) .inv in let e = (c .before .before .before .before .before .before .before .before .before .before .before .before .before .pre) in omega arith
-
-element-copy-out-inside-3 : tie.Need-element-copy-out-inside-3 Inv-loop μ-loop
-element-copy-out-inside-3 c = let b = spot-found _ _ _ _ _ _ _ _ _ _ _ _ _ (sym ((c .before .before .before .before .before .before .before .before .find-in) .ensures) ∙ (c .before .before .before .before .before .before .found) .given .1) in let d = (c .before .before .before .before .before .before .before .before .before .before .before .loop) .inv in let e = (c .before .before .before .before .before .before .before .before .before .before .before .before .before .pre) in omega arith
-
-mul-inside-3 : tie.Need-mul-inside-3 Inv-loop μ-loop
-mul-inside-3 c = let b = spot-found _ _ _ _ _ _ _ _ _ _ _ _ _ (sym ((c .before .before .before .before .before .before .before .before .before .find-in) .ensures) ∙ (c .before .before .before .before .before .before .before .found) .given .1) in let d = (c .before .before .before .before .before .before .before .before .before .before .before .before .loop) .inv in let e = (c .before .before .before .before .before .before .before .before .before .before .before .before .before .before .pre) in omega arith
-
-element-copy-out-inside-4 : tie.Need-element-copy-out-inside-4 Inv-loop μ-loop
-element-copy-out-inside-4 c = let b = spot-found _ _ _ _ _ _ _ _ _ _ _ _ _ (sym ((c .before .before .before .before .before .before .before .before .before .find-in) .ensures) ∙ (c .before .before .before .before .before .before .before .found) .given .1) in let d = (c .before .before .before .before .before .before .before .before .before .before .before .before .loop) .inv in let e = (c .before .before .before .before .before .before .before .before .before .before .before .before .before .before .pre) in omega arith
-
-inside-requires : tie.Need-inside-requires Inv-loop μ-loop
-inside-requires c κs = let b = spot-found _ _ _ _ _ _ _ _ _ _ _ _ _ (sym ((c .before .before .before .before .before .before .before .before .before .before .find-in) .ensures) ∙ (c .before .before .before .before .before .before .before .before .found) .given .1) in let d = (c .before .before .before .before .before .before .before .before .before .before .before .before .before .loop) .inv in let e = (c .before .before .before .before .before .before .before .before .before .before .before .before .before .before .before .pre) in omega arith
+inside-at-requires : tie.Need-inside-at-requires Inv-loop μ-loop
+inside-at-requires c κs = let b = spot-found _ _ _ _ _ _ _ _ _ _ _ _ _ (sym ((c .before .before .before .before .before .before .find-in) .ensures) ∙ (c .before .before .before .before .found) .given .1) in let d = (c .before .before .before .before .before .before .before .before .before .loop) .inv in let e = (c .before .before .before .before .before .before .before .before .before .before .before .pre) in omega arith
 
 leads-requires : tie.Need-leads-requires Inv-loop μ-loop
-leads-requires c κs = (c .before .before .before .before .before .before .before .before .before .before .before .before .before .before .before .before .pre) .1 .0
+leads-requires c κs = (c .before .before .before .before .before .before .before .before .before .before .before .before .pre) .1 .0
 
 next-requires : tie.Need-next-requires Inv-loop μ-loop
-next-requires c κs = let d = (c .before .before .before .before .before .before .before .before .before .before .before .before .before .before .before .loop) .inv in let e = (c .before .before .before .before .before .before .before .before .before .before .before .before .before .before .before .before .before .pre) in let t = (c .before .before .before .before .before .before .before .before .before .before .before .before .before .before .loop-test) .taken in omega arith
+next-requires c κs = let d = (c .before .before .before .before .before .before .before .before .before .before .before .loop) .inv in let e = (c .before .before .before .before .before .before .before .before .before .before .before .before .before .pre) in let t = (c .before .before .before .before .before .before .before .before .before .before .loop-test) .taken in omega arith
 
 add-i : tie.Need-add-i Inv-loop μ-loop
-add-i c = let d = (c .before .before .before .before .before .before .before .before .before .before .before .before .before .before .before .before .loop) .inv in let e = (c .before .before .before .before .before .before .before .before .before .before .before .before .before .before .before .before .before .before .pre) in let t = (c .before .before .before .before .before .before .before .before .before .before .before .before .before .before .before .loop-test) .taken in omega arith
+add-i c = let d = (c .before .before .before .before .before .before .before .before .before .before .before .before .loop) .inv in let e = (c .before .before .before .before .before .before .before .before .before .before .before .before .before .before .pre) in let t = (c .before .before .before .before .before .before .before .before .before .before .before .loop-test) .taken in omega arith
 
 loop-less : tie.Need-loop-less Inv-loop μ-loop
-loop-less c = let t = (c .before .before .before .before .before .before .before .before .before .before .before .before .before .before .before .loop-test) .taken in omega arith
+loop-less c = let t = (c .before .before .before .before .before .before .before .before .before .before .before .loop-test) .taken in omega arith
 
 loop-again : tie.Need-loop-again Inv-loop μ-loop
-loop-again c = walking-turn _ _ _ _ _ _ _ _ _ _ _ _ _ _ _ _ _ _ _ _ _ _ _ ((c .before .before .before .before .before .before .before .before .before .before .before .before .before .before .before .before .loop) .inv) ((c .before .before .before .before .before .before .before .before .before .before .before .before .before .before .before .loop-test) .taken) _ ((c .before .before .before .before .before .before .before .before .before .before .before .before .before .before .name-at) .ensures) _ (sym ((c .before .before .before .before .before .before .before .before .before .before .before .found) .given .1) ∙ (c .before .before .before .before .before .before .before .before .before .before .before .before .before .find-in) .ensures) ((c .before .before .before .before .before .before .before .before .before .before .before .before .before .before .before .before .before .before .pre) .0) _ ((c .before .before .before .before .before .before .before .before .is-barred) .ensures) ((c .before .before .before .before .before .before .before .if1) .left) _ ((c .before .before .inside) .ensures) _ ((c .before .leads) .ensures) _ ((c .next) .ensures)
+loop-again c = walking-turn _ _ _ _ _ _ _ _ _ _ _ _ _ _ _ _ _ _ _ _ _ _ _ ((c .before .before .before .before .before .before .before .before .before .before .before .before .loop) .inv) ((c .before .before .before .before .before .before .before .before .before .before .before .loop-test) .taken) _ ((c .before .before .before .before .before .before .before .before .before .before .name-at) .ensures) _ (sym ((c .before .before .before .before .before .before .before .found) .given .1) ∙ (c .before .before .before .before .before .before .before .before .before .find-in) .ensures) ((c .before .before .before .before .before .before .before .before .before .before .before .before .before .before .pre) .0) _ ((c .before .before .before .before .is-barred) .ensures) ((c .before .before .before .if1) .left) _ ((c .before .before .inside-at) .ensures) _ ((c .before .leads) .ensures) _ ((c .next) .ensures)
 
 returns-3 : tie.Need-returns-3 Inv-loop μ-loop
 returns-3 c = walking-end _ _ _ _ _ _ _ _ _ _ _ _ _ _ _ _ _ _ _ _ _ _ _ ((c .before .loop) .inv) ((c .loop-test) .left)
 
 pub navigate-spec : {M : Type 1} → statement M
-navigate-spec =
-    tie.close
-    (tie.spec
-    Inv-loop
-    μ-loop
-    loop-holds
-    name-at-requires
-    find-in-requires
-    enum-known-found
-    enum-told
-    no-way-requires
-    returns
-    element-copy-out-is-barred
-    is-barred-requires
-    no-way-requires-2
-    returns-2
-    element-copy-out-inside
-    mul-inside
-    element-copy-out-inside-2
-    mul-inside-2
-    element-copy-out-inside-3
-    mul-inside-3
-    element-copy-out-inside-4
-    inside-requires
-    leads-requires
-    next-requires
-    add-i
-    loop-less
-    loop-again
-    returns-3)
+navigate-spec = tie.close (tie.spec Inv-loop μ-loop loop-holds name-at-requires find-in-requires enum-known-found enum-told no-way-requires returns element-copy-out-is-barred is-barred-requires no-way-requires-2 returns-2 inside-at-requires leads-requires next-requires add-i loop-less loop-again returns-3)

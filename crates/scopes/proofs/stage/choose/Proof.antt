@@ -1,5 +1,5 @@
-use native.Mathlib.Omega.{arith}
 use borrow.Author.Needs.{needs}
+use native.Mathlib.Omega.{arith}
 use Rattle.scopes.proofs.stage.choose.Statement.{statement}
 use Rattle.scopes.proofs.stage.choose.Tie as tie
 use mathlib.Core.Path.{sym, _∙_}
@@ -40,74 +40,26 @@ no-choice-requires-3 c κs = search needs
 returns-3 : tie.Need-returns-3
 returns-3 c = (c .no-choice3) .ensures ∙ choice-occupied _ _ _ _ _ _ _ _ _ (sym ((c .before .before .before .before .before .before .found) .given .1) ∙ (c .before .before .before .before .before .before .before .before .find-in) .ensures) ((c .before .before .before .if1) .left) _ ((c .before .before .is-held) .ensures) ((c .before .if2) .taken)
 
-element-copy-out-inside : tie.Need-element-copy-out-inside
-element-copy-out-inside c = let b = spot-found _ _ _ _ _ _ _ _ _ _ _ _ _ (sym ((c .before .before .before .before .before .before .before .find-in) .ensures) ∙ (c .before .before .before .before .before .found) .given .1) in let e = (c .before .before .before .before .before .before .before .before .pre) in omega arith
+inside-at-requires : tie.Need-inside-at-requires
+inside-at-requires c κs = let b = spot-found _ _ _ _ _ _ _ _ _ _ _ _ _ (sym ((c .before .before .before .before .before .before .before .find-in) .ensures) ∙ (c .before .before .before .before .before .found) .given .1) in let e = (c .before .before .before .before .before .before .before .before .pre) in omega arith
 
-mul-inside : tie.Need-mul-inside
-mul-inside c = let b = spot-found _ _ _ _ _ _ _ _ _ _ _ _ _ (sym ((c .before .before .before .before .before .before .before .before .find-in) .ensures) ∙ (c .before .before .before .before .before .before .found) .given .1) in let e = (c .before .before .before .before .before .before .before .before .before .pre) in omega arith
+mul-t24 : tie.Need-mul-t24
+mul-t24 c = let b = spot-found _ _ _ _ _ _ _ _ _ _ _ _ _ (sym ((c .before .before .before .before .before .before .before .before .find-in) .ensures) ∙ (c .before .before .before .before .before .before .found) .given .1) in let e = (c .before .before .before .before .before .before .before .before .before .pre) in omega arith
 
-element-copy-out-inside-2 : tie.Need-element-copy-out-inside-2
-element-copy-out-inside-2 c = let b = spot-found _ _ _ _ _ _ _ _ _ _ _ _ _ (sym ((c .before .before .before .before .before .before .before .before .find-in) .ensures) ∙ (c .before .before .before .before .before .before .found) .given .1) in let e = (c .before .before .before .before .before .before .before .before .before .pre) in omega arith
+element-copy-out-t27 : tie.Need-element-copy-out-t27
+element-copy-out-t27 c = let b = spot-found _ _ _ _ _ _ _ _ _ _ _ _ _ (sym ((c .before .before .before .before .before .before .before .before .find-in) .ensures) ∙ (c .before .before .before .before .before .before .found) .given .1) in let e = (c .before .before .before .before .before .before .before .before .before .pre) in omega arith
 
-mul-inside-2 : tie.Need-mul-inside-2
-mul-inside-2 c = let b = spot-found _ _ _ _ _ _ _ _ _ _ _ _ _ (sym ((c .before .before .before .before .before .before .before .before .before .find-in) .ensures) ∙ (c .before .before .before .before .before .before .before .found) .given .1) in let e = (c .before .before .before .before .before .before .before .before .before .before .pre) in omega arith
+add-t28 : tie.Need-add-t28
+add-t28 c = let b = spot-found _ _ _ _ _ _ _ _ _ _ _ _ _ (sym ((c .before .before .before .before .before .before .before .before .before .find-in) .ensures) ∙ (c .before .before .before .before .before .before .before .found) .given .1) in let e = (c .before .before .before .before .before .before .before .before .before .before .pre) in omega arith
 
-element-copy-out-inside-3 : tie.Need-element-copy-out-inside-3
-element-copy-out-inside-3 c = let b = spot-found _ _ _ _ _ _ _ _ _ _ _ _ _ (sym ((c .before .before .before .before .before .before .before .before .before .find-in) .ensures) ∙ (c .before .before .before .before .before .before .before .found) .given .1) in let e = (c .before .before .before .before .before .before .before .before .before .before .pre) in omega arith
+cast-t29 : tie.Need-cast-t29
+cast-t29 c = let b = spot-found _ _ _ _ _ _ _ _ _ _ _ _ _ (sym ((c .before .before .before .before .before .before .before .before .before .find-in) .ensures) ∙ (c .before .before .before .before .before .before .before .found) .given .1) in let e = (c .before .before .before .before .before .before .before .before .before .before .pre) in let t = site-le _ _ _ _ _ _ _ ((c .before .inside-at) .ensures) in omega (arith, b .below)
 
-mul-inside-3 : tie.Need-mul-inside-3
-mul-inside-3 c = let b = spot-found _ _ _ _ _ _ _ _ _ _ _ _ _ (sym ((c .before .before .before .before .before .before .before .before .before .before .find-in) .ensures) ∙ (c .before .before .before .before .before .before .before .before .found) .given .1) in let e = (c .before .before .before .before .before .before .before .before .before .before .before .pre) in omega arith
-
-element-copy-out-inside-4 : tie.Need-element-copy-out-inside-4
-element-copy-out-inside-4 c = let b = spot-found _ _ _ _ _ _ _ _ _ _ _ _ _ (sym ((c .before .before .before .before .before .before .before .before .before .before .find-in) .ensures) ∙ (c .before .before .before .before .before .before .before .before .found) .given .1) in let e = (c .before .before .before .before .before .before .before .before .before .before .before .pre) in omega arith
-
-inside-requires : tie.Need-inside-requires
-inside-requires c κs = let b = spot-found _ _ _ _ _ _ _ _ _ _ _ _ _ (sym ((c .before .before .before .before .before .before .before .before .before .before .before .find-in) .ensures) ∙ (c .before .before .before .before .before .before .before .before .before .found) .given .1) in let e = (c .before .before .before .before .before .before .before .before .before .before .before .before .pre) in omega arith
-
-mul-t31 : tie.Need-mul-t31
-mul-t31 c = let b = spot-found _ _ _ _ _ _ _ _ _ _ _ _ _ (sym ((c .before .before .before .before .before .before .before .before .before .before .before .before .find-in) .ensures) ∙ (c .before .before .before .before .before .before .before .before .before .before .found) .given .1) in let e = (c .before .before .before .before .before .before .before .before .before .before .before .before .before .pre) in omega arith
-
-element-copy-out-t42 : tie.Need-element-copy-out-t42
-element-copy-out-t42 c = let b = spot-found _ _ _ _ _ _ _ _ _ _ _ _ _ (sym ((c .before .before .before .before .before .before .before .before .before .before .before .before .find-in) .ensures) ∙ (c .before .before .before .before .before .before .before .before .before .before .found) .given .1) in let e = (c .before .before .before .before .before .before .before .before .before .before .before .before .before .pre) in omega arith
-
-add-t39 : tie.Need-add-t39
-add-t39 c = let b = spot-found _ _ _ _ _ _ _ _ _ _ _ _ _ (sym ((c .before .before .before .before .before .before .before .before .before .before .before .before .before .find-in) .ensures) ∙ (c .before .before .before .before .before .before .before .before .before .before .before .found) .given .1) in let e = (c .before .before .before .before .before .before .before .before .before .before .before .before .before .before .pre) in omega arith
-
-cast-t38 : tie.Need-cast-t38
-cast-t38 c = let b = spot-found _ _ _ _ _ _ _ _ _ _ _ _ _ (sym ((c .before .before .before .before .before .before .before .before .before .before .before .before .before .find-in) .ensures) ∙ (c .before .before .before .before .before .before .before .before .before .before .before .found) .given .1) in let e = (c .before .before .before .before .before .before .before .before .before .before .before .before .before .before .pre) in omega arith
-
-cast-t34 : tie.Need-cast-t34
-cast-t34 c = let e = (c .before .before .before .before .before .before .before .before .before .before .before .before .before .before .before .pre) in let t = site-le _ _ _ _ _ _ _ ((c .before .before .inside) .ensures) in omega arith
+cast-t30 : tie.Need-cast-t30
+cast-t30 c = let b = spot-found _ _ _ _ _ _ _ _ _ _ _ _ _ (sym ((c .before .before .before .before .before .before .before .before .before .before .find-in) .ensures) ∙ (c .before .before .before .before .before .before .before .before .found) .given .1) in let e = (c .before .before .before .before .before .before .before .before .before .before .before .pre) in let t = site-le _ _ _ _ _ _ _ ((c .before .before .inside-at) .ensures) in omega (arith, b .below)
 
 returns-4 : tie.Need-returns-4
-returns-4 c = choice-made _ _ _ _ _ _ _ _ _ (sym ((c .before .before .before .before .before .before .before .before .before .before .before .before .found) .given .1) ∙ (c .before .before .before .before .before .before .before .before .before .before .before .before .before .before .find-in) .ensures) ((c .before .before .before .before .before .before .before .before .before .if1) .left) _ ((c .before .before .before .before .before .before .before .before .is-held) .ensures) ((c .before .before .before .before .before .before .before .if2) .left) _ ((c .before .before .inside) .ensures)
+returns-4 c = choice-made _ _ _ _ _ _ _ _ _ (sym ((c .before .before .before .before .before .before .before .before .found) .given .1) ∙ (c .before .before .before .before .before .before .before .before .before .before .find-in) .ensures) ((c .before .before .before .before .before .if1) .left) _ ((c .before .before .before .before .is-held) .ensures) ((c .before .before .before .if2) .left) _ ((c .before .before .inside-at) .ensures)
 
 pub choose-spec : {M : Type 1} → statement M
-choose-spec =
-    tie.close
-    (tie.spec
-    find-in-requires
-    enum-known-found
-    enum-told
-    no-choice-requires
-    returns
-    element-copy-out-if1
-    no-choice-requires-2
-    returns-2
-    is-held-requires
-    no-choice-requires-3
-    returns-3
-    element-copy-out-inside
-    mul-inside
-    element-copy-out-inside-2
-    mul-inside-2
-    element-copy-out-inside-3
-    mul-inside-3
-    element-copy-out-inside-4
-    inside-requires
-    mul-t31
-    element-copy-out-t42
-    add-t39
-    cast-t38
-    cast-t34
-    returns-4)
+choose-spec = tie.close (tie.spec find-in-requires enum-known-found enum-told no-choice-requires returns element-copy-out-if1 no-choice-requires-2 returns-2 is-held-requires no-choice-requires-3 returns-3 inside-at-requires mul-t24 element-copy-out-t27 add-t28 cast-t29 cast-t30 returns-4)

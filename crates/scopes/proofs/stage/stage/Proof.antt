@@ -1,22 +1,22 @@
-use Rattle.scopes.proofs.stage.stage.Statement.{statement}
-use Rattle.scopes.proofs.stage.stage.Tie as tie
 use borrow.Author.Needs.{needs}
 use native.Mathlib.Omega.{arith}
+use Rattle.scopes.proofs.stage.stage.Statement.{statement}
+use Rattle.scopes.proofs.stage.stage.Tie as tie
 use Prim.Native.Nat.{_-_}
-use Rattle.scopes.specs.Rows.{arrays}
+use Rattle.scopes.specs.Pack.{arrays-in}
 use Rattle.scopes.specs.Staging.{Staging, staging-start, staging-turn, staging-stop, staging-end, Kinding, kinding-start, kinding-put, kinding-skip, kinding-end, kinding-done}
 
 abbrev Inv-loop2 : tie.InvT-loop2
-Inv-loop2 kinds visible scopes marks n0 n1 n2 n3 origins targets times heads links total here scope time decl at count s₀ p i name local told₀ kind₀ s told kind = Kinding (arrays kinds visible scopes marks n0 n1 n2 n3 origins targets times heads links) total here scope time name local s₀ kind told s
+Inv-loop2 cells visible scopes marks n0 n1 n2 n3 total here scope time decl at count s₀ p i name local told₀ kind₀ s told kind = Kinding (arrays-in cells visible scopes marks n0 n1 n2 n3) total here scope time name local s₀ kind told s
 
 abbrev μ-loop2 : tie.MeasureT-loop2
-μ-loop2 kinds visible scopes marks n0 n1 n2 n3 origins targets times heads links total here scope time decl at count s₀ p i name local told₀ kind₀ s told kind = 4 - kind
+μ-loop2 cells visible scopes marks n0 n1 n2 n3 total here scope time decl at count s₀ p i name local told₀ kind₀ s told kind = 4 - kind
 
 abbrev Inv-loop : tie.InvT-loop
-Inv-loop kinds visible scopes marks n0 n1 n2 n3 origins targets times heads links total here scope time decl at count s₀ p₀ i₀ s p i = Staging (arrays kinds visible scopes marks n0 n1 n2 n3 origins targets times heads links) total here scope time decl at count p i s
+Inv-loop cells visible scopes marks n0 n1 n2 n3 total here scope time decl at count s₀ p₀ i₀ s p i = Staging (arrays-in cells visible scopes marks n0 n1 n2 n3) total here scope time decl at count p i s
 
 abbrev μ-loop : tie.MeasureT-loop
-μ-loop kinds visible scopes marks n0 n1 n2 n3 origins targets times heads links total here scope time decl at count s₀ p₀ i₀ s p i = count - i
+μ-loop cells visible scopes marks n0 n1 n2 n3 total here scope time decl at count s₀ p₀ i₀ s p i = count - i
 
 refused-requires : tie.Need-refused-requires Inv-loop2 μ-loop2 Inv-loop μ-loop
 refused-requires c κs = search needs
@@ -48,53 +48,56 @@ verdict-requires c κs = search needs
 add-kind : tie.Need-add-kind Inv-loop2 μ-loop2 Inv-loop μ-loop
 add-kind c = let t = (c .before .before .before .before .before .before .before .before .before .before .loop2-test) .taken in omega arith
 
-element-write-s : tie.Need-element-write-s Inv-loop2 μ-loop2 Inv-loop μ-loop
-element-write-s c = let w = (c .before .before .before .before .before .before .before .before .before .before .before .before .loop2) .inv .small in let t = (c .before .before .before .before .before .before .before .before .before .before .before .loop2-test) .taken in let u = (c .before .before .before .before .before .before .before .before .before .before .before .before .before .before .before .before .loop) .inv .small in let x = (c .before .before .before .before .before .before .before .before .before .before .before .before .before .before .before .before .loop) .inv .within in let y = (c .before .before .before .before .before .before .before .before .before .before .before .before .before .before .before .loop-test) .taken in let e = (c .before .before .before .before .before .before .before .before .before .before .before .before .before .before .before .before .before .before .before .pre) in omega arith
-
 mul-s : tie.Need-mul-s Inv-loop2 μ-loop2 Inv-loop μ-loop
 mul-s c = let w = (c .before .before .before .before .before .before .before .before .before .before .before .before .loop2) .inv .small in let t = (c .before .before .before .before .before .before .before .before .before .before .before .loop2-test) .taken in let u = (c .before .before .before .before .before .before .before .before .before .before .before .before .before .before .before .before .loop) .inv .small in let x = (c .before .before .before .before .before .before .before .before .before .before .before .before .before .before .before .before .loop) .inv .within in let y = (c .before .before .before .before .before .before .before .before .before .before .before .before .before .before .before .loop-test) .taken in let e = (c .before .before .before .before .before .before .before .before .before .before .before .before .before .before .before .before .before .before .before .pre) in omega arith
 
-element-write-s-2 : tie.Need-element-write-s-2 Inv-loop2 μ-loop2 Inv-loop μ-loop
-element-write-s-2 c = let w = (c .before .before .before .before .before .before .before .before .before .before .before .before .loop2) .inv .small in let t = (c .before .before .before .before .before .before .before .before .before .before .before .loop2-test) .taken in let u = (c .before .before .before .before .before .before .before .before .before .before .before .before .before .before .before .before .loop) .inv .small in let x = (c .before .before .before .before .before .before .before .before .before .before .before .before .before .before .before .before .loop) .inv .within in let y = (c .before .before .before .before .before .before .before .before .before .before .before .before .before .before .before .loop-test) .taken in let e = (c .before .before .before .before .before .before .before .before .before .before .before .before .before .before .before .before .before .before .before .pre) in omega arith
+element-write-s : tie.Need-element-write-s Inv-loop2 μ-loop2 Inv-loop μ-loop
+element-write-s c = let w = (c .before .before .before .before .before .before .before .before .before .before .before .before .loop2) .inv .small in let t = (c .before .before .before .before .before .before .before .before .before .before .before .loop2-test) .taken in let u = (c .before .before .before .before .before .before .before .before .before .before .before .before .before .before .before .before .loop) .inv .small in let x = (c .before .before .before .before .before .before .before .before .before .before .before .before .before .before .before .before .loop) .inv .within in let y = (c .before .before .before .before .before .before .before .before .before .before .before .before .before .before .before .loop-test) .taken in let e = (c .before .before .before .before .before .before .before .before .before .before .before .before .before .before .before .before .before .before .before .pre) in omega arith
 
 mul-s-2 : tie.Need-mul-s-2 Inv-loop2 μ-loop2 Inv-loop μ-loop
 mul-s-2 c = let w = (c .before .before .before .before .before .before .before .before .before .before .before .before .loop2) .inv .small in let t = (c .before .before .before .before .before .before .before .before .before .before .before .loop2-test) .taken in let u = (c .before .before .before .before .before .before .before .before .before .before .before .before .before .before .before .before .loop) .inv .small in let x = (c .before .before .before .before .before .before .before .before .before .before .before .before .before .before .before .before .loop) .inv .within in let y = (c .before .before .before .before .before .before .before .before .before .before .before .before .before .before .before .loop-test) .taken in let e = (c .before .before .before .before .before .before .before .before .before .before .before .before .before .before .before .before .before .before .before .pre) in omega arith
 
-element-write-s-3 : tie.Need-element-write-s-3 Inv-loop2 μ-loop2 Inv-loop μ-loop
-element-write-s-3 c = let w = (c .before .before .before .before .before .before .before .before .before .before .before .before .loop2) .inv .small in let t = (c .before .before .before .before .before .before .before .before .before .before .before .loop2-test) .taken in let u = (c .before .before .before .before .before .before .before .before .before .before .before .before .before .before .before .before .loop) .inv .small in let x = (c .before .before .before .before .before .before .before .before .before .before .before .before .before .before .before .before .loop) .inv .within in let y = (c .before .before .before .before .before .before .before .before .before .before .before .before .before .before .before .loop-test) .taken in let e = (c .before .before .before .before .before .before .before .before .before .before .before .before .before .before .before .before .before .before .before .pre) in omega arith
+element-write-s-2 : tie.Need-element-write-s-2 Inv-loop2 μ-loop2 Inv-loop μ-loop
+element-write-s-2 c = let w = (c .before .before .before .before .before .before .before .before .before .before .before .before .loop2) .inv .small in let t = (c .before .before .before .before .before .before .before .before .before .before .before .loop2-test) .taken in let u = (c .before .before .before .before .before .before .before .before .before .before .before .before .before .before .before .before .loop) .inv .small in let x = (c .before .before .before .before .before .before .before .before .before .before .before .before .before .before .before .before .loop) .inv .within in let y = (c .before .before .before .before .before .before .before .before .before .before .before .before .before .before .before .loop-test) .taken in let e = (c .before .before .before .before .before .before .before .before .before .before .before .before .before .before .before .before .before .before .before .pre) in omega arith
 
 mul-s-3 : tie.Need-mul-s-3 Inv-loop2 μ-loop2 Inv-loop μ-loop
 mul-s-3 c = let w = (c .before .before .before .before .before .before .before .before .before .before .before .before .loop2) .inv .small in let t = (c .before .before .before .before .before .before .before .before .before .before .before .loop2-test) .taken in let u = (c .before .before .before .before .before .before .before .before .before .before .before .before .before .before .before .before .loop) .inv .small in let x = (c .before .before .before .before .before .before .before .before .before .before .before .before .before .before .before .before .loop) .inv .within in let y = (c .before .before .before .before .before .before .before .before .before .before .before .before .before .before .before .loop-test) .taken in let e = (c .before .before .before .before .before .before .before .before .before .before .before .before .before .before .before .before .before .before .before .pre) in omega arith
 
-element-write-s-4 : tie.Need-element-write-s-4 Inv-loop2 μ-loop2 Inv-loop μ-loop
-element-write-s-4 c = let w = (c .before .before .before .before .before .before .before .before .before .before .before .before .loop2) .inv .small in let t = (c .before .before .before .before .before .before .before .before .before .before .before .loop2-test) .taken in let u = (c .before .before .before .before .before .before .before .before .before .before .before .before .before .before .before .before .loop) .inv .small in let x = (c .before .before .before .before .before .before .before .before .before .before .before .before .before .before .before .before .loop) .inv .within in let y = (c .before .before .before .before .before .before .before .before .before .before .before .before .before .before .before .loop-test) .taken in let e = (c .before .before .before .before .before .before .before .before .before .before .before .before .before .before .before .before .before .before .before .pre) in omega arith
+element-write-s-3 : tie.Need-element-write-s-3 Inv-loop2 μ-loop2 Inv-loop μ-loop
+element-write-s-3 c = let w = (c .before .before .before .before .before .before .before .before .before .before .before .before .loop2) .inv .small in let t = (c .before .before .before .before .before .before .before .before .before .before .before .loop2-test) .taken in let u = (c .before .before .before .before .before .before .before .before .before .before .before .before .before .before .before .before .loop) .inv .small in let x = (c .before .before .before .before .before .before .before .before .before .before .before .before .before .before .before .before .loop) .inv .within in let y = (c .before .before .before .before .before .before .before .before .before .before .before .before .before .before .before .loop-test) .taken in let e = (c .before .before .before .before .before .before .before .before .before .before .before .before .before .before .before .before .before .before .before .pre) in omega arith
 
 mul-s-4 : tie.Need-mul-s-4 Inv-loop2 μ-loop2 Inv-loop μ-loop
 mul-s-4 c = let w = (c .before .before .before .before .before .before .before .before .before .before .before .before .loop2) .inv .small in let t = (c .before .before .before .before .before .before .before .before .before .before .before .loop2-test) .taken in let u = (c .before .before .before .before .before .before .before .before .before .before .before .before .before .before .before .before .loop) .inv .small in let x = (c .before .before .before .before .before .before .before .before .before .before .before .before .before .before .before .before .loop) .inv .within in let y = (c .before .before .before .before .before .before .before .before .before .before .before .before .before .before .before .loop-test) .taken in let e = (c .before .before .before .before .before .before .before .before .before .before .before .before .before .before .before .before .before .before .before .pre) in omega arith
 
-element-write-s-5 : tie.Need-element-write-s-5 Inv-loop2 μ-loop2 Inv-loop μ-loop
-element-write-s-5 c = let w = (c .before .before .before .before .before .before .before .before .before .before .before .before .loop2) .inv .small in let t = (c .before .before .before .before .before .before .before .before .before .before .before .loop2-test) .taken in let u = (c .before .before .before .before .before .before .before .before .before .before .before .before .before .before .before .before .loop) .inv .small in let x = (c .before .before .before .before .before .before .before .before .before .before .before .before .before .before .before .before .loop) .inv .within in let y = (c .before .before .before .before .before .before .before .before .before .before .before .before .before .before .before .loop-test) .taken in let e = (c .before .before .before .before .before .before .before .before .before .before .before .before .before .before .before .before .before .before .before .pre) in omega arith
+element-write-s-4 : tie.Need-element-write-s-4 Inv-loop2 μ-loop2 Inv-loop μ-loop
+element-write-s-4 c = let w = (c .before .before .before .before .before .before .before .before .before .before .before .before .loop2) .inv .small in let t = (c .before .before .before .before .before .before .before .before .before .before .before .loop2-test) .taken in let u = (c .before .before .before .before .before .before .before .before .before .before .before .before .before .before .before .before .loop) .inv .small in let x = (c .before .before .before .before .before .before .before .before .before .before .before .before .before .before .before .before .loop) .inv .within in let y = (c .before .before .before .before .before .before .before .before .before .before .before .before .before .before .before .loop-test) .taken in let e = (c .before .before .before .before .before .before .before .before .before .before .before .before .before .before .before .before .before .before .before .pre) in omega arith
 
 mul-s-5 : tie.Need-mul-s-5 Inv-loop2 μ-loop2 Inv-loop μ-loop
 mul-s-5 c = let w = (c .before .before .before .before .before .before .before .before .before .before .before .before .loop2) .inv .small in let t = (c .before .before .before .before .before .before .before .before .before .before .before .loop2-test) .taken in let u = (c .before .before .before .before .before .before .before .before .before .before .before .before .before .before .before .before .loop) .inv .small in let x = (c .before .before .before .before .before .before .before .before .before .before .before .before .before .before .before .before .loop) .inv .within in let y = (c .before .before .before .before .before .before .before .before .before .before .before .before .before .before .before .loop-test) .taken in let e = (c .before .before .before .before .before .before .before .before .before .before .before .before .before .before .before .before .before .before .before .pre) in omega arith
 
-element-write-s-6 : tie.Need-element-write-s-6 Inv-loop2 μ-loop2 Inv-loop μ-loop
-element-write-s-6 c = let w = (c .before .before .before .before .before .before .before .before .before .before .before .before .loop2) .inv .small in let t = (c .before .before .before .before .before .before .before .before .before .before .before .loop2-test) .taken in let u = (c .before .before .before .before .before .before .before .before .before .before .before .before .before .before .before .before .loop) .inv .small in let x = (c .before .before .before .before .before .before .before .before .before .before .before .before .before .before .before .before .loop) .inv .within in let y = (c .before .before .before .before .before .before .before .before .before .before .before .before .before .before .before .loop-test) .taken in let e = (c .before .before .before .before .before .before .before .before .before .before .before .before .before .before .before .before .before .before .before .pre) in omega arith
+element-write-s-5 : tie.Need-element-write-s-5 Inv-loop2 μ-loop2 Inv-loop μ-loop
+element-write-s-5 c = let w = (c .before .before .before .before .before .before .before .before .before .before .before .before .loop2) .inv .small in let t = (c .before .before .before .before .before .before .before .before .before .before .before .loop2-test) .taken in let u = (c .before .before .before .before .before .before .before .before .before .before .before .before .before .before .before .before .loop) .inv .small in let x = (c .before .before .before .before .before .before .before .before .before .before .before .before .before .before .before .before .loop) .inv .within in let y = (c .before .before .before .before .before .before .before .before .before .before .before .before .before .before .before .loop-test) .taken in let e = (c .before .before .before .before .before .before .before .before .before .before .before .before .before .before .before .before .before .before .before .pre) in omega arith
 
 mul-s-6 : tie.Need-mul-s-6 Inv-loop2 μ-loop2 Inv-loop μ-loop
 mul-s-6 c = let w = (c .before .before .before .before .before .before .before .before .before .before .before .before .loop2) .inv .small in let t = (c .before .before .before .before .before .before .before .before .before .before .before .loop2-test) .taken in let u = (c .before .before .before .before .before .before .before .before .before .before .before .before .before .before .before .before .loop) .inv .small in let x = (c .before .before .before .before .before .before .before .before .before .before .before .before .before .before .before .before .loop) .inv .within in let y = (c .before .before .before .before .before .before .before .before .before .before .before .before .before .before .before .loop-test) .taken in let e = (c .before .before .before .before .before .before .before .before .before .before .before .before .before .before .before .before .before .before .before .pre) in omega arith
 
-element-write-s-7 : tie.Need-element-write-s-7 Inv-loop2 μ-loop2 Inv-loop μ-loop
-element-write-s-7 c = let w = (c .before .before .before .before .before .before .before .before .before .before .before .before .loop2) .inv .small in let t = (c .before .before .before .before .before .before .before .before .before .before .before .loop2-test) .taken in let u = (c .before .before .before .before .before .before .before .before .before .before .before .before .before .before .before .before .loop) .inv .small in let x = (c .before .before .before .before .before .before .before .before .before .before .before .before .before .before .before .before .loop) .inv .within in let y = (c .before .before .before .before .before .before .before .before .before .before .before .before .before .before .before .loop-test) .taken in let e = (c .before .before .before .before .before .before .before .before .before .before .before .before .before .before .before .before .before .before .before .pre) in omega arith
+element-write-s-6 : tie.Need-element-write-s-6 Inv-loop2 μ-loop2 Inv-loop μ-loop
+element-write-s-6 c = let w = (c .before .before .before .before .before .before .before .before .before .before .before .before .loop2) .inv .small in let t = (c .before .before .before .before .before .before .before .before .before .before .before .loop2-test) .taken in let u = (c .before .before .before .before .before .before .before .before .before .before .before .before .before .before .before .before .loop) .inv .small in let x = (c .before .before .before .before .before .before .before .before .before .before .before .before .before .before .before .before .loop) .inv .within in let y = (c .before .before .before .before .before .before .before .before .before .before .before .before .before .before .before .loop-test) .taken in let e = (c .before .before .before .before .before .before .before .before .before .before .before .before .before .before .before .before .before .before .before .pre) in omega arith
 
 mul-s-7 : tie.Need-mul-s-7 Inv-loop2 μ-loop2 Inv-loop μ-loop
 mul-s-7 c = let w = (c .before .before .before .before .before .before .before .before .before .before .before .before .loop2) .inv .small in let t = (c .before .before .before .before .before .before .before .before .before .before .before .loop2-test) .taken in let u = (c .before .before .before .before .before .before .before .before .before .before .before .before .before .before .before .before .loop) .inv .small in let x = (c .before .before .before .before .before .before .before .before .before .before .before .before .before .before .before .before .loop) .inv .within in let y = (c .before .before .before .before .before .before .before .before .before .before .before .before .before .before .before .loop-test) .taken in let e = (c .before .before .before .before .before .before .before .before .before .before .before .before .before .before .before .before .before .before .before .pre) in omega arith
 
-element-write-s-8 : tie.Need-element-write-s-8 Inv-loop2 μ-loop2 Inv-loop μ-loop
-element-write-s-8 c = let w = (c .before .before .before .before .before .before .before .before .before .before .before .before .loop2) .inv .small in let t = (c .before .before .before .before .before .before .before .before .before .before .before .loop2-test) .taken in let u = (c .before .before .before .before .before .before .before .before .before .before .before .before .before .before .before .before .loop) .inv .small in let x = (c .before .before .before .before .before .before .before .before .before .before .before .before .before .before .before .before .loop) .inv .within in let y = (c .before .before .before .before .before .before .before .before .before .before .before .before .before .before .before .loop-test) .taken in let e = (c .before .before .before .before .before .before .before .before .before .before .before .before .before .before .before .before .before .before .before .pre) in omega arith
+element-write-s-7 : tie.Need-element-write-s-7 Inv-loop2 μ-loop2 Inv-loop μ-loop
+element-write-s-7 c = let w = (c .before .before .before .before .before .before .before .before .before .before .before .before .loop2) .inv .small in let t = (c .before .before .before .before .before .before .before .before .before .before .before .loop2-test) .taken in let u = (c .before .before .before .before .before .before .before .before .before .before .before .before .before .before .before .before .loop) .inv .small in let x = (c .before .before .before .before .before .before .before .before .before .before .before .before .before .before .before .before .loop) .inv .within in let y = (c .before .before .before .before .before .before .before .before .before .before .before .before .before .before .before .loop-test) .taken in let e = (c .before .before .before .before .before .before .before .before .before .before .before .before .before .before .before .before .before .before .before .pre) in omega arith
 
 mul-s-8 : tie.Need-mul-s-8 Inv-loop2 μ-loop2 Inv-loop μ-loop
 mul-s-8 c = let w = (c .before .before .before .before .before .before .before .before .before .before .before .before .loop2) .inv .small in let t = (c .before .before .before .before .before .before .before .before .before .before .before .loop2-test) .taken in let u = (c .before .before .before .before .before .before .before .before .before .before .before .before .before .before .before .before .loop) .inv .small in let x = (c .before .before .before .before .before .before .before .before .before .before .before .before .before .before .before .before .loop) .inv .within in let y = (c .before .before .before .before .before .before .before .before .before .before .before .before .before .before .before .loop-test) .taken in let e = (c .before .before .before .before .before .before .before .before .before .before .before .before .before .before .before .before .before .before .before .pre) in omega arith
+
+element-write-s-8 : tie.Need-element-write-s-8 Inv-loop2 μ-loop2 Inv-loop μ-loop
+element-write-s-8 c = let w = (c .before .before .before .before .before .before .before .before .before .before .before .before .loop2) .inv .small in let t = (c .before .before .before .before .before .before .before .before .before .before .before .loop2-test) .taken in let u = (c .before .before .before .before .before .before .before .before .before .before .before .before .before .before .before .before .loop) .inv .small in let x = (c .before .before .before .before .before .before .before .before .before .before .before .before .before .before .before .before .loop) .inv .within in let y = (c .before .before .before .before .before .before .before .before .before .before .before .before .before .before .before .loop-test) .taken in let e = (c .before .before .before .before .before .before .before .before .before .before .before .before .before .before .before .before .before .before .before .pre) in omega arith
+
+mul-s-9 : tie.Need-mul-s-9 Inv-loop2 μ-loop2 Inv-loop μ-loop
+mul-s-9 c = let w = (c .before .before .before .before .before .before .before .before .before .before .before .before .loop2) .inv .small in let t = (c .before .before .before .before .before .before .before .before .before .before .before .loop2-test) .taken in let u = (c .before .before .before .before .before .before .before .before .before .before .before .before .before .before .before .before .loop) .inv .small in let x = (c .before .before .before .before .before .before .before .before .before .before .before .before .before .before .before .before .loop) .inv .within in let y = (c .before .before .before .before .before .before .before .before .before .before .before .before .before .before .before .loop-test) .taken in let e = (c .before .before .before .before .before .before .before .before .before .before .before .before .before .before .before .before .before .before .before .pre) in omega arith
 
 element-write-s-9 : tie.Need-element-write-s-9 Inv-loop2 μ-loop2 Inv-loop μ-loop
 element-write-s-9 c = let w = (c .before .before .before .before .before .before .before .before .before .before .before .before .loop2) .inv .small in let t = (c .before .before .before .before .before .before .before .before .before .before .before .loop2-test) .taken in let u = (c .before .before .before .before .before .before .before .before .before .before .before .before .before .before .before .before .loop) .inv .small in let x = (c .before .before .before .before .before .before .before .before .before .before .before .before .before .before .before .before .loop) .inv .within in let y = (c .before .before .before .before .before .before .before .before .before .before .before .before .before .before .before .loop-test) .taken in let e = (c .before .before .before .before .before .before .before .before .before .before .before .before .before .before .before .before .before .before .before .pre) in omega arith
@@ -136,49 +139,4 @@ returns-2 : tie.Need-returns-2 Inv-loop2 μ-loop2 Inv-loop μ-loop
 returns-2 c = staging-end _ _ _ _ _ _ _ _ _ _ _ ((c .before .loop) .inv) ((c .loop-test) .left)
 
 pub stage-spec : {M : Type 1} → statement M
-stage-spec =
-    tie.close
-    (tie.spec
-    Inv-loop2
-    μ-loop2
-    Inv-loop
-    μ-loop
-    refused-requires
-    loop-holds
-    name-at-requires
-    local-at-requires
-    loop2-holds
-    choose-requires
-    staged-has-requires
-    clash-requires
-    verdict-requires
-    add-kind
-    element-write-s
-    mul-s
-    element-write-s-2
-    mul-s-2
-    element-write-s-3
-    mul-s-3
-    element-write-s-4
-    mul-s-4
-    element-write-s-5
-    mul-s-5
-    element-write-s-6
-    mul-s-6
-    element-write-s-7
-    mul-s-7
-    element-write-s-8
-    mul-s-8
-    element-write-s-9
-    add-s
-    loop2-less
-    loop2-again
-    loop2-less-2
-    loop2-again-2
-    returns
-    next-requires
-    next-requires-2
-    add-i
-    loop-less
-    loop-again
-    returns-2)
+stage-spec = tie.close (tie.spec Inv-loop2 μ-loop2 Inv-loop μ-loop refused-requires loop-holds name-at-requires local-at-requires loop2-holds choose-requires staged-has-requires clash-requires verdict-requires add-kind mul-s element-write-s mul-s-2 element-write-s-2 mul-s-3 element-write-s-3 mul-s-4 element-write-s-4 mul-s-5 element-write-s-5 mul-s-6 element-write-s-6 mul-s-7 element-write-s-7 mul-s-8 element-write-s-8 mul-s-9 element-write-s-9 add-s loop2-less loop2-again loop2-less-2 loop2-again-2 returns next-requires next-requires-2 add-i loop-less loop-again returns-2)

@@ -41,6 +41,9 @@ mul-t25 c = search needs
 element-copy-out-t28 : tie.Need-element-copy-out-t28 Inv-loop μ-loop
 element-copy-out-t28 c = search needs
 
+mul-is-row : tie.Need-mul-is-row Inv-loop μ-loop
+mul-is-row c = search needs
+
 element-copy-out-is-row : tie.Need-element-copy-out-is-row Inv-loop μ-loop
 element-copy-out-is-row c = search needs
 
@@ -65,24 +68,4 @@ returns-2 : tie.Need-returns-2 Inv-loop μ-loop
 returns-2 c = let e : c .before .loop .i ≡ c .before .before .args .count = omega arith in sym (rw e at ((c .before .loop) .inv .1))
 
 pub staged-has-spec : {M : Type 1} → statement M
-staged-has-spec =
-    tie.close
-    (tie.spec
-    Inv-loop
-    μ-loop
-    loop-holds
-    mul-t13
-    element-copy-out-t16
-    mul-t17
-    element-copy-out-t20
-    mul-t21
-    element-copy-out-t24
-    mul-t25
-    element-copy-out-t28
-    element-copy-out-is-row
-    is-row-requires
-    returns
-    add-i
-    loop-less
-    loop-again
-    returns-2)
+staged-has-spec = tie.close (tie.spec Inv-loop μ-loop loop-holds mul-t13 element-copy-out-t16 mul-t17 element-copy-out-t20 mul-t21 element-copy-out-t24 mul-t25 element-copy-out-t28 mul-is-row element-copy-out-is-row is-row-requires returns add-i loop-less loop-again returns-2)

@@ -1,0 +1,133 @@
+-- A use: what its decision promises, and what its commit makes of a tree. Assumes nothing.
+use Prim.Native.Nat.{ℕ, zero, suc, _+_, _-_, _≤_, _<_}
+use native.Mathlib.Omega.{arith}
+use native.Mathlib.Numerals.{add-one}
+use mathlib.Core.Path.{_≡_, refl, ap, sym, subst, _∙_}
+use mathlib.Core.Bool.{Bool, true, false}
+use mathlib.Core.List.{List}
+use lib.ListN.{getD}
+use Rattle.names.specs.declared.Name.{Name}
+use Rattle.scopes.specs.declared.Answer.{Answer as Told}
+use Rattle.scopes.specs.declared.Answer.the-variants.{Done, Refused}
+use Rattle.scopes.specs.declared.stage.Staged.{Staged}
+use Rattle.scopes.specs.Staging.{refusal}
+use Rattle.scopes.specs.Rows.{name-at}
+use Rattle.scopes.specs.Form.{resolves-use}
+use Rattle.scopes.specs.Note.{accepted}
+use Rattle.scopes.specs.Views.{View, ViewMeets, bit-of, told, here-of, pushed, committed, commits, refusing, accepting}
+use Rattle.scopes.specs.Views.{Sized as ViewSized}
+use Rattle.scopes.specs.declared.Tree.{Tree}
+use Rattle.scopes.specs.declared.lent.Entry.{Entry}
+use Rattle.scopes.specs.Trees.{view, Sized}
+use Rattle.scopes.specs.Pack.{view-sized, added, added-sized, shut-view}
+use Rattle.scopes.specs.Meets.{Meets, left}
+use Rattle.scopes.specs.Declares.{bridge}
+
+-- THE DECISION
+pub record Decided (t : View) (s : List ℕ) (r : Staged) : Type 0 where
+  pub refused : (r .number ≡ 0 → ⊥) → (v : Bool) → ViewMeets t (resolves-use s v) (refusing (r .number) t)
+  pub small : r .number ≡ 0 → (t .count + r .count ≤ 1024) × (r .count ≤ 96)
+  pub shallow : r .number ≡ 0 → t .depth ≤ 9
+  pub taken : r .number ≡ 0 → (v : Bool) → ViewSized t → ViewMeets t (resolves-use s v) (accepting (committed t r (here-of t) (bit-of v) (r .count)))
+
+pub decided-no : (t : View) (s : List ℕ) (n : ℕ) (r : Staged) → r ≡ refusal n → (n ≡ 0 → ⊥) → ((v : Bool) → ViewMeets t (resolves-use s v) (refusing n t)) → Decided t s r
+decided-no t s n r q z m =
+    let e : r .number ≡ n = ap (λ (x : Staged). x .number) q in
+    let no : r .number ≡ 0 → ⊥ = λ y. z (sym e ∙ y) in
+    record {
+      refused = λ y v. subst (λ (x : ℕ). ViewMeets t (resolves-use s v) (refusing x t)) (sym e) (m v);
+      small = λ y. absurd (no y);
+      shallow = λ y. absurd (no y);
+      taken = λ y. absurd (no y);
+    }
+
+pub decided-told : (t : View) (s : List ℕ) (r : Staged) → (r .number ≡ 0 → ⊥) → ((v : Bool) → ViewMeets t (resolves-use s v) (refusing (r .number) t)) → Decided t s r
+decided-told t s r z m = record { refused = λ y. m; small = λ y. absurd (z y); shallow = λ y. absurd (z y); taken = λ y. absurd (z y) }
+
+pub decided-yes : (t : View) (s : List ℕ) (r : Staged) → r .number ≡ 0 → t .depth ≤ 9 → t .count + r .count ≤ 1024 → r .count ≤ 96 → (h : ℕ) → h ≡ here-of t
+    → ((v : Bool) → ViewSized t → (y : ℕ) → y ≡ bit-of v → (o : View) → o ≡ committed t r h y (r .count) → ViewMeets t (resolves-use s v) (accepting o)) → Decided t s r
+decided-yes t s r z d c k h q m =
+    record {
+      refused = λ y. absurd (y z);
+      small = λ y. (c, k);
+      shallow = λ y. d;
+      taken = λ y v w. m v w (bit-of v) refl _ (ap (λ (x : ℕ). committed t r x (bit-of v) (r .count)) (sym q));
+    }
+
+-- a view with the count and the depth that the code read
+abbrev pub counted : View → ℕ → ℕ → View
+counted t c d =
+    record { count = c; kinds = t .kinds; visible = t .visible; scopes = t .scopes; marks = t .marks; n0 = t .n0; n1 = t .n1; n2 = t .n2; n3 = t .n3; origins = t .origins; targets = t .targets; times = t .times; heads = t .heads; links = t .links; depth = d; stack = t .stack }
+
+pub at-counts : (t : View) (c d : ℕ) (s : List ℕ) (r : Staged) → c ≡ t .count → d ≡ t .depth → Decided (counted t c d) s r → Decided t s r
+at-counts t c d s r p q x = subst (λ (u : View). Decided u s r) (λ j. counted t (p j) (q j)) x
+
+-- THE COMMIT: the first n staged entries, from the place c on
+abbrev pub entry-of-kind : ℕ → List ℕ → List ℕ → List ℕ → List ℕ → List ℕ → List ℕ → List ℕ → List ℕ → ℕ → ℕ → ℕ → Entry
+entry-of-kind k ms a b c d os fs ts i h v =
+    record { kind = k; visible = v; scope = h; mark = getD ms i 0; name = name-at a b c d i; origin = getD os i 0; target = getD fs i 0; moment = getD ts i 0; opens = false }
+
+abbrev pub entry-at : List ℕ → List ℕ → List ℕ → List ℕ → List ℕ → List ℕ → List ℕ → List ℕ → List ℕ → ℕ → ℕ → ℕ → Entry
+entry-at ks ms a b c d os fs ts i h v = entry-of-kind (getD ks i 0) ms a b c d os fs ts i h v
+
+pub entry-read : (ks ms a b c d os fs ts : List ℕ) (i h v k : ℕ) → k ≡ getD ks i 0 → entry-of-kind k ms a b c d os fs ts i h v ≡ entry-at ks ms a b c d os fs ts i h v
+entry-read ks ms a b c d os fs ts i h v k q = ap (λ (x : ℕ). entry-of-kind x ms a b c d os fs ts i h v) q
+
+abbrev pub staged-entry : Staged → ℕ → ℕ → ℕ → Entry
+staged-entry s h v n =
+    record { kind = getD (s .kinds) n 0; visible = v; scope = h; mark = getD (s .marks) n 0; name = name-at (s .n0) (s .n1) (s .n2) (s .n3) n; origin = getD (s .origins) n 0; target = getD (s .targets) n 0; moment = getD (s .times) n 0; opens = false }
+
+unfoldable pub filled : ℕ → Tree → Staged → ℕ → ℕ → ℕ → Tree
+filled c t s h v zero = t
+filled c t s h v (suc n) = added (c + n) (filled c t s h v n) (staged-entry s h v n)
+
+pub record Filled (c : ℕ) (t : Tree) (s : Staged) (h v n : ℕ) : Type 0 where
+  pub sized : Sized (filled c t s h v n)
+  pub same : view (filled c t s h v n) ≡ committed (view t) s h v n
+
+pub fills : (c : ℕ) (t : Tree) (s : Staged) (h v n : ℕ) → c ≡ getD (t .opened) 9 0 → Sized t → c + n ≤ 1024 → Filled c t s h v n
+unfolding filled committed
+fills c t s h v zero p z l = record { sized = z; same = refl }
+fills c t s h v (suc n) p z l =
+    let f = fills c t s h v n p z (omega arith) in
+    let k = commits (view t) s h v n (view-sized t z) (omega (arith, p)) .count in
+    let e : c + n ≡ getD (filled c t s h v n .opened) 9 0 = ap (λ (x : ℕ). x + n) p ∙ sym (ap (λ (x : View). x .count) (f .same) ∙ k) in
+    record {
+      sized = added-sized (c + n) (filled c t s h v n) (staged-entry s h v n) (f .sized);
+      same = shut-view (c + n) (filled c t s h v n) (staged-entry s h v n) e (f .sized) (omega arith) refl
+          ∙ ap (λ (x : View). pushed x (getD (s .kinds) n 0) v h (getD (s .marks) n 0) (name-at (s .n0) (s .n1) (s .n2) (s .n3) n) (getD (s .origins) n 0) (getD (s .targets) n 0) (getD (s .times) n 0)) (f .same);
+    }
+
+-- the loop
+pub record Filling (c : ℕ) (t₀ : Tree) (s : Staged) (h v : ℕ) (t : Tree) (i : ℕ) : Type 0 where
+  pub within : i ≤ s .count
+  pub same : t ≡ filled c t₀ s h v i
+
+module _ (c : ℕ) (t₀ : Tree) (s : Staged) (h v : ℕ) where
+  pub filling-start : Filling c t₀ s h v t₀ 0
+  unfolding filled
+  filling-start = record { within = omega arith; same = refl }
+
+  module _ (t : Tree) (i : ℕ) (w : Filling c t₀ s h v t i) where
+    pub filling-turn : i < s .count → (e : Entry) → e ≡ staged-entry s h v i → (u : Tree) → u ≡ added (c + i) t e → Filling c t₀ s h v u (i + 1)
+    unfolding filled
+    filling-turn l e q u p =
+        record {
+          within = omega arith;
+          same = p ∙ ap (λ (x : Entry). added (c + i) t x) q ∙ ap (λ (x : Tree). added (c + i) x (staged-entry s h v i)) (w .same) ∙ ap (λ (n : ℕ). filled c t₀ s h v n) (sym (add-one i));
+        }
+
+    pub filling-end : s .count ≤ i → t ≡ filled c t₀ s h v (s .count)
+    filling-end l = let e : i ≡ s .count = omega (arith, w .within) in w .same ∙ ap (λ (n : ℕ). filled c t₀ s h v n) e
+
+-- A USE
+module _ (t : Tree) (s : List ℕ) (v : Bool) (r : Staged) (d : Decided (view t) s r) where
+  pub use-no : (r .number ≡ 0 → ⊥) → Meets t (resolves-use s v) (left (Refused (r .number)) t)
+  use-no z = bridge _ (λ y. d .refused z v) (λ y. y) (λ y. refl) (λ y. refl) (λ y. absurd (z y))
+
+  pub use-yes : r .number ≡ 0 → (c : ℕ) → c ≡ getD (t .opened) 9 0 → (h : ℕ) → h ≡ here-of (view t) → (b : ℕ) → b ≡ bit-of v → (u : Tree) → u ≡ filled c t r h b (r .count) → Meets t (resolves-use s v) (left Done u)
+  use-yes z c p h q b w u e =
+      let room : c + r .count ≤ 1024 = omega (arith, d .small z .0, p) in
+      bridge _ (λ y. d .taken z v (view-sized t y)) (λ y. subst Sized (sym e) (fills c t r h b (r .count) p y room .sized))
+      (λ y. ap (λ (x : Tree). record { answer = Done; tree = view x }) e ∙ ap (λ (x : View). record { answer = Done; tree = x }) (fills c t r h b (r .count) p y room .same ∙ (λ j. committed (view t) r (q j) (w j) (r .count))))
+      (λ y. let x : _≡_ {A = ℕ} 0 1 = cc in absurd (omega arith)) (λ y. refl)

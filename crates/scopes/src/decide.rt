@@ -1,0 +1,210 @@
+// What a call comes to on the tree as it is: a number, or what it would add. Nothing here changes a tree.
+ghost use mathlib.Core.Path.{_≡_};
+ghost use Prim.Native.Nat.{_+_, _<_, _≤_};
+ghost use Rattle.scopes.specs.Views.{got-of};
+ghost use Rattle.scopes.specs.Trees.{packed-in, view};
+ghost use Rattle.scopes.specs.Plan.{no-plan, planned-of};
+ghost use Rattle.scopes.specs.Commits.{Decided};
+use crate::Answer;
+use crate::CELLS;
+use crate::COUNT;
+use crate::DEPTH;
+use crate::OPENED;
+use crate::form;
+use crate::look;
+use crate::look::Spot;
+use crate::stage;
+use crate::stage::Staged;
+use crate::stage::refused;
+use names::Name;
+
+// What a declaration comes to: number 0 with the scope and the name of the entry, or a number.
+pub struct Plan {
+    pub number: u8,
+    pub scope: u16,
+    pub name: Name,
+}
+
+fn no_plan(number: u8) -> Plan
+    ensures { λ r. ⌜ r ≡ no-plan number ⌝ }
+{
+    Plan {
+        number: number,
+        scope: 0,
+        name: Name {
+            w0: 0,
+            w1: 0,
+            w2: 0,
+            w3: 0,
+        },
+    }
+}
+
+// A declaration: its name is free in its kind, and there is place. `deepest` bounds the open modules.
+pub fn planned<'a>(
+    opened: &'a [u16; OPENED],
+    cells: &'a [u16; CELLS],
+    visible: &'a [u8; 1024],
+    scopes: &'a [u16; 1024],
+    marks: &'a [u16; 1024],
+    n0: &'a [u64; 1024],
+    n1: &'a [u64; 1024],
+    n2: &'a [u64; 1024],
+    n3: &'a [u64; 1024],
+    name: &'a [u8],
+    kind: u16,
+    twice: u8,
+    deepest: usize,
+) -> Plan
+    ensures { λ r. ⌜ r ≡ planned-of (packed-in (now (opened .entry)) (now (cells .entry)) (now (visible .entry)) (now (scopes .entry)) (now (marks .entry)) (now (n0 .entry)) (now (n1 .entry)) (now (n2 .entry)) (now (n3 .entry))) (now (name .entry)) kind twice deepest ⌝ }
+{
+    if names::is_identifier(name) {} else {
+        return no_plan(5);
+    }
+    let at = look::wide(opened[COUNT]);
+    if 1024 < at {
+        return no_plan(51);
+    }
+    let depth = look::wide(opened[DEPTH]);
+    if 9 < depth {
+        return no_plan(51);
+    }
+    let n = names::name_of(name);
+    let here = look::current(opened, depth);
+    if look::is_held(cells, scopes, n0, n1, n2, n3, here, at, kind, n) {
+        return no_plan(twice);
+    }
+    if 1024 <= at {
+        return no_plan(51);
+    }
+    if deepest < depth {
+        return no_plan(51);
+    }
+    Plan {
+        number: 0,
+        scope: here,
+        name: n,
+    }
+}
+
+// The mark of the entry of a kind and a name in the current module, or a number.
+pub fn get<'a>(
+    opened: &'a [u16; OPENED],
+    cells: &'a [u16; CELLS],
+    visible: &'a [u8; 1024],
+    scopes: &'a [u16; 1024],
+    marks: &'a [u16; 1024],
+    n0: &'a [u64; 1024],
+    n1: &'a [u64; 1024],
+    n2: &'a [u64; 1024],
+    n3: &'a [u64; 1024],
+    name: &'a [u8],
+    kind: u16,
+) -> Answer
+    ensures { λ r. ⌜ r ≡ got-of (view (packed-in (now (opened .entry)) (now (cells .entry)) (now (visible .entry)) (now (scopes .entry)) (now (marks .entry)) (now (n0 .entry)) (now (n1 .entry)) (now (n2 .entry)) (now (n3 .entry)))) (now (name .entry)) kind ⌝ }
+{
+    if names::is_identifier(name) {} else {
+        return Answer::Refused(5);
+    }
+    let at = look::wide(opened[COUNT]);
+    if 1024 < at {
+        return Answer::Refused(51);
+    }
+    let depth = look::wide(opened[DEPTH]);
+    if 9 < depth {
+        return Answer::Refused(51);
+    }
+    let n = names::name_of(name);
+    let here = look::current(opened, depth);
+    let found = look::find_in(cells, scopes, n0, n1, n2, n3, here, at, kind, n);
+    let Spot::At(i) = found else {
+        return Answer::Refused(43);
+    };
+    Answer::Mark(marks[i])
+}
+
+// The entries that a use adds, all of one visibility; or a number.
+pub fn uses<'a>(
+    opened: &'a [u16; OPENED],
+    cells: &'a [u16; CELLS],
+    visible: &'a [u8; 1024],
+    scopes: &'a [u16; 1024],
+    marks: &'a [u16; 1024],
+    n0: &'a [u64; 1024],
+    n1: &'a [u64; 1024],
+    n2: &'a [u64; 1024],
+    n3: &'a [u64; 1024],
+    decl: &'a [u8],
+) -> Staged
+    ensures { λ r. ⌜ Decided (view (packed-in (now (opened .entry)) (now (cells .entry)) (now (visible .entry)) (now (scopes .entry)) (now (marks .entry)) (now (n0 .entry)) (now (n1 .entry)) (now (n2 .entry)) (now (n3 .entry)))) (now (decl .entry)) r ⌝ }
+{
+    let number = form::use_form(decl);
+    if number != 0 {
+        return refused(number);
+    }
+    let total = look::wide(opened[COUNT]);
+    if 1024 < total {
+        return refused(51);
+    }
+    let depth = look::wide(opened[DEPTH]);
+    if 9 < depth {
+        return refused(51);
+    }
+    let segments = form::byte_at(decl, 0);
+    if segments == 0 {
+        return refused(40);
+    }
+    if names::is_crate(form::string_at(decl, 1)) {} else {
+        return refused(40);
+    }
+    let at = form::next(decl, 1);
+    let way = look::navigate(
+        opened,
+        cells,
+        visible,
+        scopes,
+        n0,
+        n1,
+        n2,
+        n3,
+        total,
+        depth,
+        decl,
+        at,
+        segments - 1,
+    );
+    if way.number != 0 {
+        return refused(way.number);
+    }
+    let elements = form::byte_at(decl, way.next);
+    let first = way.next + 1;
+    if form::any_main(decl, first, elements) {
+        return refused(46);
+    }
+    let here = look::current(opened, depth);
+    let staged = stage::stage(
+        cells,
+        visible,
+        scopes,
+        marks,
+        n0,
+        n1,
+        n2,
+        n3,
+        total,
+        here,
+        way.scope,
+        way.time,
+        decl,
+        first,
+        elements,
+    );
+    let told = staged.number;
+    if told != 0 {
+        return staged;
+    }
+    if 1024 < total + staged.count {
+        return refused(51);
+    }
+    staged
+}
