@@ -5,6 +5,7 @@ ghost use Rattle.bundle.specs.Read.{numberOf, verdict};
 ghost use Prim.Native.Nat.{_+_, _<_, _^_};
 ghost use Rattle.host.specs.Told.{bitOf, kindOf, placeTold, resolvedTold, orderTold, GraphTold, assembleTold};
 ghost use Rattle.assembly.specs.Call.{assembleAnswer, assembleReport, assembleImage};
+ghost use Rattle.linker.specs.Call.{linkAnswer, linkReport, linkImage};
 ghost use Rattle.order.specs.Call.{orderAnswer, orderReport};
 ghost use Rattle.resolution.specs.Call.{resolve};
 ghost use lib.ListN.{set, take, length};
@@ -200,4 +201,32 @@ pub extern "C" fn gontsamy_discover(s: &[u8], out: &mut [usize]) -> u8
             0
         }
     }
+}
+
+// A bundle linked, steps 1 to 6: as `gontsamy_assemble`, or a number from 40 to 51 with its place in out[0]. Ruled out: an image where
+// step 6 refuses a use.
+#[no_mangle]
+pub extern "C" fn gontsamy_link(
+    s: &[u8],
+    report: &mut [u8],
+    image: &mut [u8],
+    out: &mut [usize],
+) -> u8
+    ensures { λ r. ⌜ r ≡ linkAnswer (now (s .entry)) (now (report .entry)) (now (image .entry)) .number ⌝ }
+    ensures { λ r. ⌜ now (report .exit) ≡ linkReport (now (s .entry)) (now (report .entry)) ⌝ }
+    ensures { λ r. ⌜ now (image .exit) ≡ linkImage (now (s .entry)) (now (image .entry)) ⌝ }
+    ensures { λ r. ⌜ now (out .exit) ≡ assembleTold (linkAnswer (now (s .entry)) (now (report .entry)) (now (image .entry))) (now (out .entry)) ⌝ }
+{
+    let l = linker::link(s, report, image, scopes::empty());
+    let a = l.answer;
+    let number = a.number;
+    if number != 0 {
+        tell(out, 0, a.place);
+        return number;
+    }
+    tell_both(out, a.report, a.units);
+    tell(out, 2, a.image);
+    tell_places(out, 3, &a.files, a.units);
+    tell_ids(out, 67, &a.ids, a.units);
+    number
 }

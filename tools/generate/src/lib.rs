@@ -1,6 +1,7 @@
 //! A deterministic stream of bundles. The bundle of a seed and an index does not depend on those
 //! before it.
 
+mod cases;
 mod clashes;
 mod families;
 pub mod link;
@@ -11,6 +12,7 @@ mod shapes;
 mod stats;
 mod tree;
 
+pub use cases::{case, CASES};
 pub use clashes::{clash, WORDS};
 pub use families::{Family, FAMILIES};
 pub use rng::Rng;

@@ -3,13 +3,14 @@
 use std::io::{BufWriter, Read, Write};
 use std::process::ExitCode;
 
-use bundle_generate::{bundle, link, shape, stats, Family, FAMILIES};
+use bundle_generate::{bundle, case, link, shape, stats, Family, FAMILIES};
 
 const USAGE: &str = "\
 usage: generate SEED COUNT [--family NAME]   a stream of bundles on standard output
        generate --list-families              their names
        generate --shape NAME UNITS           one bundle whose imports are a chain, ring, star,
                                              diamonds or next-four
+       generate --case NAME                  one bundle of those that `bench` measures
        generate --answers [--image]          a stream of bundles in, the model's answers out
        generate --discover                   the same, of discovery and order alone
        generate --stats                      answers in, a table of their numbers out";
@@ -24,6 +25,7 @@ fn main() -> ExitCode {
         ["--list-families"] => list(),
         ["--stats"] => stats(std::io::stdin().lock()).and_then(|table| print(&table)),
         ["--shape", name, units] => one_shape(name, units),
+        ["--case", name] => one_case(name),
         ["--answers"] => answers(|bytes| answer(bytes, false)),
         ["--answers", "--image"] => answers(|bytes| answer(bytes, true)),
         ["--discover"] => answers(|bytes| link::discover(bytes).print()),
@@ -87,6 +89,15 @@ fn one_shape(name: &str, units: &str) -> std::io::Result<()> {
     let units = units.parse().ok().filter(|units| (1..=64).contains(units));
     let Some(bytes) = units.and_then(|units| shape(name, units)) else {
         return usage("shape or number of units");
+    };
+    let mut out = std::io::stdout().lock();
+    out.write_all(&bytes)?;
+    out.flush()
+}
+
+fn one_case(name: &str) -> std::io::Result<()> {
+    let Some(bytes) = case(name) else {
+        return usage("case");
     };
     let mut out = std::io::stdout().lock();
     out.write_all(&bytes)?;

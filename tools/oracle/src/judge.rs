@@ -6,6 +6,7 @@ use std::sync::Arc;
 
 use bundle_format::{limits, Body, Bundle, Item, Refusal};
 
+use crate::ast::scope::bare::Bare;
 use crate::ast::scope::{Fault, Kind, Tree};
 use crate::card::Card;
 use crate::driver::{DependencyGraph, SourceMap};
@@ -122,12 +123,15 @@ impl Judge {
     ) -> Result<(CanonSourceFile, Arc<DependencyMap>), Refusal> {
         let (bundle, dependency_map) = self.unpack(bytes)?;
         parse::parse_from(Rc::clone(&bundle));
+        Ok((self.entry(&bundle), Arc::new(dependency_map)))
+    }
 
+    /// The entry of the bundle that is unpacked.
+    fn entry(&self, bundle: &Bundle) -> CanonSourceFile {
         let entry = &bundle.files[0].path;
         let name = CanonPath::canonicalize(&self.card.at(entry)).expect("the entry is unpacked");
         let content = std::str::from_utf8(entry).expect("a path is ASCII");
-        let entry = CanonSourceFile::new(name, Arc::from(content));
-        Ok((entry, Arc::new(dependency_map)))
+        CanonSourceFile::new(name, Arc::from(content))
     }
 
     /// The bundle, unpacked, and the original's map of its remappings and roots; or the first of
@@ -145,6 +149,13 @@ impl Judge {
             "9 to 13 by the original and by document 01"
         );
         Ok((Rc::new(bundle), built?))
+    }
+
+    /// A whole link by the original's code, so many times: for a counter of instructions, which looks
+    /// inside `oracle_linked` (from items) or `oracle_linked_bytes`. Says whether it linked each time.
+    pub fn measure_link(&mut self, bytes: &[u8], times: usize) -> Result<bool, Refusal> {
+        self.unpack(bytes)?;
+        Ok((0..times).all(|_| oracle_linked_bytes(self, bytes)))
     }
 
     /// Numbers 9 to 13 by `DependencyMapBuilder`, in its order: per remapping context, target,
@@ -203,6 +214,31 @@ impl Judge {
     pub(crate) fn card(&self) -> &Card {
         &self.card
     }
+}
+
+/// What is counted from bytes: the bundle's reading by tools/format, the original's map, and the link.
+/// The bundle's folders and files are there already.
+#[no_mangle]
+#[inline(never)]
+pub fn oracle_linked_bytes(judge: &Judge, bytes: &[u8]) -> bool {
+    let Ok(bundle) = Bundle::decode(bytes) else {
+        return false;
+    };
+    let Ok(dependency_map) = judge.build(&bundle) else {
+        return false;
+    };
+    let entry = judge.entry(&bundle);
+    parse::parse_from(Rc::new(bundle));
+    oracle_linked(entry, Arc::new(dependency_map))
+}
+
+/// What is counted from items: discovery, order and assembly by the original's `build_program`, then the
+/// calls of step 6 on its `ModuleTree`, without the oracle's log and limits. Program and tree are dropped.
+#[no_mangle]
+#[inline(never)]
+pub fn oracle_linked(entry: CanonSourceFile, dependency_map: Arc<DependencyMap>) -> bool {
+    let (program, _) = DependencyGraph::build_program(entry, dependency_map, &UnstableFeatures);
+    program.is_some_and(|program| Bare::default().walk(program.items()))
 }
 
 /// A remapping's name. One over 32 bytes or not in UTF-8 is outside the domain of comparison and

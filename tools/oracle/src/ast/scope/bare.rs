@@ -8,7 +8,7 @@ use bundle_format::Element;
 use super::modules::ModuleTree;
 use crate::ast::CustomFunction;
 use crate::error::{Error, Span};
-use crate::parse::{use_decl, visibility_of, UseDecl, Visibility};
+use crate::parse::{use_decl, visibility_of, Item, Module, UseDecl, Visibility};
 use crate::str::{AliasName, FunctionName, ModuleName};
 use crate::types::{AliasedType, EnumVariantInfo};
 
@@ -91,5 +91,43 @@ impl Bare {
             Call::GetAlias(name) => tree.get_alias(name).is_ok(),
             Call::GetFunction(name) => tree.get_function(name).is_ok(),
         }
+    }
+
+    /// Step 6: per unit or module enter, items in order, exit. Says whether every call was accepted.
+    pub fn walk(&mut self, units: &[Item]) -> bool {
+        units.iter().all(|unit| match unit {
+            Item::Module(unit) => self.walk_module(unit).is_ok(),
+            _ => false,
+        })
+    }
+
+    fn walk_module(&mut self, module: &Module) -> Result<(), Error> {
+        let tree = &mut self.0;
+        tree.enter(module.name().clone(), module.visibility().clone())?;
+        for item in module.items() {
+            let tree = &mut self.0;
+            match item {
+                Item::TypeAlias(alias) => {
+                    tree.check_alias_free(alias.name())?;
+                    let ty = tree.resolve(alias.ty())?;
+                    tree.insert_alias(alias.name().clone(), ty, alias.visibility().clone());
+                }
+                Item::Function(function) => {
+                    let mark = function.span().start;
+                    let name = function.name().clone();
+                    let visibility = function.visibility().clone();
+                    tree.insert_function(name, visibility, CustomFunction { mark })?;
+                }
+                Item::Use(use_decl) => tree.resolve_use(use_decl)?,
+                Item::EnumDeclaration(decl) => {
+                    let variants = Arc::new([]);
+                    tree.insert_enum(decl.name().clone(), decl.visibility().clone(), variants)?;
+                }
+                Item::Module(module) => self.walk_module(module)?,
+                Item::Ignored => {}
+            }
+        }
+        self.0.exit();
+        Ok(())
     }
 }
