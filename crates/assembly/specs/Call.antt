@@ -1,19 +1,21 @@
 -- The operation: bytes, a lent report buffer and a lent image buffer, and what is answered. Assumes nothing.
--- the report of steps 3 to 5: one record per fault, or one for the ring alone; none of a program
-use Prim.Native.Nat.{ℕ}
+use Prim.Native.Nat.{ℕ, _<_, _≤_}
+use mathlib.Core.Path.{_≡_}
 use mathlib.Core.List.{List, [], _∷_, map}
-use lib.ListN.{length}
+use lib.ListN.{length, take, drop}
+use Rattle.bundle.specs.Bundle.{Items}
 use Rattle.bundle.specs.Read.{Reading, value, refused, read}
 use Rattle.order.specs.Report.{Record, fault, ring, lentReport, reporting}
 use Rattle.order.specs.Call.{padded, cleared, unitFiles}
 use Rattle.order.specs.declared.Reported.{Reported}
 use Rattle.order.specs.declared.Reported.the-variants as reported
 use Rattle.assembly.specs.Assemble.{Outcome, faulty, closed, program, linearizeAndAssemble}
-use Rattle.assembly.specs.Image.{imaging, lentImage}
+use Rattle.assembly.specs.Image.{small-buffer, long-image, image-limit, imageBytes, itemsLength, imageLength, imaging, lentImage}
 use Rattle.assembly.specs.declared.Imaged.{Imaged}
 use Rattle.assembly.specs.declared.Imaged.the-variants as imaged
 use Rattle.assembly.specs.declared.Answer.{Answer}
 
+-- the report of steps 3 to 5: one record per fault, or one for the ring alone; none of a program
 abbrev pub recordsOf : Outcome → List Record
 recordsOf (faulty l) = map fault l
 recordsOf (closed r) = ring r ∷ []
@@ -71,3 +73,14 @@ assembleReport s report = reportTo (read s) report
 
 unfoldable pub assembleImage : List ℕ → List ℕ → List ℕ
 assembleImage s image = imageTo (read s) image
+
+-- AN IMAGE WAS WRITTEN: its length n; its bytes stand at the start of the buffer, the rest is as it was
+pub record ImageWritten (p : Items) (img final : List ℕ) (n : ℕ) : Type 0 where
+  pub length-is : n ≡ imageLength p
+  pub bytes : take n final ≡ imageBytes p
+  pub rest : drop n final ≡ drop n img
+
+-- why there is no image of a program, for a buffer of m bytes: 15, and otherwise 14
+pub data NoImage (p : Items) (m : ℕ) : ℕ → Type 0 where
+  too-long : image-limit < itemsLength p → NoImage p m long-image
+  too-small : itemsLength p ≤ image-limit → m < imageLength p → NoImage p m small-buffer

@@ -1,94 +1,115 @@
 -- ANY BYTES AND ANY BUFFERS are answered in one of six ways, and what each of them means. Assumes nothing.
-use Prim.Native.Nat.{ℕ, _≤_, _<_}
+use Prim.Native.Nat.{ℕ, _<_}
 use mathlib.Core.Bool.{Bool, true, false}
-use mathlib.Core.Path.{_≡_, refl, ap, _∙_}
-use mathlib.Core.List.{List, _++_}
+use mathlib.Core.Path.{_≡_, refl, sym, ap, subst, _∙_}
+use mathlib.Core.List.{List, [], _∷_, map}
 use lib.Dec.{leb}
-use lib.ListN.{length, drop}
+use lib.ListN.{length}
 use borrow.Author.Tests.{leb-true, leb-false}
 use Rattle.bundle.specs.Bundle.{Items, Bundle}
 use Rattle.bundle.specs.Stand.{Bytes}
 use Rattle.bundle.specs.Read.{Reading, value, refused, read}
-use Rattle.order.specs.Call.{padded, unitFiles}
-use Rattle.order.specs.Report.{ring, small-buffer, reportBytes, reportLength, reporting, lentReport, nothing-lent}
+use Rattle.discovery.specs.Discovery.{Fault}
+use Rattle.order.specs.Files.{LinkedFiles}
+use Rattle.order.specs.Theorems.{RingMet, first-half-read}
+use Rattle.order.specs.Call.{padded, unitFiles, pathsOfIds, Wrote}
+use Rattle.order.specs.Report.{Record, fault, ring, small-buffer, reportLength, reporting, lentReport, nothing-lent}
+use Rattle.order.specs.Demand.{ReportEnds, too-small, whole, report-ends, wrote, fault-some, ring-some, files-linked}
+use Rattle.order.specs.declared.Reported.{Reported}
+use Rattle.order.specs.declared.Reported.the-variants as reported
 use Rattle.assembly.specs.Assemble.{Outcome, faulty, closed, program, assembled, linearizeAndAssemble}
-use Rattle.assembly.specs.Call.{recordsOf, telling, refusing, reportedTo, imagedTo, answering, imageAfter, assembleAnswer, assembleReport, assembleImage}
-use Rattle.assembly.specs.Image.{image-limit, long-image, imageBytes, itemsLength, imageLength, imaging, lentImage}
-use Rattle.assembly.specs.Theorems.{Assembled, assembly-read, Program, program-only}
+use Rattle.assembly.specs.Call.{recordsOf, refusing, reportedTo, imagedTo, answering, imageAfter, answerTo, reportTo, imageTo, assembleAnswer, assembleReport, assembleImage, ImageWritten, NoImage}
+use Rattle.assembly.specs.Call as call
+use Rattle.assembly.specs.Image.{image-limit, itemsLength, imageLength, imaging, lentImage}
+use Rattle.assembly.specs.Image as image
+use Rattle.assembly.specs.Theorems.{Assembled, assembly-read, Program, program-only, FaultsMet, faults-only, ring-only}
 use Rattle.assembly.specs.declared.Answer.{Answer}
+use Rattle.assembly.specs.declared.Imaged.{Imaged}
+use Rattle.assembly.specs.declared.Imaged.the-variants as imaged
 
-module _ (s report image : List ℕ) where
-  -- the answer, and what the buffers hold afterwards
-  abbrev pub Answered : Answer → List ℕ → List ℕ → Type 0
-  Answered a r i = (assembleAnswer s report image ≡ a) × ((assembleReport s report ≡ r) × (assembleImage s image ≡ i))
+-- a program: the linked order that step 5 found nothing to tell of, with all that is proved of it
+pub record WholeProgram (b : Bundle) (o : List ℕ) (p : Items) : Type 0 where
+  pub of-program : Program b o p
+  pub right : Assembled b o
 
-  -- a program: the linked order that step 5 found nothing to tell of, with all that is proved of it
-  pub record Linked (b : Bundle) (o : List ℕ) : Type 0 where
-    pub is : read s ≡ value b
-    pub of-program : Program b o (assembled b o)
-    pub right : Assembled b o
+pub data AssembleTold (s rep img rep₁ img₁ : List ℕ) (a : Answer) : Type 0 where
+  -- 1 to 13: number and place, and no byte is changed
+  turned-back : (n p : ℕ) → read s ≡ refused n p → a ≡ refusing n p → rep₁ ≡ rep → img₁ ≡ img → AssembleTold s rep img rep₁ img₁ a
+  -- 14 only where the report exceeds its buffer, and no byte is changed
+  small-report : (b : Bundle) → read s ≡ value b → length rep < reportLength (recordsOf (linearizeAndAssemble b)) → a ≡ refusing small-buffer 0 → rep₁ ≡ rep → img₁ ≡ img
+      → AssembleTold s rep img rep₁ img₁ a
+  -- the faults of discovery or of step 5, one record each
+  faults : (b : Bundle) (l : List Fault) → read s ≡ value b → FaultsMet b l → Wrote (map fault l) rep rep₁ (a .number) (a .report) → img₁ ≡ img → AssembleTold s rep img rep₁ img₁ a
+  -- 26: two or more different reached files import each other, and the ring is named
+  ring-met : (b : Bundle) (r : List ℕ) → read s ≡ value b → RingMet b r → Wrote (ring r ∷ []) rep rep₁ (a .number) (a .report) → img₁ ≡ img → AssembleTold s rep img rep₁ img₁ a
+  -- 15, and 14 only where the image exceeds its buffer: no byte is changed
+  no-image : (b : Bundle) (o : List ℕ) (p : Items) (n : ℕ) → read s ≡ value b → WholeProgram b o p → NoImage p (length img) n → a ≡ refusing n 0 → rep₁ ≡ rep → img₁ ≡ img
+      → AssembleTold s rep img rep₁ img₁ a
+  -- the units, whose paths are exactly the reached files, each once, each after every other that it imports; and the image
+  images : (b : Bundle) (o : List ℕ) (p : Items) → read s ≡ value b → WholeProgram b o p → LinkedFiles b (pathsOfIds b (a .files) (a .ids) (a .units))
+      → a ≡ imagedTo (length (unitFiles b)) (padded (unitFiles b)) (padded o) (imaged.Image (imageLength p)) → ImageWritten p img img₁ (a .image) → rep₁ ≡ rep
+      → AssembleTold s rep img rep₁ img₁ a
 
-  pub data Told : Type 0 where
-    -- 1 to 13: no byte is changed
-    turned-back : (n p : ℕ) → read s ≡ refused n p → Answered (refusing n p) report image → Told
-    -- discovery's faults, a ring, or step 5's faults: the report and nothing else
-    reported : (b : Bundle) (x : Outcome) → read s ≡ value b → linearizeAndAssemble b ≡ x → reportLength (recordsOf x) ≤ length report
-        → Answered (telling 0 0 (reportLength (recordsOf x))) (reportBytes (recordsOf x) ++ drop (reportLength (recordsOf x)) report) image → Told
-    -- 14: the report exceeds its buffer
-    small-report : (b : Bundle) (x : Outcome) → read s ≡ value b → linearizeAndAssemble b ≡ x → length report < reportLength (recordsOf x) → Answered (refusing small-buffer 0) report image → Told
-    -- the units, their order, and the image
-    imaged : (b : Bundle) (o : List ℕ) → Linked b o → itemsLength (assembled b o) ≤ image-limit → imageLength (assembled b o) ≤ length image
-        → Answered (record { number = 0; place = 0; report = 0; units = length (unitFiles b); files = padded (unitFiles b); ids = padded o; image = imageLength (assembled b o) })
-        report (imageBytes (assembled b o) ++ drop (imageLength (assembled b o)) image) → Told
-    -- 15, and 14 of the image: no byte is changed
-    long : (b : Bundle) (o : List ℕ) → Linked b o → image-limit < itemsLength (assembled b o) → Answered (refusing long-image 0) report image → Told
-    small-image : (b : Bundle) (o : List ℕ) → Linked b o → itemsLength (assembled b o) ≤ image-limit → length image < imageLength (assembled b o)
-        → Answered (refusing small-buffer 0) report image → Told
+-- an image is refused or is written whole
+pub data ImageEnds (p : Items) (img : List ℕ) : Type 0 where
+  none : (n : ℕ) → NoImage p (length img) n → image.Exceeds p img n → ImageEnds p img
+  some : image.Fits p img → ImageEnds p img
 
-  -- of bytes that were read
-  answered-read : (b : Bundle) → read s ≡ value b → (x : Outcome) → linearizeAndAssemble b ≡ x
-      → Answered (answering (unitFiles b) (length report) (length image) x) (lentReport (recordsOf x) report) (imageAfter x image)
+pub image-ends : (p : Items) (img : List ℕ) → ImageEnds p img
+image-ends p img = go (leb (itemsLength p) image-limit) refl (leb (imageLength p) (length img)) refl
+  where
+    go : (c : Bool) → leb (itemsLength p) image-limit ≡ c → (d : Bool) → leb (imageLength p) (length img) ≡ d → ImageEnds p img
+    go false h d i = let l = leb-false (itemsLength p) image-limit h in none _ (call.too-long l) (image.long p img l)
+    go true h false i =
+        let l = leb-true (itemsLength p) image-limit h in
+        let m = leb-false (imageLength p) (length img) i in
+        none _ (call.too-small l m) (image.small p img l m)
+    go true h true i = some (image.fits p img (leb-true (itemsLength p) image-limit h) (leb-true (imageLength p) (length img) i))
+
+pub image-written : {p : Items} {img : List ℕ} → image.Fits p img → ImageWritten p img (lentImage p img) (imageLength p)
+image-written f = record { length-is = refl; bytes = f .written; rest = f .rest }
+
+-- THE THEOREM
+module _ (s : List ℕ) (B : Bytes s) (rep img : List ℕ) where
+  module _ (b : Bundle) (v : read s ≡ value b) where
+    report-told : (rs : List Record) → recordsOf (linearizeAndAssemble b) ≡ rs
+        → (Wrote rs rep (lentReport rs rep) 0 (reportLength rs) → AssembleTold s rep img (lentReport rs rep) img (reportedTo (reported.Report (reportLength rs))))
+        → 0 < reportLength rs → AssembleTold s rep img (lentReport rs rep) img (reportedTo (reporting rs (length rep)))
+    report-told rs e told more = go (report-ends rs rep)
+      where
+        go : ReportEnds rs rep → AssembleTold s rep img (lentReport rs rep) img (reportedTo (reporting rs (length rep)))
+        go (too-small l x) = small-report b v (subst (λ (y : List Record). length rep < reportLength y) (sym e) l) (ap reportedTo (x .answered)) (x .untouched) refl
+        go (whole f) = subst (λ (y : Reported). AssembleTold s rep img (lentReport rs rep) img (reportedTo y)) (sym (f .answered)) (told (wrote f more))
+
+    abbrev withImage : List ℕ → Imaged → Answer
+    withImage o y = imagedTo (length (unitFiles b)) (padded (unitFiles b)) (padded o) y
+
+    image-told : (o : List ℕ) (p : Items) → linearizeAndAssemble b ≡ program o p → ImageEnds p img → AssembleTold s rep img (lentReport [] rep) (lentImage p img) (withImage o (imaging p (length img)))
+    image-told o p e x = go x
+      where
+        q : Program b o p
+        q = program-only b o p e
+
+        w : WholeProgram b o p
+        w = record { of-program = q; right = assembly-read s B b v o (q .order) }
+
+        go : ImageEnds p img → AssembleTold s rep img (lentReport [] rep) (lentImage p img) (withImage o (imaging p (length img)))
+        go (none n y f) = no-image b o p n v w y (ap (withImage o) (f .answered)) (nothing-lent rep) (f .untouched)
+        go (some f) =
+            let h = first-half-read s b v in
+            subst (λ (y : Imaged). AssembleTold s rep img (lentReport [] rep) (lentImage p img) (withImage o y)) (sym (f .answered))
+            (images b o p v w (files-linked b o (h .ids o (q .order)) (h .order o (q .order))) refl (image-written f) (nothing-lent rep))
+
+    by-outcome : (x : Outcome) → linearizeAndAssemble b ≡ x → AssembleTold s rep img (lentReport (recordsOf x) rep) (imageAfter x img) (answering (unitFiles b) (length rep) (length img) x)
+    by-outcome (faulty []) e = absurd (faults-only s b v [] e .some refl)
+    by-outcome (faulty (f ∷ fs)) e = report-told (map fault (f ∷ fs)) (ap recordsOf e) (λ w. faults b (f ∷ fs) v (faults-only s b v (f ∷ fs) e) w refl) (fault-some f fs)
+    by-outcome (closed r) e = report-told (ring r ∷ []) (ap recordsOf e) (λ w. ring-met b r v (ring-only s b v r e) w refl) (ring-some r)
+    by-outcome (program o p) e = image-told o p e (image-ends p img)
+
+  by-reading : (x : Reading) → read s ≡ x → AssembleTold s rep img (reportTo x rep) (imageTo x img) (answerTo x (length rep) (length img))
+  by-reading (refused n p) e = turned-back n p e refl refl refl
+  by-reading (value b) e = by-outcome b e (linearizeAndAssemble b) refl
+
+  pub told : AssembleTold s rep img (assembleReport s rep) (assembleImage s img) (assembleAnswer s rep img)
   unfolding assembleAnswer assembleReport assembleImage
-  answered-read b h x e = rw (h, e) (refl, (refl, refl))
-
-  -- a report
-  module _ (b : Bundle) (h : read s ≡ value b) (x : Outcome) (e : linearizeAndAssemble b ≡ x)
-      (a : Answered (reportedTo (reporting (recordsOf x) (length report))) (lentReport (recordsOf x) report) image) where
-    by-room : (t : Bool) → leb (reportLength (recordsOf x)) (length report) ≡ t → Told
-    unfolding reporting lentReport
-    by-room true r = reported b x h e (leb-true (reportLength (recordsOf x)) (length report) r) (rw r at a)
-    by-room false r = small-report b x h e (leb-false (reportLength (recordsOf x)) (length report) r) (rw r at a)
-
-    told-report : Told
-    told-report = by-room (leb (reportLength (recordsOf x)) (length report)) refl
-
-  -- an image
-  module _ (b : Bundle) (o : List ℕ) (l : Linked b o)
-      (a : Answered (imagedTo (length (unitFiles b)) (padded (unitFiles b)) (padded o) (imaging (assembled b o) (length image))) report (lentImage (assembled b o) image)) where
-    by-length : (t u : Bool) → leb (itemsLength (assembled b o)) image-limit ≡ t → leb (imageLength (assembled b o)) (length image) ≡ u → Told
-    unfolding imaging lentImage
-    by-length true true p q = imaged b o l (leb-true _ _ p) (leb-true _ _ q) (rw (p, q) at a)
-    by-length true false p q = small-image b o l (leb-true _ _ p) (leb-false _ _ q) (rw (p, q) at a)
-    by-length false u p q = long b o l (leb-false _ _ p) (rw p at a)
-
-    told-image : Told
-    told-image = by-length (leb (itemsLength (assembled b o)) image-limit) (leb (imageLength (assembled b o)) (length image)) refl refl
-
-  module _ (B : Bytes s) where
-    by-outcome : (b : Bundle) → read s ≡ value b → (x : Outcome) → linearizeAndAssemble b ≡ x → Told
-    by-outcome b h (faulty l) e = told-report b h (faulty l) e (answered-read b h (faulty l) e)
-    by-outcome b h (closed r) e = told-report b h (closed r) e (answered-read b h (closed r) e)
-    by-outcome b h (program o p) e =
-        let q = program-only b o p e in
-        let l : Linked b o = record { is = h; of-program = record { order = q .order; is = refl; faultless = q .faultless }; right = assembly-read s B b h o (q .order) } in
-        let a = answered-read b h (program o p) e in
-        told-image b o l
-        (a .0 ∙ ap (λ (i : Items). imagedTo (length (unitFiles b)) (padded (unitFiles b)) (padded o) (imaging i (length image))) (q .is), (a .1 .0 ∙ nothing-lent report, a .1 .1 ∙ ap (λ (i : Items). lentImage i image) (q .is)))
-
-    by-reading : (x : Reading) → read s ≡ x → Told
-    unfolding assembleAnswer assembleReport assembleImage
-    by-reading (value b) h = by-outcome b h (linearizeAndAssemble b) refl
-    by-reading (refused n p) h = turned-back n p h (rw h (refl, (refl, refl)))
-
-    pub told : Told
-    told = by-reading (read s) refl
+  told = by-reading (read s) refl

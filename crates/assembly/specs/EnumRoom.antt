@@ -24,7 +24,7 @@ use Rattle.order.specs.Theorems.{first-half}
 use Rattle.order.specs.Writing.{started}
 use Rattle.assembly.specs.Assemble.{enum-kind, itemsOf, enumDeclarations, foreignEnum, hasMain, noMain, assemblyFaults}
 use Rattle.assembly.specs.Faults.{zero-last, once-last, enumsOf, mainFault, faults-are}
-use Rattle.assembly.specs.Linked.{Linked, OneUnit, one-unit}
+use Rattle.assembly.specs.Given.{OrderGiven, OneUnit, one-unit}
 
 -- an enum is an item
 enums-few : (x : Items) → length (enumDeclarations x) ≤ itemCount x
@@ -61,7 +61,7 @@ enums-append b (u ∷ l) k =
     omega (arith, length-append (enumDeclarations (itemsOf b u)) (enumsOf b (l ++ k)), length-append (enumDeclarations (itemsOf b u)) (enumsOf b l))
 
 -- THE FAULTS OF A LINKED ORDER
-module _ (s : List ℕ) (B : Bytes s) (files ids : List ℕ) (units : ℕ) (x : Linked s files ids units) where
+module _ (s : List ℕ) (B : Bytes s) (files ids : List ℕ) (units : ℕ) (x : OrderGiven s files ids units) where
   abbrev b : Bundle
   b = decode s
 

@@ -1,12 +1,11 @@
 -- From the answer of steps 3 and 4 to that of the operation. Assumes nothing.
--- what is due of an answer and of both buffers
 use Prim.Native.Nat.{ℕ, zero, suc, _≤_, _<_}
 use native.Mathlib.Omega.{arith}
 use mathlib.Core.Path.{_≡_, refl, sym, ap, subst, _∙_}
 use mathlib.Core.List.{List, [], _∷_, map}
 use lib.ListN.{length, take, drop, length-append, length-map, replicate}
 use lib.Seq.{take-at}
-use Rattle.bundle.specs.Bundle.{Text, Bundle}
+use Rattle.bundle.specs.Bundle.{Bundle}
 use Rattle.bundle.specs.Limits.{file-limit}
 use Rattle.bundle.specs.Decode.{decode}
 use Rattle.bundle.specs.Read.{verdict}
@@ -16,17 +15,15 @@ use Rattle.bundle.specs.declared.Checked.the-variants.{Ok, Refused}
 use Rattle.resolution.specs.Call.{position}
 use Rattle.discovery.specs.Discovery.{Fault, pathsOf}
 use Rattle.discovery.specs.Meaning.{faultsIn}
-use Rattle.discovery.specs.Facts.{pigeons, pathsAt}
-use Rattle.discovery.specs.Right.{discovered}
 use Rattle.discovery.specs.Room.{checked-roomy}
-use Rattle.order.specs.Run.{linked, ordered, unitsOf, filesOf}
+use Rattle.order.specs.Run.{linked, ordered, unitsOf}
 use Rattle.order.specs.Run as order
 use Rattle.order.specs.Call.{padded, unitFiles, orderAnswer, orderReport}
 use Rattle.order.specs.Call as call
 use Rattle.order.specs.Report.{Record, fault, lentReport, reporting, nothing-lent}
 use Rattle.order.specs.Report as report
 use Rattle.order.specs.Writing.{faultRecords}
-use Rattle.order.specs.Theorems.{first-half}
+use Rattle.order.specs.Theorems.{first-half, order-count}
 use Rattle.order.specs.declared.Answer as ordering
 use Rattle.order.specs.declared.Reported.{Reported}
 use Rattle.order.specs.declared.Reported.the-variants as reported
@@ -34,35 +31,21 @@ use Rattle.assembly.specs.Assemble.{Outcome, faulty, closed, program, as
 use Rattle.assembly.specs.Image.{imaging, lentImage}
 use Rattle.assembly.specs.Call.{recordsOf, telling, reportedTo, imagedTo, answering, imageAfter, assembleAnswer, assembleReport, assembleImage}
 use Rattle.assembly.specs.Faults.{zero-last}
-use Rattle.assembly.specs.Linked.{LinkedFiles}
+use Rattle.assembly.specs.Given.{OrderedFilesGiven}
 use Rattle.assembly.specs.declared.Answer.{Answer}
 use Rattle.assembly.specs.declared.Imaged.{Imaged}
 
+-- what is due of an answer and of both buffers
 abbrev pub Due : (s report₀ image₀ report₁ image₁ : List ℕ) → Answer → Type 0
 Due s report₀ image₀ report₁ image₁ a =
     (a ≡ assembleAnswer s report₀ image₀) × ((report₁ ≡ assembleReport s report₀) × (image₁ ≡ assembleImage s image₀))
 
--- AS MANY IDS AS UNITS
-paths-length : (l : List Text) (ids : List ℕ) → length (pathsAt l ids) ≡ length ids
-unfolding pathsAt
-paths-length l [] = refl
-paths-length l (u ∷ ids) = ap suc (paths-length l ids)
-
-module _ (b : Bundle) (some : 0 < length (b .files)) (o : List ℕ) (e : ordered b ≡ linked o) where
-  order-count : length o ≡ length (unitsOf b)
-  order-count =
-      let h = first-half b some .order o e in
-      let d = discovered b in
-      let x = pigeons (h .once) (unitsOf b) (λ f m. d .complete f (h .sound f m)) in
-      let y = pigeons (d .once) (filesOf b o) (λ f m. h .complete f (d .sound f m)) in
-      let z = paths-length (unitsOf b) o in
-      omega arith
-
-  some-unit : 0 < length (unitsOf b)
-  some-unit =
-      let z = zero-last b o e in
-      let c = order-count in
-      omega (arith, ap length (z .is), length-append (z .before) (0 ∷ []))
+-- A LINKED ORDER HAS A UNIT
+pub some-unit : (b : Bundle) → 0 < length (b .files) → (o : List ℕ) → ordered b ≡ linked o → 0 < length (unitsOf b)
+some-unit b some o e =
+    let z = zero-last b o e in
+    let c = order-count b o (first-half b some .order o e) in
+    omega (arith, ap length (z .is), length-append (z .before) (0 ∷ []))
 
 padded-take : (l : List ℕ) (n : ℕ) → length l ≡ n → take n (padded l) ≡ l
 padded-take l n h = take-at l (drop (length l) (replicate file-limit 0)) n h
@@ -70,7 +53,7 @@ padded-take l n h = take-at l (drop (length l) (replicate file-limit 0)) n h
 padded-long : (l : List ℕ) → length l ≤ length (padded l)
 padded-long l = omega (arith, length-append l (drop (length l) (replicate file-limit 0)))
 
-faults-counted : (i : ℕ) (ns ps : List ℕ) → i ≤ length ns → i ≤ length ps → length (faultsIn (take i ns) (take i ps)) ≡ i
+pub faults-counted : (i : ℕ) (ns ps : List ℕ) → i ≤ length ns → i ≤ length ps → length (faultsIn (take i ns) (take i ps)) ≡ i
 unfolding faultsIn
 faults-counted zero ns ps h k = refl
 faults-counted (suc i) [] ps h k = absurd (omega arith)
@@ -83,7 +66,7 @@ module _ (s out img : List ℕ) where
   b = decode s
 
   module _ (n p : ℕ) (v : verdict s ≡ Refused n p) where
-    order-refused : (orderAnswer s out ≡ call.refusing n p) × (orderReport s out ≡ out)
+    pub order-refused : (orderAnswer s out ≡ call.refusing n p) × (orderReport s out ≡ out)
     unfolding orderAnswer orderReport
     order-refused = let r = told s n p v in rw r (refl, refl)
 
@@ -92,7 +75,7 @@ module _ (s out img : List ℕ) where
     assemble-refused = let r = told s n p v in rw r (refl, (refl, refl))
 
   module _ (v : verdict s ≡ Ok) where
-    order-read : (orderAnswer s out ≡ call.answering (unitFiles b) (length out) (ordered b)) × (orderReport s out ≡ lentReport (report.recordsOf (ordered b)) out)
+    pub order-read : (orderAnswer s out ≡ call.answering (unitFiles b) (length out) (ordered b)) × (orderReport s out ≡ lentReport (report.recordsOf (ordered b)) out)
     unfolding orderAnswer orderReport
     order-read = let r = accepted s v in rw r (refl, refl)
 
@@ -153,25 +136,25 @@ module _ (s out img : List ℕ) where
           absurd (omega arith)
 
       -- WHERE THERE ARE, they are linked
-      linked-read : (x : order.Outcome) → ordered b ≡ x → (a .units ≡ 0 → ⊥) → LinkedFiles s (a .files) (a .ids) (a .units) × (rep ≡ out)
+      linked-read : (x : order.Outcome) → ordered b ≡ x → (a .units ≡ 0 → ⊥) → OrderedFilesGiven s (a .files) (a .ids) (a .units) × (rep ≡ out)
       linked-read (order.faulty l) e h =
           absurd (h (ap (λ (z : ordering.Answer). z .units) (is ∙ (order-read v .0 ∙ ap (call.answering (unitFiles b) (length out)) e)) ∙ report-units (reporting (map fault l) (length out))))
       linked-read (order.closed r) e h =
           absurd (h (ap (λ (z : ordering.Answer). z .units) (is ∙ (order-read v .0 ∙ ap (call.answering (unitFiles b) (length out)) e)) ∙ report-units (reporting (report.ring r ∷ []) (length out))))
       linked-read (order.linked o) e h =
           let q : a ≡ call.linking (unitFiles b) (padded o) = is ∙ (order-read v .0 ∙ ap (call.answering (unitFiles b) (length out)) e) in
-          let c = order-count b (checked-roomy s v .some) o e in
+          let c = order-count b o (first-half b (checked-roomy s v .some) .order o e) in
           let l = length-map (unitsOf b) (λ p. position p (pathsOf b)) in
           let f = padded-take (unitFiles b) (length (unitFiles b)) refl in
           let g = padded-take o (length (unitFiles b)) (omega arith) in
           let k = padded-long (unitFiles b) in
           let m = padded-long o in
-          let t : LinkedFiles s (call.linking (unitFiles b) (padded o) .files) (call.linking (unitFiles b) (padded o) .ids) (call.linking (unitFiles b) (padded o) .units) = record {
+          let t : OrderedFilesGiven s (call.linking (unitFiles b) (padded o) .files) (call.linking (unitFiles b) (padded o) .ids) (call.linking (unitFiles b) (padded o) .units) = record {
             of-units = record { checked = v; files-are = f; fits = k };
             order = e ∙ ap linked (sym g);
             ids-fit = omega arith;
           } in
-          (subst (λ (z : ordering.Answer). LinkedFiles s (z .files) (z .ids) (z .units)) (sym q) t, lent ∙ (order-read v .1 ∙ (ap (λ (z : order.Outcome). lentReport (report.recordsOf z) out) e ∙ nothing-lent out)))
+          (subst (λ (z : ordering.Answer). OrderedFilesGiven s (z .files) (z .ids) (z .units)) (sym q) t, lent ∙ (order-read v .1 ∙ (ap (λ (z : order.Outcome). lentReport (report.recordsOf z) out) e ∙ nothing-lent out)))
 
     pub no-units : a .units ≡ 0 → Due s out img rep img answer
     no-units h = go (verdict s) refl
@@ -180,15 +163,15 @@ module _ (s out img : List ℕ) where
         go (Refused n p) v = told-refused n p v
         go Ok v = told-read v (ordered b) refl h
 
-    pub units-linked : (a .units ≡ 0 → ⊥) → LinkedFiles s (a .files) (a .ids) (a .units) × (rep ≡ out)
+    pub units-linked : (a .units ≡ 0 → ⊥) → OrderedFilesGiven s (a .files) (a .ids) (a .units) × (rep ≡ out)
     units-linked h = go (verdict s) refl
       where
-        go : (c : Checked) → verdict s ≡ c → LinkedFiles s (a .files) (a .ids) (a .units) × (rep ≡ out)
+        go : (c : Checked) → verdict s ≡ c → OrderedFilesGiven s (a .files) (a .ids) (a .units) × (rep ≡ out)
         go (Refused n p) v = absurd (h (ap (λ (z : ordering.Answer). z .units) (is ∙ order-refused n p v .0)))
         go Ok v = linked-read v (ordered b) refl h
 
     -- STEP 5 of linked units
-    module _ (x : LinkedFiles s (a .files) (a .ids) (a .units)) where
+    module _ (x : OrderedFilesGiven s (a .files) (a .ids) (a .units)) where
       abbrev o : List ℕ
       o = take (a .units) (a .ids)
 

@@ -1,5 +1,9 @@
+-- DEFINITIONS: what contracts and theorems speak of
 pub mod Assemble
 pub mod Image
+pub mod Call
+pub mod Given
+-- THEOREMS to cite
 pub mod Rewritten
 pub mod Meaning
 pub mod Faults
@@ -7,17 +11,16 @@ pub mod Paths
 pub mod Theorems
 pub mod ImageForm
 pub mod Unique
+pub mod Demand
 pub mod Cases
-pub mod Call
+-- LAWS for code and proofs
 pub mod Parts
 pub mod Strings
 pub mod Targets
 pub mod Walk
 pub mod Uses
 pub mod Written
-pub mod Linked
 pub mod EnumRoom
+pub mod UseRoom
 pub mod WholeImage
 pub mod Join
-pub mod Demand
-pub mod UseRoom

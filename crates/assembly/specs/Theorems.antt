@@ -29,9 +29,9 @@ use Rattle.discovery.specs.Clean.{ToUnit, no-fault}
 use Rattle.graph.specs.Order as graph
 use Rattle.order.specs.Run.{linked, ordered, unitsOf, filesOf}
 use Rattle.order.specs.Run as order
-use Rattle.order.specs.Files.{LinkedFiles}
+use Rattle.order.specs.Files.{LinkedFiles, ImportEachOther}
 use Rattle.order.specs.Units.{paths-append}
-use Rattle.order.specs.Theorems.{LinkedIds, FirstHalf, first-half}
+use Rattle.order.specs.Theorems.{faultsOf, LinkedIds, FirstHalf, first-half, first-half-read, RingMet, ring-met-only, ring-met-always, faults-always as order-faults}
 use Rattle.assembly.specs.Assemble.{rewriteUse, fileOf, itemsOf, localItems, assembled, enumDeclarations, foreignEnum, hasMain, noMain, assemblyFaults, Outcome, faulty, closed, program, step5, assembleAfter, linearizeAndAssemble}
 use Rattle.assembly.specs.Rewritten.{heads, kept, heads-kept, rewritten, uses-rewritten}
 use Rattle.assembly.specs.Faults.{zero-last, once-last, enumsOf, mainFault, faults-are, EnumIn, enum-found, main-there, no-main-only, no-main-always, enum-only, enum-always}
@@ -298,6 +298,66 @@ faults-first b l e = rw e
 pub ring-first : (b : Bundle) (r : List ℕ) → ordered b ≡ order.closed r → linearizeAndAssemble b ≡ closed r
 unfolding linearizeAndAssemble
 ring-first b r e = rw e
+
+-- FAULTS AND RINGS
+-- faults that are told: discovery's or, of a linked order, those of step 5; one at least
+pub data FaultsFrom (b : Bundle) (l : List Fault) : Type 0 where
+  of-discovery : l ≡ faultsOf b → FaultsFrom b l
+  of-step5 : (o : List ℕ) → ordered b ≡ linked o → l ≡ assemblyFaults b o → FaultsFrom b l
+
+pub record FaultsMet (b : Bundle) (l : List Fault) : Type 0 where
+  pub from : FaultsFrom b l
+  pub some : l ≡ [] → ⊥
+
+-- of the value of every bundle that is not refused
+module _ (s : List ℕ) (b : Bundle) (v : read s ≡ value b) where
+  -- faults are told only then, and always then
+  pub faults-only : (l : List Fault) → linearizeAndAssemble b ≡ faulty l → FaultsMet b l
+  unfolding linearizeAndAssemble
+  faults-only l e = go (ordered b) refl e
+    where
+      fifth : (o : List ℕ) → ordered b ≡ linked o → (fs : List Fault) → assemblyFaults b o ≡ fs → step5 fs o (assembled b o) ≡ faulty l → FaultsMet b l
+      fifth o q [] t h = absurd (no-program (sym h))
+      fifth o q (f ∷ fs) t h =
+          let z : f ∷ fs ≡ l = cc in
+          record { from = of-step5 o q (sym z ∙ sym t); some = λ n. let y : _≡_ {A = List Fault} (f ∷ fs) [] = z ∙ n in let w : _≡_ {A = ℕ} 0 1 = cc in omega arith }
+
+      go : (x : order.Outcome) → ordered b ≡ x → assembleAfter b x ≡ faulty l → FaultsMet b l
+      go (order.faulty k) q h =
+          let z : k ≡ l = cc in
+          let f = first-half-read s b v .faults k q in
+          record { from = of-discovery (sym z ∙ f .0); some = λ n. f .1 (z ∙ n) }
+      go (order.closed r) q h = let z : _≡_ {A = ℕ} 0 1 = cc in absurd (omega arith)
+      go (order.linked o) q h = fifth o q (assemblyFaults b o) refl h
+
+  pub faults-always : (l : List Fault) → FaultsMet b l → linearizeAndAssemble b ≡ faulty l
+  unfolding linearizeAndAssemble
+  faults-always l m = go (m .from)
+    where
+      fifth : (o : List ℕ) (fs : List Fault) → l ≡ fs → step5 fs o (assembled b o) ≡ faulty l
+      fifth o [] q = absurd (m .some q)
+      fifth o (f ∷ fs) q = ap faulty (sym q)
+
+      go : FaultsFrom b l → assembleAfter b (ordered b) ≡ faulty l
+      go (of-discovery q) = ap (assembleAfter b) (order-faults b (λ n. m .some (q ∙ n))) ∙ ap faulty (sym q)
+      go (of-step5 o e q) = ap (assembleAfter b) e ∙ fifth o (assemblyFaults b o) q
+
+  -- and so is a ring
+  pub ring-only : (r : List ℕ) → linearizeAndAssemble b ≡ closed r → RingMet b r
+  unfolding linearizeAndAssemble
+  ring-only r e = go (ordered b) refl e
+    where
+      fifth : (fs : List Fault) (o : List ℕ) (p : Items) → step5 fs o p ≡ closed r → ⊥
+      fifth [] o p h = let z : _≡_ {A = ℕ} 0 1 = cc in omega arith
+      fifth (f ∷ fs) o p h = let z : _≡_ {A = ℕ} 0 1 = cc in omega arith
+
+      go : (x : order.Outcome) → ordered b ≡ x → assembleAfter b x ≡ closed r → RingMet b r
+      go (order.faulty k) q h = let z : _≡_ {A = ℕ} 0 1 = cc in absurd (omega arith)
+      go (order.closed k) q h = let z : k ≡ r = cc in subst (RingMet b) z (ring-met-only s b v k q)
+      go (order.linked o) q h = absurd (fifth (assemblyFaults b o) o (assembled b o) h)
+
+  pub ring-always : faultsOf b ≡ [] → ImportEachOther b → (r : List ℕ) × ((linearizeAndAssemble b ≡ closed r) × RingMet b r)
+  ring-always c x = let q = ring-met-always s b v c x in (q .0, (ring-first b (q .0) (q .1 .0), q .1 .1))
 
 -- A LINKED BUNDLE HAS A PROGRAM exactly when unit 0 has a function `main` at its top and no other unit has an enum
 pub record Sound (b : Bundle) (o : List ℕ) : Type 0 where

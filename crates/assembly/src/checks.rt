@@ -8,7 +8,7 @@ ghost use Rattle.discovery.specs.Meaning.{faultsIn};
 ghost use Rattle.order.specs.Writing.{started};
 ghost use Rattle.assembly.specs.Assemble.{itemsOf, enumDeclarations, hasMain, assemblyFaults};
 ghost use Rattle.assembly.specs.Faults.{enumsOf};
-ghost use Rattle.assembly.specs.Linked.{OneUnit, Linked};
+ghost use Rattle.assembly.specs.Given.{OneUnit, OrderGiven};
 use crate::FAULTS;
 use crate::Faults;
 use crate::enums::enum_items;
@@ -45,7 +45,7 @@ fn all_enums<'a>(
     units: usize,
     marks: &mut [usize],
 ) -> usize
-    requires { ⌜ Linked (now s) (now files) (now ids) units × (length (enumsOf (decode (now s)) (take (units - 1) (now ids))) ≤ length (now marks)) ⌝ }
+    requires { ⌜ OrderGiven (now s) (now files) (now ids) units × (length (enumsOf (decode (now s)) (take (units - 1) (now ids))) ≤ length (now marks)) ⌝ }
     ensures { λ r. ⌜ (r ≡ length (enumsOf (decode (now (s .entry))) (take (units - 1) (now (ids .entry))))) × (now (marks .exit) ≡ started (enumsOf (decode (now (s .entry))) (take (units - 1) (now (ids .entry)))) (now (marks .entry))) ⌝ }
 {
     let mut sum = 0;
@@ -73,7 +73,7 @@ fn main_there(s: &[u8], files: &[usize], u: usize) -> bool
 // The faults of a linked order, in the order of the pushes: unit 0, which alone has a main, is linked last. Ruled out: 28 for an
 // enum of unit 0; 27 before a 28; a nested enum of another unit untold.
 pub fn assembly_faults<'a>(s: &[u8], files: &'a [usize], ids: &'a [u16], units: usize) -> Faults
-    requires { ⌜ Linked (now s) (now files) (now ids) units ⌝ }
+    requires { ⌜ OrderGiven (now s) (now files) (now ids) units ⌝ }
     ensures { λ r. ⌜ (faultsIn (take (r .count) (r .numbers)) (take (r .count) (r .places)) ≡ assemblyFaults (decode (now (s .entry))) (take units (now (ids .entry)))) × (r .count ≤ item-limit + 1) ⌝ }
 {
     let mut places = [0usize; FAULTS];

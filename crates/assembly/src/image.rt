@@ -4,7 +4,7 @@ ghost use lib.ListN.{length, take};
 ghost use Rattle.bundle.specs.Decode.{decode};
 ghost use Rattle.assembly.specs.Assemble.{assembled};
 ghost use Rattle.assembly.specs.Image.{imaging, lentImage};
-ghost use Rattle.assembly.specs.Linked.{Linked};
+ghost use Rattle.assembly.specs.Given.{OrderGiven};
 use crate::Imaged;
 use crate::bytes::put;
 use crate::bytes::put_two;
@@ -28,7 +28,7 @@ pub fn write_image<'a>(
     units: usize,
     out: &mut [u8],
 ) -> Imaged
-    requires { ⌜ Linked (now s) (now files) (now ids) units ⌝ }
+    requires { ⌜ OrderGiven (now s) (now files) (now ids) units ⌝ }
     ensures { λ r. ⌜ r ≡ imaging (assembled (decode (now (s .entry))) (take units (now (ids .entry)))) (length (now (out .entry))) ⌝ }
     ensures { λ r. ⌜ now (out .exit) ≡ lentImage (assembled (decode (now (s .entry))) (take units (now (ids .entry)))) (now (out .entry)) ⌝ }
 {

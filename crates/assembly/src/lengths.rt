@@ -6,7 +6,7 @@ ghost use Rattle.bundle.specs.Encode.{string, counted, element};
 ghost use Rattle.discovery.specs.Walk.{UseMark, Small};
 ghost use Rattle.bundle.specs.Decode.{decode};
 ghost use lib.ListN.{take};
-ghost use Rattle.assembly.specs.Linked.{Lies, Units, Linked, unitBytes, programBytes};
+ghost use Rattle.assembly.specs.Given.{Lies, UnitsGiven, OrderGiven, unitBytes, programBytes};
 ghost use Rattle.assembly.specs.Targets.{UnitOf, pathBy, Within};
 ghost use Rattle.assembly.specs.Walk.{segmentsAt, elementsAt, itemBytes, itemsBytes};
 use crate::Target;
@@ -136,7 +136,7 @@ fn items_length(
 
 // The unit u: a private module.
 fn unit_length(s: &[u8], at: Layout, files: &[usize], units: usize, u: usize) -> usize
-    requires { ⌜ (Lies (now s) at × Units (now s) (now files) units) × (u < units) ⌝ }
+    requires { ⌜ (Lies (now s) at × UnitsGiven (now s) (now files) units) × (u < units) ⌝ }
     ensures { λ r. ⌜ r ≡ min (length (unitBytes (decode (now (s .entry))) u)) 65536 ⌝ }
 {
     let index = files[u];
@@ -165,7 +165,7 @@ pub fn program_length<'a>(
     ids: &'a [u16],
     units: usize,
 ) -> usize
-    requires { ⌜ Lies (now s) at × Linked (now s) (now files) (now ids) units ⌝ }
+    requires { ⌜ Lies (now s) at × OrderGiven (now s) (now files) (now ids) units ⌝ }
     ensures { λ r. ⌜ r ≡ min (length (programBytes (decode (now (s .entry))) (take units (now (ids .entry))))) 65536 ⌝ }
 {
     let mut sum = 0;

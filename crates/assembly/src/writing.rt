@@ -11,7 +11,7 @@ ghost use Rattle.bundle.specs.Scan.{byte};
 ghost use Rattle.bundle.specs.Decode.{itemsAt, decode};
 ghost use Rattle.discovery.specs.Walk.{UseMark, Small};
 ghost use Rattle.order.specs.Writing.{started};
-ghost use Rattle.assembly.specs.Linked.{Lies, Units, Linked, unitBytes, programBytes};
+ghost use Rattle.assembly.specs.Given.{Lies, UnitsGiven, OrderGiven, unitBytes, programBytes};
 ghost use Rattle.assembly.specs.Parts.{headBytes};
 ghost use Rattle.assembly.specs.Strings.{stringBytes};
 ghost use Rattle.assembly.specs.Targets.{UnitOf, pathBy, Within};
@@ -244,7 +244,7 @@ fn write_unit(
     u: usize,
     out: &mut [u8],
 ) -> usize
-    requires { ⌜ ((Lies (now s) at × Units (now s) (now files) units) × (u < units)) × ((length (unitBytes (decode (now s)) u) ≤ length (now out)) × (length (unitBytes (decode (now s)) u) < 65536)) ⌝ }
+    requires { ⌜ ((Lies (now s) at × UnitsGiven (now s) (now files) units) × (u < units)) × ((length (unitBytes (decode (now s)) u) ≤ length (now out)) × (length (unitBytes (decode (now s)) u) < 65536)) ⌝ }
     ensures { λ r. ⌜ (r ≡ length (unitBytes (decode (now (s .entry))) u)) × (now (out .exit) ≡ started (unitBytes (decode (now (s .entry))) u) (now (out .entry))) ⌝ }
 {
     let index = files[u];
@@ -276,7 +276,7 @@ pub fn write_program<'a>(
     units: usize,
     out: &mut [u8],
 ) -> usize
-    requires { ⌜ (Lies (now s) at × Linked (now s) (now files) (now ids) units) × ((length (programBytes (decode (now s)) (take units (now ids))) ≤ length (now out)) × (length (programBytes (decode (now s)) (take units (now ids))) < 65536)) ⌝ }
+    requires { ⌜ (Lies (now s) at × OrderGiven (now s) (now files) (now ids) units) × ((length (programBytes (decode (now s)) (take units (now ids))) ≤ length (now out)) × (length (programBytes (decode (now s)) (take units (now ids))) < 65536)) ⌝ }
     ensures { λ r. ⌜ (r ≡ length (programBytes (decode (now (s .entry))) (take units (now (ids .entry))))) × (now (out .exit) ≡ started (programBytes (decode (now (s .entry))) (take units (now (ids .entry)))) (now (out .entry))) ⌝ }
 {
     let mut sum = 0;

@@ -22,7 +22,7 @@ use Rattle.resolution.specs.declared.Layout.{Layout}
 use Rattle.scopes.specs.Form.{enters, exits, resolves-use}
 use Rattle.scopes.specs.Lent.{declares}
 use Rattle.assembly.specs.Assemble.{fileOf, itemsOf}
-use Rattle.assembly.specs.Linked.{Linked, one-unit, below, items-are, path-is}
+use Rattle.assembly.specs.Given.{OrderGiven, one-unit, below, items-are, path-is}
 use Rattle.assembly.specs.Targets.{UnitOf}
 use Rattle.assembly.specs.Walk.{segmentsAt, useBytes, oneAt, kind-byte, next-is}
 use Rattle.linker.specs.Scopes.{Asked, asked, isPublic}
@@ -243,7 +243,7 @@ stack-next s marks ends zero end at next h f t = tt
 stack-next s marks ends (suc k) end at next h f t = rw (next-is s (depth-limit - k) end at next (h (omega arith)) f) t
 
 -- A STEP OUTSIDE OF A UNIT
-module _ (s files ids : List ℕ) (units : ℕ) (x : Linked s files ids units) (c : Cursor) (st : Stands s units c) (z : c .depth ≡ 0) where
+module _ (s files ids : List ℕ) (units : ℕ) (x : OrderGiven s files ids units) (c : Cursor) (st : Stands s units c) (z : c .depth ≡ 0) where
   outside : callsFrom s (take units ids) c ≡ programCalls (decode s) (drop (c .unit) (take units ids))
   unfolding callsFrom leftCalls
   outside = rw z

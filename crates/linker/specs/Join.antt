@@ -1,11 +1,11 @@
 -- From the answers of the layers to that of the operation. Assumes nothing.
-use Prim.Native.Nat.{ℕ, zero, suc, _≤_, _<_}
+use Prim.Native.Nat.{ℕ, _≤_, _<_}
 use native.Mathlib.Omega.{arith}
 use mathlib.Core.Path.{_≡_, refl, sym, ap, subst, _∙_}
 use mathlib.Core.List.{List, [], _∷_, map}
-use lib.ListN.{length, take, length-append, length-map}
+use lib.ListN.{length, take, length-map}
 use borrow.Author.Tests.{eq-eqb, ne-eqb}
-use Rattle.bundle.specs.Bundle.{Text, Bundle}
+use Rattle.bundle.specs.Bundle.{Bundle}
 use Rattle.bundle.specs.Decode.{decode}
 use Rattle.bundle.specs.Read.{verdict}
 use Rattle.bundle.specs.Theorems.{accepted, told}
@@ -14,8 +14,6 @@ use Rattle.bundle.specs.declared.Checked.the-variants.{Ok, Refused}
 use Rattle.resolution.specs.Call.{position}
 use Rattle.discovery.specs.Discovery.{Fault, pathsOf}
 use Rattle.discovery.specs.Meaning.{faultsIn}
-use Rattle.discovery.specs.Facts.{pigeons, pathsAt}
-use Rattle.discovery.specs.Right.{discovered}
 use Rattle.discovery.specs.Room.{checked-roomy}
 use Rattle.order.specs.Run.{ordered, unitsOf}
 use Rattle.order.specs.Run as order
@@ -24,7 +22,6 @@ use Rattle.order.specs.Call as call
 use Rattle.order.specs.Report.{Record, fault, ring, lentReport, reporting, nothing-lent}
 use Rattle.order.specs.Report as report
 use Rattle.order.specs.Writing.{faultRecords}
-use Rattle.order.specs.Theorems.{first-half}
 use Rattle.order.specs.declared.Answer as ordering
 use Rattle.order.specs.declared.Reported.{Reported}
 use Rattle.order.specs.declared.Reported.the-variants as reported
@@ -33,8 +30,8 @@ use Rattle.scopes.specs.declared.Tree.{Tree}
 use Rattle.assembly.specs.Assemble.{assembled, assemblyFaults, step5, assembleAfter, linearizeAndAssemble}
 use Rattle.assembly.specs.Image.{imaging, lentImage}
 use Rattle.assembly.specs.Call.{telling, reportedTo, imagedTo}
-use Rattle.assembly.specs.Faults.{zero-last}
-use Rattle.assembly.specs.Linked as units
+use Rattle.assembly.specs.Join.{some-unit, faults-counted, order-refused, order-read}
+use Rattle.assembly.specs.Given as units
 use Rattle.assembly.specs.declared.Answer.{Answer}
 use Rattle.assembly.specs.declared.Imaged.{Imaged}
 use Rattle.assembly.specs.declared.Imaged.the-variants as imaged
@@ -55,28 +52,6 @@ abbrev pub Due : (s report₀ image₀ : List ℕ) → Tree → (report₁ image
 Due s report₀ image₀ t report₁ image₁ x =
     (x .answer ≡ linkAnswer s report₀ image₀) × ((report₁ ≡ linkReport s report₀) × ((image₁ ≡ linkImage s image₀) × LinkTree s image₀ t (x .tree)))
 
--- A LINKED ORDER HAS A UNIT
-paths-length : (l : List Text) (ids : List ℕ) → length (pathsAt l ids) ≡ length ids
-unfolding pathsAt
-paths-length l [] = refl
-paths-length l (u ∷ ids) = ap suc (paths-length l ids)
-
-some-unit : (b : Bundle) → 0 < length (b .files) → (o : List ℕ) → ordered b ≡ order.linked o → 0 < length (unitsOf b)
-some-unit b some o e =
-    let h = first-half b some .order o e in
-    let d = discovered b in
-    let x = pigeons (h .once) (unitsOf b) (λ f m. d .complete f (h .sound f m)) in
-    let z = paths-length (unitsOf b) o in
-    let l = zero-last b o e in
-    omega (arith, ap length (l .is), length-append (l .before) (0 ∷ []))
-
-faults-counted : (i : ℕ) (ns ps : List ℕ) → i ≤ length ns → i ≤ length ps → length (faultsIn (take i ns) (take i ps)) ≡ i
-unfolding faultsIn
-faults-counted zero ns ps h k = refl
-faults-counted (suc i) [] ps h k = absurd (omega arith)
-faults-counted (suc i) (n ∷ ns) [] h k = absurd (omega arith)
-faults-counted (suc i) (n ∷ ns) (p ∷ ps) h k = let e = faults-counted i ns ps (omega arith) (omega arith) in omega arith
-
 module _ (s out img : List ℕ) (t : Tree) where
   abbrev b : Bundle
   b = decode s
@@ -93,14 +68,6 @@ module _ (s out img : List ℕ) (t : Tree) where
   refused-due : (n p : ℕ) → verdict s ≡ Refused n p → Due s out img t out img (record { answer = telling n p 0; tree = t })
   unfolding linkAnswer linkReport linkImage LinkTree
   refused-due n p v = let r = told s n p v in rw r (refl, (refl, (refl, refl)))
-
-  order-refused : (n p : ℕ) → verdict s ≡ Refused n p → (orderAnswer s out ≡ call.refusing n p) × (orderReport s out ≡ out)
-  unfolding orderAnswer orderReport
-  order-refused n p v = let r = told s n p v in rw r (refl, refl)
-
-  order-read : verdict s ≡ Ok → (orderAnswer s out ≡ call.answering (unitFiles b) (length out) (ordered b)) × (orderReport s out ≡ lentReport (report.recordsOf (ordered b)) out)
-  unfolding orderAnswer orderReport
-  order-read v = let r = accepted s v in rw r (refl, refl)
 
   after-order : (x : order.Outcome) → ordered b ≡ x → linkBundle b ≡ linkAfter (assembleAfter b x)
   unfolding linkBundle linearizeAndAssemble
@@ -120,7 +87,7 @@ module _ (s out img : List ℕ) (t : Tree) where
           → answering (unitFiles b) (length out) (length img) y ≡ reportedTo r → report.recordsOf x ≡ recordsOf y → img ≡ imageAfter y img → TreeAfter (length img) y t t
           → Due s out img t rep img (record { answer = told-of a; tree = t })
       reported-due x y r e l f g h k m =
-          let o = order-read v in
+          let o = order-read s out img v in
           let q : a ≡ call.reportedTo r = is ∙ (o .0 ∙ (ap (call.answering (unitFiles b) (length out)) e ∙ f)) in
           due-by v y l rep img (record { answer = told-of a; tree = t })
           (ap told-of q ∙ (same-report r ∙ sym g))
@@ -132,7 +99,7 @@ module _ (s out img : List ℕ) (t : Tree) where
       read-due (order.linked o) e h =
           let n = some-unit b (checked-roomy s v .some) o e in
           let l = length-map (unitsOf b) (λ p. position p (pathsOf b)) in
-          let q = ap (λ (z : ordering.Answer). z .units) (is ∙ (order-read v .0 ∙ ap (call.answering (unitFiles b) (length out)) e)) in
+          let q = ap (λ (z : ordering.Answer). z .units) (is ∙ (order-read s out img v .0 ∙ ap (call.answering (unitFiles b) (length out)) e)) in
           absurd (omega arith)
 
     pub no-units : a .units ≡ 0 → (x : Linked) → x ≡ record { answer = told-of a; tree = t } → Due s out img t rep img x
@@ -140,13 +107,13 @@ module _ (s out img : List ℕ) (t : Tree) where
       where
         go : (c : Checked) → verdict s ≡ c → Due s out img t rep img (record { answer = told-of a; tree = t })
         go (Refused n p) v =
-            let y = order-refused n p v in
+            let y = order-refused s out img n p v in
             subst (λ (z : List ℕ). Due s out img t z img (record { answer = told-of a; tree = t })) (sym (lent ∙ y .1))
             (subst (λ (z : Answer). Due s out img t out img (record { answer = z; tree = t })) (sym (ap told-of (is ∙ y .0))) (refused-due n p v))
         go Ok v = read-due v (ordered b) refl h
 
     -- LINKED UNITS
-    module _ (u : units.LinkedFiles s (a .files) (a .ids) (a .units)) (kept : rep ≡ out) where
+    module _ (u : units.OrderedFilesGiven s (a .files) (a .ids) (a .units)) (kept : rep ≡ out) where
       abbrev o : List ℕ
       o = take (a .units) (a .ids)
 
@@ -190,7 +157,7 @@ module _ (s out img : List ℕ) (t : Tree) where
           pub image-due : w .number ≡ 0 → (image₂ : List ℕ) (r : Imaged) (x : Linked) → r ≡ imaging (assembled b o) (length img)
               → x ≡ record { answer = imagedTo (a .units) (a .files) (a .ids) r; tree = treeBy r (w .tree) t } → image₂ ≡ lentImage (assembled b o) img → Due s out img t rep image₂ x
           image-due n image₂ r x e q k =
-              let l : a ≡ call.linking (unitFiles b) (padded o) = is ∙ (order-read ok .0 ∙ ap (call.answering (unitFiles b) (length out)) (u .order)) in
+              let l : a ≡ call.linking (unitFiles b) (padded o) = is ∙ (order-read s out img ok .0 ∙ ap (call.answering (unitFiles b) (length out)) (u .order)) in
               due-by ok (linked o (assembled b o) (flat-of (w .tree))) (program-is ∙ rw (eq-eqb (w .number) 0 n)) rep image₂ x
               (ap (λ (y : Linked). y .answer) q
               ∙ (ap (imagedTo (a .units) (a .files) (a .ids)) e

@@ -8,10 +8,11 @@ use Rattle.bundle.specs.Bundle.{Items, Bundle}
 use Rattle.bundle.specs.Form.{Every}
 use Rattle.bundle.specs.Stand.{Bytes}
 use Rattle.bundle.specs.Read.{value, read}
+use Rattle.discovery.specs.Discovery.{Fault}
 use Rattle.order.specs.Run.{filesOf}
 use Rattle.order.specs.Run as order
 use Rattle.order.specs.Files.{LinkedFiles, ImportEachOther}
-use Rattle.order.specs.Theorems.{first-half-read}
+use Rattle.order.specs.Theorems.{faultsOf, RingMet, first-half-read}
 use Rattle.scopes.specs.Step.{Answer, ok, marked, refused, Model, step, run}
 use Rattle.scopes.specs.Flat.{Flat, flat, first-flat, flattened}
 use Rattle.scopes.specs.Form.{Request, call-of, calls-of}
@@ -19,9 +20,10 @@ use Rattle.scopes.specs.Note.{accepted}
 use Rattle.scopes.specs.Demand.{Demand, demand}
 use Rattle.assembly.specs.Assemble.{linearizeAndAssemble}
 use Rattle.assembly.specs.Assemble as assembly
-use Rattle.assembly.specs.Theorems.{Assembled, assembly-read, Program, program-only}
+use Rattle.assembly.specs.Theorems.{Assembled, assembly-read, Program, program-only, FaultsMet}
+use Rattle.assembly.specs.Theorems.{faults-only as assembly-faults-only, faults-always as assembly-faults-always, ring-only as assembly-ring-only, ring-always as assembly-ring-always}
 use Rattle.linker.specs.Scopes.{Asked, scopeCalls, Walked, done, stopped, onwards, walkFrom, scopeWalk}
-use Rattle.linker.specs.Link.{Outcome, faulty, closed, linked, step6, linkAfter, linkBundle}
+use Rattle.linker.specs.Link.{Outcome, faulty, closed, ended, linked, step6, linkAfter, linkBundle}
 
 -- the calls alone
 abbrev pub requests : List Asked → List Request
@@ -111,6 +113,48 @@ linked-steps b o p x e = go (linearizeAndAssemble b) refl e
 pub linked-always : (b : Bundle) (o : List ℕ) (p : Items) (x : Flat) → linearizeAndAssemble b ≡ assembly.program o p → scopeWalk p ≡ done x → linkBundle b ≡ linked o p x
 unfolding linkBundle
 linked-always b o p x e f = ap linkAfter e ∙ ap (step6 o p) f
+
+-- FAULTS AND RINGS, of every bundle that is not refused
+-- step 6 tells neither
+after-report : (x : assembly.Outcome) (o : List ℕ) (p : Items) (w : Walked Flat) → x ≡ assembly.program o p → scopeWalk p ≡ w → (l : List Fault) (r : List ℕ) → (linkAfter x ≡ faulty l → ⊥) × (linkAfter x ≡ closed r → ⊥)
+after-report x o p (done y) e f l r = (
+  λ h. let q : linked o p y ≡ faulty l = ap (step6 o p) (sym f) ∙ (ap linkAfter (sym e) ∙ h) in let z : _≡_ {A = ℕ} 0 1 = cc in omega arith,
+  λ h. let q : linked o p y ≡ closed r = ap (step6 o p) (sym f) ∙ (ap linkAfter (sym e) ∙ h) in let z : _≡_ {A = ℕ} 0 1 = cc in omega arith,
+)
+after-report x o p (stopped n m) e f l r = (
+  λ h. let q : ended n m ≡ faulty l = ap (step6 o p) (sym f) ∙ (ap linkAfter (sym e) ∙ h) in let z : _≡_ {A = ℕ} 0 1 = cc in omega arith,
+  λ h. let q : ended n m ≡ closed r = ap (step6 o p) (sym f) ∙ (ap linkAfter (sym e) ∙ h) in let z : _≡_ {A = ℕ} 0 1 = cc in omega arith,
+)
+
+faulty-before : (x : assembly.Outcome) (l : List Fault) → linkAfter x ≡ faulty l → x ≡ assembly.faulty l
+faulty-before (assembly.faulty k) l h = let z : k ≡ l = cc in ap assembly.faulty z
+faulty-before (assembly.closed r) l h = let z : _≡_ {A = ℕ} 0 1 = cc in absurd (omega arith)
+faulty-before (assembly.program o p) l h = absurd (after-report (assembly.program o p) o p (scopeWalk p) refl refl l [] .0 h)
+
+closed-before : (x : assembly.Outcome) (r : List ℕ) → linkAfter x ≡ closed r → x ≡ assembly.closed r
+closed-before (assembly.faulty k) r h = let z : _≡_ {A = ℕ} 0 1 = cc in absurd (omega arith)
+closed-before (assembly.closed k) r h = let z : k ≡ r = cc in ap assembly.closed z
+closed-before (assembly.program o p) r h = absurd (after-report (assembly.program o p) o p (scopeWalk p) refl refl [] r .1 h)
+
+module _ (s : List ℕ) (b : Bundle) (v : read s ≡ value b) where
+  -- faults are told exactly when discovery has some, or an order is linked and step 5 has some
+  pub faults-only : (l : List Fault) → linkBundle b ≡ faulty l → FaultsMet b l
+  unfolding linkBundle
+  faults-only l e = assembly-faults-only s b v l (faulty-before (linearizeAndAssemble b) l e)
+
+  pub faults-always : (l : List Fault) → FaultsMet b l → linkBundle b ≡ faulty l
+  unfolding linkBundle
+  faults-always l m = ap linkAfter (assembly-faults-always s b v l m)
+
+  -- "A RING IS REFUSED EXACTLY WHEN two or more different reached files import each other in one, and such a ring is named";
+  -- discovery's faults prevent it
+  pub ring-only : (r : List ℕ) → linkBundle b ≡ closed r → RingMet b r
+  unfolding linkBundle
+  ring-only r e = assembly-ring-only s b v r (closed-before (linearizeAndAssemble b) r e)
+
+  pub ring-always : faultsOf b ≡ [] → ImportEachOther b → (r : List ℕ) × ((linkBundle b ≡ closed r) × RingMet b r)
+  unfolding linkBundle
+  ring-always c x = let q = assembly-ring-always s b v c x in (q .0, (ap linkAfter (q .1 .0), q .1 .1))
 
 -- DEMAND 3, of a bundle that links
 pub record LinkedBundle (b : Bundle) (o : List ℕ) (p : Items) (x : Flat) : Type 0 where

@@ -1,7 +1,7 @@
 // Step 6, the scope walk: a cursor in a linked program, which yields one tree call after another. It sees no tree.
 ghost use mathlib.Core.Path.{_≡_};
 ghost use Prim.Native.Nat.{_<_, _≤_};
-ghost use Rattle.assembly.specs.Linked.{Linked};
+ghost use Rattle.assembly.specs.Given.{OrderGiven};
 ghost use Rattle.linker.specs.Cursor.{first-cursor, first-inside, small-limit, Past, Stands, Yields};
 use bundle::limits::IGNORED;
 use bundle::limits::MODULE;
@@ -78,7 +78,7 @@ fn past_ignored(s: &[u8], from: usize, end: usize) -> usize
 
 // Outside of a unit: the next one is entered, or all were.
 fn next_unit<'a>(s: &[u8], files: &'a [usize], ids: &'a [u16], units: usize, c: Cursor) -> Stepped
-    requires { ⌜ (Linked (now s) (now files) (now ids) units × Stands (now s) units c) × (c .depth ≡ 0) ⌝ }
+    requires { ⌜ (OrderGiven (now s) (now files) (now ids) units × Stands (now s) units c) × (c .depth ≡ 0) ⌝ }
     ensures { λ r. ⌜ Yields (now (s .entry)) (now (ids .entry)) units c r ⌝ }
 {
     let i = c.unit;
@@ -118,7 +118,7 @@ fn first_inside(depth: usize, at: usize, end: usize) -> usize
 
 // The next call of the program, and where the walk stands after it. Ruled out: the exit of a module left out; a unit entered twice.
 pub fn next<'a>(s: &[u8], files: &'a [usize], ids: &'a [u16], units: usize, c: Cursor) -> Stepped
-    requires { ⌜ Linked (now s) (now files) (now ids) units × Stands (now s) units c ⌝ }
+    requires { ⌜ OrderGiven (now s) (now files) (now ids) units × Stands (now s) units c ⌝ }
     ensures { λ r. ⌜ Yields (now (s .entry)) (now (ids .entry)) units c r ⌝ }
 {
     let depth = c.depth;

@@ -7,7 +7,7 @@ ghost use Rattle.bundle.specs.Scan.{byte};
 ghost use Rattle.order.specs.Writing.{started};
 ghost use Rattle.discovery.specs.Walk.{UseMark};
 ghost use Rattle.assembly.specs.Assemble.{assembled};
-ghost use Rattle.assembly.specs.Linked.{Lies, Units, Linked};
+ghost use Rattle.assembly.specs.Given.{Lies, UnitsGiven, OrderGiven};
 ghost use Rattle.assembly.specs.Walk.{useBytes};
 ghost use Rattle.linker.specs.Scopes.{isPublic};
 ghost use Rattle.linker.specs.Steps.{item-code, use-size};
@@ -96,7 +96,7 @@ fn use_form(
     place: usize,
     out: &mut [u8],
 ) -> usize
-    requires { ⌜ (Lies (now s) at × Units (now s) (now files) units) × (Within (now s) units id file × ((UseMark (now s) place × Fitting (now s) place) × (use-size ≤ length (now out)))) ⌝ }
+    requires { ⌜ (Lies (now s) at × UnitsGiven (now s) (now files) units) × (Within (now s) units id file × ((UseMark (now s) place × Fitting (now s) place) × (use-size ≤ length (now out)))) ⌝ }
     ensures { λ r. ⌜ (r ≡ length (useBytes (now (s .entry)) (pathAt (now (s .entry)) file) place)) × ((r ≤ use-size) × (now (out .exit) ≡ started (useBytes (now (s .entry)) (pathAt (now (s .entry)) file) place) (now (out .entry)))) ⌝ }
 {
     assembly::rewrite_use(
@@ -114,7 +114,7 @@ fn use_form(
 // The tree of the units in their order, or the number and the place of the first call that is refused. Ruled out: the tree of the
 // entry's items alone; a unit's number told with the mark of its first item.
 pub fn walk_program<'a>(s: &[u8], files: &'a [usize], ids: &'a [u16], units: usize) -> Scoped
-    requires { ⌜ Linked (now s) (now files) (now ids) units ⌝ }
+    requires { ⌜ OrderGiven (now s) (now files) (now ids) units ⌝ }
     ensures { λ r. ⌜ ScopedAs (assembled (decode (now (s .entry))) (take units (now (ids .entry)))) r ⌝ }
 {
     let at = resolution::layout_of(s);

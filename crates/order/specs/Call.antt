@@ -1,14 +1,15 @@
 -- The operation: bytes and a lent report buffer, and what is answered. Assumes nothing.
-use Prim.Native.Nat.{ℕ}
-use mathlib.Core.List.{List, _++_, map}
-use lib.ListN.{length, drop, replicate}
-use Rattle.bundle.specs.Bundle.{Bundle}
+use Prim.Native.Nat.{ℕ, _<_}
+use mathlib.Core.Path.{_≡_}
+use mathlib.Core.List.{List, [], _++_, map}
+use lib.ListN.{length, getD, take, drop, replicate}
+use Rattle.bundle.specs.Bundle.{Text, Bundle}
 use Rattle.bundle.specs.Limits.{file-limit}
 use Rattle.bundle.specs.Read.{Reading, value, refused, read}
 use Rattle.resolution.specs.Call.{position}
 use Rattle.discovery.specs.Discovery.{pathsOf}
 use Rattle.order.specs.Run.{Outcome, faulty, closed, linked, ordered, unitsOf}
-use Rattle.order.specs.Report.{recordsOf, lentReport, reporting}
+use Rattle.order.specs.Report.{Record, recordsOf, reportBytes, reportLength, lentReport, reporting}
 use Rattle.order.specs.declared.Answer.{Answer}
 use Rattle.order.specs.declared.Reported.{Reported}
 use Rattle.order.specs.declared.Reported.the-variants as reported
@@ -57,3 +58,15 @@ orderAnswer s out = answerTo (read s) (length out)
 
 unfoldable pub orderReport : List ℕ → List ℕ → List ℕ
 orderReport s out = reportTo (read s) out
+
+-- THE PATHS that an answer gives by its files, ids and count: of each id, in order, the path of its file
+abbrev pub pathsOfIds : Bundle → List ℕ → List ℕ → ℕ → List Text
+pathsOfIds b files ids n = map (λ u. getD (pathsOf b) (getD files u 0) []) (take n ids)
+
+-- A REPORT WAS WRITTEN: number 0 and a length are answered; the report's bytes stand at the start of the buffer, the rest is as it was
+pub record Wrote (rs : List Record) (out final : List ℕ) (number report : ℕ) : Type 0 where
+  pub no-refusal : number ≡ 0
+  pub length-is : report ≡ reportLength rs
+  pub some : 0 < report
+  pub bytes : take report final ≡ reportBytes rs
+  pub rest : drop report final ≡ drop report out

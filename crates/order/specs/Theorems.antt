@@ -1,8 +1,8 @@
 -- DEMAND 3, FIRST HALF, of the files of any bundle: what the order and the ring that `ordered` gives are, and when it gives
 -- which. Assumes nothing.
-use Prim.Native.Nat.{ℕ, _<_}
+use Prim.Native.Nat.{ℕ, suc, _<_}
 use native.Mathlib.Omega.{arith}
-use mathlib.Core.Path.{_≡_, refl, sym, subst, _∙_}
+use mathlib.Core.Path.{_≡_, refl, sym, ap, subst, _∙_}
 use mathlib.Core.List.{List, [], _∷_, List·Memᴰ}
 use lib.ListN.{length, length-map}
 use Rattle.bundle.specs.Bundle.{Text, File, Bundle}
@@ -14,6 +14,7 @@ use Rattle.resolution.specs.Lists.{listsOf}
 use Rattle.resolution.specs.Resolution.{to, resolvePathInternal}
 use Rattle.discovery.specs.Discovery.{Use, uses, programOf, Fault, discoverDependencies, pathsOf}
 use Rattle.discovery.specs.Reached.{Reached, Once}
+use Rattle.discovery.specs.Facts.{pathsAt, pigeons}
 use Rattle.discovery.specs.Right.{discovered}
 use Rattle.discovery.specs.Clean.{no-fault}
 use Rattle.discovery.specs.Room.{checked-roomy}
@@ -41,6 +42,12 @@ pub record ToLinked (b : Bundle) (o : List ℕ) (f : Text) (u : Use) : Type 0 wh
   pub rest : List Text
   pub resolves : resolvePathInternal (listsOf b) f (u .segments) ≡ to target rest
   pub linked : List·Memᴰ target (filesOf b o)
+
+-- a ring that is told: discovery has no fault, two or more different reached files import each other, and the ring is named
+pub record RingMet (b : Bundle) (r : List ℕ) : Type 0 where
+  pub faultless : faultsOf b ≡ []
+  pub each-other : ImportEachOther b
+  pub named : NamedRing b (filesOf b r)
 
 -- what is due of an outcome
 pub record FirstHalf (b : Bundle) (x : Outcome) : Type 0 where
@@ -176,6 +183,20 @@ module _ (b : Bundle) (some : 0 < length (b .files)) where
       right-outcome (faultsOf b) refl (walkOf (discoverDependencies b))
       (linearize-right (listOf (discoverDependencies b)) (length (unitsOf b)) units-within)
 
+-- as many ids as units
+paths-length : (l : List Text) (ids : List ℕ) → length (pathsAt l ids) ≡ length ids
+unfolding pathsAt
+paths-length l [] = refl
+paths-length l (u ∷ ids) = ap suc (paths-length l ids)
+
+pub order-count : (b : Bundle) (o : List ℕ) → LinkedFiles b (filesOf b o) → length o ≡ length (unitsOf b)
+order-count b o files =
+    let d = discovered b in
+    let n = paths-length (unitsOf b) o in
+    let x = pigeons (files .once) (unitsOf b) (λ p m. d .complete p (files .sound p m)) in
+    let y = pigeons (d .once) (filesOf b o) (λ p m. files .complete p (d .sound p m)) in
+    omega arith
+
 -- of the value of every bundle that is not refused
 value-is : (c : Checked) (d b : Bundle) → reading c d ≡ value b → (c ≡ Ok) × (d ≡ b)
 value-is Ok d b h = (refl, cc)
@@ -186,6 +207,24 @@ unfolding read
 first-half-read s b h =
     let v = value-is (verdict s) (decode s) b h in
     first-half b (subst (λ (x : Bundle). 0 < length (x .files)) (v .1) (checked-roomy s (v .0) .some))
+
+-- "A RING IS REFUSED EXACTLY WHEN two or more different reached files import each other in one, and such a ring is named"; discovery
+-- faults prevent step 4
+module _ (s : List ℕ) (b : Bundle) (v : read s ≡ value b) where
+  pub ring-met-only : (r : List ℕ) → ordered b ≡ closed r → RingMet b r
+  ring-met-only r e = let h = first-half-read s b v in record { faultless = h .ring-faultless r e; each-other = h .mutual-only r e; named = h .named r e }
+
+  pub ring-met-always : faultsOf b ≡ [] → ImportEachOther b → (r : List ℕ) × ((ordered b ≡ closed r) × RingMet b r)
+  ring-met-always c x = let q = first-half-read s b v .mutual-always c x in (q .0, (q .1, ring-met-only (q .0) (q .1)))
+
+-- the faults of discovery are told wherever there are some
+pub faults-always : (b : Bundle) → (faultsOf b ≡ [] → ⊥) → ordered b ≡ faulty (faultsOf b)
+unfolding ordered
+faults-always b n = go (faultsOf b) refl
+  where
+    go : (l : List Fault) → faultsOf b ≡ l → outcome (faultsOf b) (walkOf (discoverDependencies b)) ≡ faulty (faultsOf b)
+    go [] e = absurd (n e)
+    go (f ∷ fs) e = rw e
 
 -- two different reached files to each of which imports lead from the other are where there is a ring of files, and nowhere
 -- else: the two ways of saying "import each other" are one

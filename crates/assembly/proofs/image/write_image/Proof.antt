@@ -7,7 +7,7 @@ use denote.Ref.{now}
 use borrow.Author.Needs.{needs}
 use Rattle.bundle.specs.Decode.{decode}
 use Rattle.assembly.specs.WholeImage.{too-long, too-small, all-written}
-use Rattle.assembly.specs.Linked.{programBytes}
+use Rattle.assembly.specs.Given.{programBytes}
 use Rattle.assembly.proofs.image.write_image.Statement.{statement}
 use Rattle.assembly.proofs.image.write_image.Tie as tie
 

@@ -42,7 +42,7 @@ use Rattle.assembly.specs.Paths.{program-formed}
 use Rattle.assembly.specs.Targets.{UnitOf}
 use Rattle.assembly.specs.Walk.{itemsBytes, item-form, Brief, formed-brief}
 
-pub record Units (s files : List ℕ) (units : ℕ) : Type 0 where
+pub record UnitsGiven (s files : List ℕ) (units : ℕ) : Type 0 where
   pub checked : verdict s ≡ Ok
   pub files-are : take units files ≡ unitFiles (decode s)
   pub fits : units ≤ length files
@@ -50,19 +50,19 @@ pub record Units (s files : List ℕ) (units : ℕ) : Type 0 where
   pub table : Sound (listsOf (decode s)) s files
 
 -- and their linked order
-pub record Linked (s files ids : List ℕ) (units : ℕ) : Type 0 where
-  pub of-units : Units s files units
+pub record OrderGiven (s files ids : List ℕ) (units : ℕ) : Type 0 where
+  pub of-units : UnitsGiven s files units
   pub order : ordered (decode s) ≡ linked (take units ids)
   pub ids-fit : units ≤ length ids
 
 -- the same of the files alone
-pub record UnitFiles (s files : List ℕ) (units : ℕ) : Type 0 where
+pub record FilesGiven (s files : List ℕ) (units : ℕ) : Type 0 where
   pub checked : verdict s ≡ Ok
   pub files-are : take units files ≡ unitFiles (decode s)
   pub fits : units ≤ length files
 
-pub record LinkedFiles (s files ids : List ℕ) (units : ℕ) : Type 0 where
-  pub of-units : UnitFiles s files units
+pub record OrderedFilesGiven (s files ids : List ℕ) (units : ℕ) : Type 0 where
+  pub of-units : FilesGiven s files units
   pub order : ordered (decode s) ≡ linked (take units ids)
   pub ids-fit : units ≤ length ids
 
@@ -149,7 +149,7 @@ module _ (s files : List ℕ) (units : ℕ) (checked : verdict s ≡ Ok) (are : 
       omega (arith, length-map (decode s .files) (λ (f : File). f .path))
 
 -- THE FILES IN FRONT OF A TABLE
-pub known-linked : {s files ids t known : List ℕ} {units : ℕ} → LinkedFiles s files ids units → Table (listsOf (decode s)) s t → FilesPut t files known → Linked s known ids units
+pub known-linked : {s files ids t known : List ℕ} {units : ℕ} → OrderedFilesGiven s files ids units → Table (listsOf (decode s)) s t → FilesPut t files known → OrderGiven s known ids units
 known-linked {s} {files} {ids} {t} {known} {units} x y p =
     let u = x .of-units in
     let n = counted-few s files units (u .checked) (u .files-are) (u .fits) in
@@ -162,7 +162,7 @@ known-linked {s} {files} {ids} {t} {known} {units} x y p =
       ids-fit = x .ids-fit;
     }
 
-module _ (s files : List ℕ) (units : ℕ) (x : Units s files units) where
+module _ (s files : List ℕ) (units : ℕ) (x : UnitsGiven s files units) where
   abbrev c : Bundle
   c = decode s
 
@@ -236,7 +236,7 @@ unfolding programBytes unitBytes assembled items
 program-one b u o = rw append-nil
 
 -- THE ORDER
-module _ (s files ids : List ℕ) (units : ℕ) (x : Linked s files ids units) where
+module _ (s files ids : List ℕ) (units : ℕ) (x : OrderGiven s files ids units) where
   pub below : (i : ℕ) → i < units → getD ids i 0 < units
   below i h =
       let k = x .ids-fit in
