@@ -1,9 +1,10 @@
 -- Document 01's printed case, the cases of its header and cuts, and a case of each number, computed. Assumes nothing.
 use Prim.Native.Nat.{ℕ, zero, suc}
-use mathlib.Core.Path.{_≡_, refl}
+use native.Mathlib.Omega.{arith}
+use mathlib.Core.Path.{_≡_, refl, _∙_}
 use mathlib.Core.Bool.{Bool, true, false}
-use mathlib.Core.List.{List, [], _∷_, map}
-use lib.ListN.{length, replicate}
+use mathlib.Core.List.{List, [], _∷_, _++_, map}
+use lib.ListN.{length, replicate, drop}
 use Rattle.names.specs.Bytes.{ascii, same, member, all}
 use Rattle.names.specs.Path.{isPath, isComponent, wellFormed, split, onto, components}
 use Rattle.names.specs.Prefix.{directlyIn, startsWith, begins}
@@ -11,11 +12,16 @@ use Rattle.names.specs.Identifier.{isIdentifier, class, letter, digit}
 use Rattle.names.specs.Keywords.{isCrate, isKeyword, keywords}
 use Rattle.bundle.specs.Bundle.{Text, Items, none, named, use-of, module-of, Remapping, File, Bundle}
 use Rattle.bundle.specs.Encode.{two, string, joined, counted, sized, element, items, remapping, file, fields, encode}
-use Rattle.bundle.specs.Scan.{times, scanString, scanFormed, scanAlias, scanField, scanCount, scanList, scanUse, scanLength, scanMark, scanHead, scanBody, scanEnd, scanItemWith, siblings, scanModule, scanFile, scanFiles, scanHeader}
+use Rattle.bundle.specs.Limits.{depth-limit}
+use Rattle.bundle.specs.Scan.{walkThen, scanItems, times, scanString, scanFormed, scanAlias, scanField, scanCount, scanList, scanUse, scanLength, scanMark, scanHead, scanBody, scanEnd, scanItemWith, siblings, scanModule, scanFile, scanFiles, scanHeader}
 use Rattle.bundle.specs.Decode.{each, far, elementAt, remappingAt, itemAt, itemsBy, itemsAt, fileAt, decode}
-use Rattle.bundle.specs.Conflicts.{placedAt, placedRemappingAt, any, listed, located, sameRemapping, remapped, conflicts}
+use Rattle.bundle.specs.Conflicts.{orElse, placedAt, placedRemappingAt, any, listed, located, sameRemapping, remapped, conflicts}
 use Rattle.bundle.specs.Conflicts as conflict
-use Rattle.bundle.specs.Read.{Reading, value, refused, form, lists, files, verdict, read}
+use Rattle.bundle.specs.Read.{Reading, value, refused, after, afterWalk, form, lists, files, verdict, read}
+use Rattle.bundle.specs.CaseLaws.{many, ignored-item, use-item, many-ignored, many-uses}
+use Rattle.bundle.specs.declared.Walk.the-variants.{Past, Fault}
+use Rattle.bundle.specs.declared.Checked.{Checked}
+use Rattle.bundle.specs.declared.Checked.the-variants.{Ok, Refused}
 
 -- THE PRINTED CASE
 unfoldable printed : Bundle
@@ -41,7 +47,7 @@ unfolding printed ascii encode fields sized two string counted joined remapping 
 printed-read = refl
 
 -- BYTES AS THEY STAND
--- a bundle with the root `/` and one file `/m` that has these item bytes; they start at 11
+-- a bundle with the root `/` and one file `/m` that has these item bytes; they start at 13
 unfoldable raw : List ℕ → List ℕ
 raw items = 1 ∷ sized (1 ∷ 47 ∷ 0 ∷ 0 ∷ 1 ∷ 2 ∷ 47 ∷ 109 ∷ sized items)
 
@@ -70,6 +76,8 @@ bytes-rows =
     ∷ row (raw (0 ∷ 3 ∷ 3 ∷ 0 ∷ 17 ∷ [])) 3 17 ∷ row (raw (0 ∷ 4 ∷ 3 ∷ 0 ∷ 0 ∷ 33 ∷ [])) 3 18
     -- a name's form; an alias's
     ∷ row (raw (0 ∷ 4 ∷ 2 ∷ 0 ∷ 1 ∷ 49 ∷ [])) 5 17 ∷ row (raw (0 ∷ 8 ∷ 3 ∷ 0 ∷ 0 ∷ 1 ∷ 1 ∷ 102 ∷ 1 ∷ 32 ∷ [])) 5 21
+    -- a folder's length past the end
+    ∷ row (1 ∷ sized (1 ∷ 47 ∷ 1 ∷ 5 ∷ 47 ∷ 97 ∷ [])) 1 6
     -- a place past 65,535
     ∷ row (1 ∷ 255 ∷ 255 ∷ replicate 65536 0) 1 65538
     ∷ []
@@ -97,7 +105,7 @@ holding is = at-root [] [] (record { path = ascii "/m"; items = is } ∷ [])
 
 value-rows : List Row
 value-rows =
-    -- counts: 65 folders, no file, 65 files; depth 9 (the limits on items and uses are run, not computed here)
+    -- counts: 65 folders, no file, 65 files; depth 9
     row (at-root (replicate 65 (ascii "/a")) [] (main ∷ [])) 3 5 ∷ row (at-root [] [] []) 3 7
     ∷ row (at-root [] [] (replicate 65 main)) 3 7
     ∷ row (at-root [] (replicate 33 (remap [] [] [])) []) 3 6
@@ -105,12 +113,19 @@ value-rows =
     -- forms
     ∷ row (at-root (ascii "/a/" ∷ []) [] (main ∷ [])) 4 6 ∷ row (at-root [] [] (empty (ascii "m") ∷ [])) 4 8
     ∷ row (holding (named 1 0 0 (ascii "a-b") none)) 5 17
+    -- 4 at the root, at a context, at a target
+    ∷ row (encode (record { root = ascii "r"; folders = []; remappings = []; files = main ∷ [] })) 4 3
+    ∷ row (at-root [] (remap (ascii "a") (ascii "l") (ascii "a") ∷ []) (main ∷ [])) 4 7
+    ∷ row (at-root [] (remap (ascii "/") (ascii "l") (ascii "a") ∷ []) (main ∷ [])) 4 11
     -- 7 before 8 of one path; a folder after its child; a parent that is a file; `/` listed
     ∷ row (at-root (ascii "/a" ∷ ascii "/a" ∷ []) [] (main ∷ [])) 7 9
     ∷ row (at-root [] [] (main ∷ main ∷ [])) 7 13
     ∷ row (at-root (ascii "/" ∷ []) [] (main ∷ [])) 7 6
     ∷ row (at-root (ascii "/a/b" ∷ ascii "/c/d" ∷ ascii "/a" ∷ ascii "/c/d" ∷ []) [] (main ∷ [])) 8 11
     ∷ row (at-root [] [] (main ∷ empty (ascii "/m/n") ∷ [])) 8 13
+    -- folders before files: a folder and a file of one path; an orphan folder and a file twice
+    ∷ row (at-root (ascii "/m" ∷ []) [] (main ∷ [])) 7 11
+    ∷ row (at-root (ascii "/a/b" ∷ []) [] (main ∷ main ∷ [])) 8 6
     -- context, target, name, 13, and the root last
     ∷ row (at-root [] (remap (ascii "/a") (ascii "crate") (ascii "/b") ∷ []) (main ∷ [])) 9 7
     ∷ row (at-root [] (remap (ascii "/") (ascii "crate") (ascii "/m") ∷ []) (main ∷ [])) 10 15
@@ -120,6 +135,7 @@ value-rows =
     ∷ row (at-root [] (replicate 2 (remap (ascii "/") (ascii "l") (ascii "/"))) (main ∷ [])) 13 13
     ∷ row (encode (record { root = ascii "/q"; folders = []; remappings = []; files = main ∷ [] })) 9 3
     ∷ row (encode (record { root = ascii "/m"; folders = []; remappings = []; files = main ∷ [] })) 10 3
+    ∷ row (encode (record { root = ascii "/q"; folders = []; remappings = remap (ascii "/") (ascii "use") (ascii "/") ∷ []; files = main ∷ [] })) 12 10
     ∷ []
 
 answers : List Row → List Reading
@@ -136,11 +152,141 @@ values-told : answers value-rows ≡ told value-rows
 unfolding nested value-rows answers told ascii encode fields sized two string counted joined remapping file items element read verdict form lists files scanHeader scanString scanFormed scanCount scanList times scanField scanFiles scanFile scanLength siblings scanItemWith scanModule scanHead scanMark scanBody scanUse scanAlias scanEnd isPath isIdentifier class letter digit all same components split onto wellFormed isComponent conflicts listed located conflict.named remapped sameRemapping placedAt placedRemappingAt each far any member directlyIn startsWith begins isCrate isKeyword keywords decode fileAt itemsAt itemsBy itemAt elementAt remappingAt
 values-told = refl
 
--- depth 8 is let through
+-- WHAT IS LET THROUGH
 accepted : Reading → Bool
 accepted (value b) = true
 accepted (refused n p) = false
 
-depth-taken : accepted (read (holding (nested 8))) ≡ true
-unfolding nested accepted ascii encode fields sized two string counted joined remapping file items element read verdict form lists files scanHeader scanString scanFormed scanCount scanList times scanField scanFiles scanFile scanLength siblings scanItemWith scanModule scanHead scanMark scanBody scanUse scanAlias scanEnd isPath isIdentifier class letter digit all same components split onto wellFormed isComponent conflicts listed located conflict.named remapped sameRemapping placedAt placedRemappingAt each far any member directlyIn startsWith begins isCrate isKeyword keywords decode fileAt itemsAt itemsBy itemAt elementAt remappingAt
-depth-taken = refl
+-- a path of n components of k bytes
+unfoldable long : ℕ → ℕ → Text
+long k zero = []
+long k (suc n) = 47 ∷ (replicate k 97 ++ long k n)
+
+-- the folders above a path of n components of k bytes
+unfoldable above : ℕ → ℕ → List Text
+above k zero = []
+above k (suc n) = long k (suc n) ∷ above k n
+
+-- depth 8; a path of 16 components and 255 bytes; a folder after its child
+taken-rows : List (List ℕ)
+taken-rows =
+    holding (nested 8)
+    ∷ at-root (above 15 15) [] (empty (long 15 15 ++ long 14 1) ∷ [])
+    ∷ at-root (ascii "/a/b" ∷ ascii "/a" ∷ []) [] (main ∷ [])
+    ∷ []
+
+taken : map (λ s. accepted (read s)) taken-rows ≡ true ∷ true ∷ true ∷ []
+unfolding nested long above taken-rows accepted ascii encode fields sized two string counted joined remapping file items element read verdict form lists files scanHeader scanString scanFormed scanCount scanList times scanField scanFiles scanFile scanLength siblings scanItemWith scanModule scanHead scanMark scanBody scanUse scanAlias scanEnd isPath isIdentifier class letter digit all same components split onto wellFormed isComponent conflicts listed located conflict.named remapped sameRemapping placedAt placedRemappingAt each far any member directlyIn startsWith begins isCrate isKeyword keywords decode fileAt itemsAt itemsBy itemAt elementAt remappingAt
+taken = refl
+
+-- THE LIMITS ON ITEMS AND USES, at the first that is too many
+over-items : List ℕ
+over-items = raw (many ignored-item 1025)
+
+over-uses : List ℕ
+over-uses = raw (many use-item 257)
+
+limit-rows : List Row
+limit-rows = row over-items 3 4109 ∷ row over-uses 3 1549 ∷ []
+
+-- the bytes are read up to the items, which end at `end`
+abbrev with-items : List ℕ → ℕ → Checked
+with-items s end =
+    orElse (afterWalk (walkThen (scanItems depth-limit s end 13 0 0) (scanFiles 0 s end)) (λ last. after (scanEnd end last) (λ _. Ok))) (conflicts s)
+
+items-read : verdict over-items ≡ with-items over-items 4113
+unfolding over-items raw many sized two verdict form lists files scanHeader scanString scanFormed scanCount scanList times scanField scanFiles scanFile scanLength scanEnd isPath all same components split onto wellFormed isComponent ascii
+items-read = refl
+
+uses-read : verdict over-uses ≡ with-items over-uses 1555
+unfolding over-uses raw many sized two string counted joined element verdict form lists files scanHeader scanString scanFormed scanCount scanList times scanField scanFiles scanFile scanLength scanEnd isPath all same components split onto wellFormed isComponent ascii
+uses-read = refl
+
+items-last : scanItems depth-limit over-items 4113 4109 1024 0 ≡ Fault 3 4109
+unfolding over-items raw many sized two siblings scanItemWith scanModule scanHead scanLength scanMark scanBody scanUse scanList scanCount times scanField scanString scanFormed scanAlias scanEnd
+items-last = refl
+
+uses-last : scanItems depth-limit over-uses 1555 1549 256 256 ≡ Fault 3 1549
+unfolding over-uses raw many sized two string counted joined element siblings scanItemWith scanModule scanHead scanLength scanMark scanBody scanUse scanList scanCount times scanField scanString scanFormed scanAlias scanEnd
+uses-last = refl
+
+items-stand : drop 13 over-items ≡ many ignored-item 1024 ++ ignored-item
+unfolding over-items raw many sized two
+items-stand = refl
+
+uses-stand : drop 13 over-uses ≡ many use-item 256 ++ use-item
+unfolding over-uses raw many sized two string counted joined element
+uses-stand = refl
+
+items-told : verdict over-items ≡ Refused 3 4109
+items-told =
+    let w : scanItems depth-limit over-items 4113 13 0 0 ≡ scanItems depth-limit over-items 4113 4109 1024 0 =
+    many-ignored over-items depth-limit 4113 1024 13 0 0 ignored-item items-stand (omega arith) (omega arith) (omega arith) in
+    items-read ∙ rw (w ∙ items-last)
+
+uses-told : verdict over-uses ≡ Refused 3 1549
+uses-told =
+    let w : scanItems depth-limit over-uses 1555 13 0 0 ≡ scanItems depth-limit over-uses 1555 1549 256 256 =
+    many-uses over-uses depth-limit 1555 256 13 0 0 use-item uses-stand (omega arith) (omega arith) (omega arith) in
+    uses-read ∙ rw (w ∙ uses-last)
+
+limits-told : answers limit-rows ≡ told limit-rows
+unfolding answers told limit-rows read
+limits-told = rw (items-told, uses-told)
+
+-- and 1,024 items, and 256 uses, are let through
+full-items : List ℕ
+full-items = raw (many ignored-item 1024)
+
+full-uses : List ℕ
+full-uses = raw (many use-item 256)
+
+full-items-read : verdict full-items ≡ with-items full-items 4109
+unfolding full-items raw many sized two verdict form lists files scanHeader scanString scanFormed scanCount scanList times scanField scanFiles scanFile scanLength scanEnd isPath all same components split onto wellFormed isComponent ascii
+full-items-read = refl
+
+full-uses-read : verdict full-uses ≡ with-items full-uses 1549
+unfolding full-uses raw many sized two string counted joined element verdict form lists files scanHeader scanString scanFormed scanCount scanList times scanField scanFiles scanFile scanLength scanEnd isPath all same components split onto wellFormed isComponent ascii
+full-uses-read = refl
+
+full-items-stand : drop 13 full-items ≡ many ignored-item 1024 ++ []
+unfolding full-items raw many sized two
+full-items-stand = refl
+
+full-uses-stand : drop 13 full-uses ≡ many use-item 256 ++ []
+unfolding full-uses raw many sized two string counted joined element
+full-uses-stand = refl
+
+full-items-end : scanItems depth-limit full-items 4109 4109 1024 0 ≡ Past 4109 1024 0
+unfolding siblings
+full-items-end = refl
+
+full-uses-end : scanItems depth-limit full-uses 1549 1549 256 256 ≡ Past 1549 256 256
+unfolding siblings
+full-uses-end = refl
+
+full-items-free : conflicts full-items ≡ Ok
+unfolding full-items raw many sized two conflicts listed located conflict.named remapped sameRemapping placedAt placedRemappingAt each far any member directlyIn startsWith begins isCrate isKeyword keywords same components split onto
+full-items-free = refl
+
+full-uses-free : conflicts full-uses ≡ Ok
+unfolding full-uses raw many sized two string counted joined element conflicts listed located conflict.named remapped sameRemapping placedAt placedRemappingAt each far any member directlyIn startsWith begins isCrate isKeyword keywords same components split onto
+full-uses-free = refl
+
+items-taken : verdict full-items ≡ Ok
+unfolding scanFiles scanEnd
+items-taken =
+    let w : scanItems depth-limit full-items 4109 13 0 0 ≡ scanItems depth-limit full-items 4109 4109 1024 0 =
+    many-ignored full-items depth-limit 4109 1024 13 0 0 [] full-items-stand (omega arith) (omega arith) (omega arith) in
+    full-items-read ∙ rw (w ∙ full-items-end, full-items-free)
+
+uses-taken : verdict full-uses ≡ Ok
+unfolding scanFiles scanEnd
+uses-taken =
+    let w : scanItems depth-limit full-uses 1549 13 0 0 ≡ scanItems depth-limit full-uses 1549 1549 256 256 =
+    many-uses full-uses depth-limit 1549 256 13 0 0 [] full-uses-stand (omega arith) (omega arith) (omega arith) in
+    full-uses-read ∙ rw (w ∙ full-uses-end, full-uses-free)
+
+full-taken : map (λ s. accepted (read s)) (full-items ∷ full-uses ∷ []) ≡ true ∷ true ∷ []
+unfolding accepted read
+full-taken = rw (items-taken, uses-taken)

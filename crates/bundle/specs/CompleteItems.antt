@@ -32,7 +32,7 @@ module _ (s : List ℕ) where
     pub body : drop (at + 4) s ≡ X ++ rest
     pub after-it : drop n s ≡ rest
 
-  head-writ : (k v : ℕ) (X : List ℕ) (at : ℕ) (rest : List ℕ) → drop at s ≡ sized (k ∷ v ∷ X) ++ rest → HeadWrit k v X at (at + 4 + length X) rest
+  pub head-writ : (k v : ℕ) (X : List ℕ) (at : ℕ) (rest : List ℕ) → drop at s ≡ sized (k ∷ v ∷ X) ++ rest → HeadWrit k v X at (at + 4 + length X) rest
   unfolding sized two
   head-writ k v X at rest e =
       let n = length (k ∷ v ∷ X) in
@@ -56,7 +56,7 @@ module _ (s : List ℕ) where
         after-it = at-append s (at + 4) X rest f;
       }
 
-  head-scans : (k v : ℕ) (X : List ℕ) (end at n count uses : ℕ) (rest : List ℕ) → HeadWrit k v X at n rest → n ≤ end → 1 ≤ k → k ≤ 6 → v ≤ 1 → count < item-limit → usesAfter s at uses ≤ use-limit
+  pub head-scans : (k v : ℕ) (X : List ℕ) (end at n count uses : ℕ) (rest : List ℕ) → HeadWrit k v X at n rest → n ≤ end → 1 ≤ k → k ≤ 6 → v ≤ 1 → count < item-limit → usesAfter s at uses ≤ use-limit
       → scanHead s end at count uses ≡ Next n
   unfolding scanHead scanLength scanMark
   head-scans k v X end at n count uses rest w h k1 k6 v1 hc hu =
@@ -94,7 +94,7 @@ module _ (s : List ℕ) where
       }
 
   -- the body of an item that is no module
-  leaf-scans : (n at : ℕ) → scanBody s n at ≡ Next n → andThen (scanBody s n at) (scanEnd n) ≡ Next n
+  pub leaf-scans : (n at : ℕ) → scanBody s n at ≡ Next n → andThen (scanBody s n at) (scanEnd n) ≡ Next n
   unfolding scanEnd
   leaf-scans n at e = rw (e, eq-eqb n n refl)
 
@@ -102,17 +102,17 @@ module _ (s : List ℕ) where
   unfolding scanBody
   name-body n at n6 n3 e = rw (ne-eqb (byte s (at + 2)) ignored-kind n6, ne-eqb (byte s (at + 2)) use-kind n3) e
 
-  use-body : (n at : ℕ) → byte s (at + 2) ≡ use-kind → scanUse s n (at + 4) ≡ Next n → scanBody s n at ≡ Next n
+  pub use-body : (n at : ℕ) → byte s (at + 2) ≡ use-kind → scanUse s n (at + 4) ≡ Next n → scanBody s n at ≡ Next n
   unfolding scanBody
   use-body n at k e =
       let n6 : byte s (at + 2) ≡ ignored-kind → ⊥ = λ (q : byte s (at + 2) ≡ ignored-kind). omega arith in
       rw (ne-eqb (byte s (at + 2)) ignored-kind n6, eq-eqb (byte s (at + 2)) use-kind k) e
 
-  ignored-body : (n at : ℕ) → byte s (at + 2) ≡ ignored-kind → n ≡ at + 4 → scanBody s n at ≡ Next n
+  pub ignored-body : (n at : ℕ) → byte s (at + 2) ≡ ignored-kind → n ≡ at + 4 → scanBody s n at ≡ Next n
   unfolding scanBody
   ignored-body n at k e = rw (eq-eqb (byte s (at + 2)) ignored-kind k) (ap Next (sym e))
 
-  use-scans : (n at : ℕ) (segments : List Text) (elements : List Element) (rest : List ℕ)
+  pub use-scans : (n at : ℕ) (segments : List Text) (elements : List Element) (rest : List ℕ)
       → length segments ≤ segment-limit → Every IsName segments → length elements ≤ element-limit → Every FormedElement elements
       → drop at s ≡ (count-list string segments ++ count-list element elements) ++ rest → at + length (count-list string segments ++ count-list element elements) ≡ n
       → (scanUse s n at ≡ Next n) × (counted (after s) (text s) s at ≡ segments) × (counted (afterElement s) (elementAt s) s (afterList (after s) s at) ≡ elements)

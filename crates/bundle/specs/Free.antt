@@ -101,7 +101,7 @@ remapped-ok F G seen (r ∷ l) =
     rw (ok-or, located-ok, ok-or, located-ok, ok-or, named-ok, ok-cond, alike-any r seen, remapped-ok F G (seen ++ (r ∷ [])) l, plains-more)
 
 -- what the bytes list, and the value's lists
-paths-each : (s : List ℕ) (n at : ℕ) → texts (each (afterFile s) (placedAt s) n at) ≡ map (λ (f : File). f .path) (each (afterFile s) (fileAt s) n at)
+pub paths-each : (s : List ℕ) (n at : ℕ) → texts (each (afterFile s) (placedAt s) n at) ≡ map (λ (f : File). f .path) (each (afterFile s) (fileAt s) n at)
 unfolding each placedAt fileAt
 paths-each s zero at = refl
 paths-each s (suc n) at = ap (λ (l : List Text). text s at ∷ l) (paths-each s n (afterFile s at))
@@ -111,7 +111,7 @@ unfolding each placedRemappingAt placedAt remappingAt plains
 plains-each s zero at = refl
 plains-each s (suc n) at = ap (λ (l : List Remapping). remappingAt s at ∷ l) (plains-each s n (afterRemapping s at))
 
-texts-append : (x y : List Placed) → texts (x ++ y) ≡ texts x ++ texts y
+pub texts-append : (x y : List Placed) → texts (x ++ y) ≡ texts x ++ texts y
 texts-append [] y = refl
 texts-append (p ∷ x) y = ap (λ (l : List Text). p .string ∷ l) (texts-append x y)
 

@@ -1,23 +1,27 @@
--- A refusal's number is one of 1 to 13. Assumes nothing.
-use Prim.Native.Nat.{ℕ, zero, suc, _+_, _-_, _≤_}
+-- A refusal's number and place: the scan tells 1 to 6 within its container, at its end only for 1; the conflicts are 7 to 13.
+-- Assumes nothing.
+use Prim.Native.Nat.{ℕ, zero, suc, _+_, _-_, _≤_, _<_}
 use native.Mathlib.Omega.{arith}
 use mathlib.Core.Bool.{Bool, true, false, cond, _&&_, not}
-use mathlib.Core.Path.{_≡_}
+use mathlib.Core.Path.{_≡_, refl}
 use mathlib.Core.List.{List, [], _∷_, _++_}
 use lib.Dec.{eqb, ltb, leb}
 use lib.ListN.{length}
-use Rattle.names.specs.Bytes.{member}
+use borrow.Author.Tests.{ltb-true, ltb-false, leb-true, eqb-true}
+use Rattle.names.specs.Bytes.{member, and-left}
 use Rattle.names.specs.Path.{isPath}
 use Rattle.names.specs.Prefix.{directlyIn}
 use Rattle.names.specs.Identifier.{isIdentifier}
 use Rattle.names.specs.Keywords.{isCrate, isKeyword}
 use Rattle.bundle.specs.Bundle.{Text}
-use Rattle.bundle.specs.Limits.{folder-limit, remapping-limit, file-limit, item-limit, use-limit, depth-limit, segment-limit, element-limit}
+use Rattle.bundle.specs.Limits.{header, folder-limit, remapping-limit, file-limit, item-limit, use-limit, depth-limit, segment-limit, element-limit, use-kind, module-kind, ignored-kind, version}
 use Rattle.bundle.specs.Scan.{byte, word, text, andThen, times, scanString, scanFormed, scanPath, scanName, scanAlias, scanField, scanCount, scanList, scanUse, scanLength, scanMark, usesAfter, scanHead, scanBody, scanEnd, walkOn, walkThen, scanItemWith, siblings, scanModule, scanItem, scanFile, scanFiles, scanHeader}
 use Rattle.bundle.specs.Conflicts.{Placed, PlacedRemapping, orElse, any, listed, located, sameRemapping, remapped, conflicts}
 use Rattle.bundle.specs.Conflicts.{named as nameTold}
 use Rattle.bundle.specs.Read.{afterWalk, files, lists, form, verdict}
 use Rattle.bundle.specs.Read.{after as thenOk}
+use Rattle.bundle.specs.Steps.{string-next, length-next, mark-next, Head, head-next}
+use Rattle.bundle.specs.Answers.{cond-elim}
 use Rattle.bundle.specs.declared.Scan.{Scan}
 use Rattle.bundle.specs.declared.Scan.the-variants.{Next, Bad}
 use Rattle.bundle.specs.declared.Walk.{Walk}
@@ -27,188 +31,270 @@ use Rattle.bundle.specs.declared.Field.the-variants.{Path, Name, Element
 use Rattle.bundle.specs.declared.Checked.{Checked}
 use Rattle.bundle.specs.declared.Checked.the-variants.{Ok, Refused}
 
-abbrev One : ℕ → Type 0
-One n = (1 ≤ n) × (n ≤ 13)
+-- THE SCAN
+-- a number from 1 to 6, and a place before the end, or for 1 at the end
+pub record Told (end n p : ℕ) : Type 0 where
+  pub least : 1 ≤ n
+  pub most : n ≤ 6
+  pub within : p ≤ end
+  pub inside : (n ≡ 1 → ⊥) → p < end
 
-abbrev Right : Scan → Type 0
-Right (Next at) = Unit {0}
-Right (Bad n p) = One n
+abbrev Right : ℕ → Scan → Type 0
+Right end (Next at) = at ≤ end
+Right end (Bad n p) = Told end n p
 
-abbrev RightWalk : Walk → Type 0
-RightWalk (Past at c u) = Unit {0}
-RightWalk (Fault n p) = One n
+abbrev RightWalk : ℕ → Walk → Type 0
+RightWalk end (Past at c u) = at ≤ end
+RightWalk end (Fault n p) = Told end n p
 
-abbrev RightCheck : Checked → Type 0
-RightCheck Ok = Unit {0}
-RightCheck (Refused n p) = One n
+abbrev pub RightForm : ℕ → Checked → Type 0
+RightForm end Ok = Unit {0}
+RightForm end (Refused n p) = Told end n p
 
--- what tests and sequences are made of
-pick : {A : Type 0} (P : A → Type 0) (b : Bool) {x y : A} → P x → P y → P (cond b x y)
+cut : (end p : ℕ) → p ≤ end → Told end 1 p
+cut end p h = record { least = omega arith; most = omega arith; within = h; inside = λ f. absurd (f refl) }
+
+tells : (end n p : ℕ) → 1 ≤ n → n ≤ 6 → p < end → Told end n p
+tells end n p l m h = record { least = l; most = m; within = omega arith; inside = λ f. h }
+
+told-more : (end last n p : ℕ) → end ≤ last → Told end n p → Told last n p
+told-more end last n p h t =
+    let w = t .within in
+    record { least = t .least; most = t .most; within = omega arith; inside = λ f. let i = t .inside f in omega arith }
+
+walk-more : (end last : ℕ) (X : Walk) → end ≤ last → RightWalk end X → RightWalk last X
+walk-more end last (Past at c u) h p = omega arith
+walk-more end last (Fault n m) h t = told-more end last n m h t
+
+then-right : {end : ℕ} (X : Scan) (f : ℕ → Scan) → Right end X → ((a : ℕ) → X ≡ Next a → a ≤ end → Right end (f a)) → Right end (andThen X f)
+then-right (Next a) f p q = q a refl p
+then-right (Bad n m) f p q = p
+
+on-right : {end : ℕ} (X : Scan) (f : ℕ → Walk) → Right end X → ((a : ℕ) → X ≡ Next a → a ≤ end → RightWalk end (f a)) → RightWalk end (walkOn X f)
+on-right (Next a) f p q = q a refl p
+on-right (Bad n m) f p q = p
+
+walk-right : {end : ℕ} (X : Walk) (f : ℕ → ℕ → ℕ → Walk) → RightWalk end X → ((a c u : ℕ) → a ≤ end → RightWalk end (f a c u)) → RightWalk end (walkThen X f)
+walk-right (Past a c u) f p q = q a c u p
+walk-right (Fault n m) f p q = p
+
+check-right : {end : ℕ} (X : Scan) (f : ℕ → Checked) → Right end X → ((a : ℕ) → a ≤ end → RightForm end (f a)) → RightForm end (thenOk X f)
+check-right (Next a) f p q = q a p
+check-right (Bad n m) f p q = p
+
+checked-walk : {end : ℕ} (X : Walk) (f : ℕ → Checked) → RightWalk end X → ((a : ℕ) → a ≤ end → RightForm end (f a)) → RightForm end (afterWalk X f)
+checked-walk (Past a c u) f p q = q a p
+checked-walk (Fault n m) f p q = p
+
+module _ (s : List ℕ) where
+  string-right : (end at : ℕ) → at ≤ end → Right end (scanString s end at)
+  unfolding scanString
+  string-right end at h =
+      cond-elim (Right end) (ltb at end)
+      (λ b. let lt = ltb-true at end b in
+      cond-elim (Right end) (leb (byte s at) (end - (at + 1))) (λ c. let le = leb-true (byte s at) (end - (at + 1)) c in omega arith) (λ c. cut end at h))
+      (λ b. cut end at h)
+
+  formed-right : (form : List ℕ → Bool) (k : ℕ) → 1 ≤ k → k ≤ 6 → (end at : ℕ) → at ≤ end → Right end (scanFormed form k s end at)
+  unfolding scanFormed
+  formed-right form k l m end at h =
+      then-right (scanString s end at) _ (string-right end at h) (λ next e b.
+      let z = string-next s end at e in
+      cond-elim (Right end) (form (text s at)) (λ c. b) (λ c. tells end k at l m (z .0)))
+
+  name-right : (end at : ℕ) → at ≤ end → Right end (scanName s end at)
+  name-right end at h = formed-right isIdentifier 5 (omega arith) (omega arith) end at h
+
+  path-right : (end at : ℕ) → at ≤ end → Right end (scanPath s end at)
+  path-right end at h = formed-right isPath 4 (omega arith) (omega arith) end at h
+
+  alias-right : (end at : ℕ) → at ≤ end → Right end (scanAlias s end at)
+  unfolding scanAlias
+  alias-right end at h =
+      cond-elim (Right end) (ltb at end && eqb (byte s at) 0) (λ c. let lt = ltb-true at end (and-left (ltb at end) (eqb (byte s at) 0) c) in omega arith) (λ c. name-right end at h)
+
+  field-right : (field : Field) (end at : ℕ) → at ≤ end → Right end (scanField field s end at)
+  unfolding scanField
+  field-right Path end at h = path-right end at h
+  field-right Name end at h = name-right end at h
+  field-right Element end at h = then-right (scanName s end at) _ (name-right end at h) (λ a e b. alias-right end a b)
+  field-right Remapping end at h =
+      then-right (scanPath s end at) _ (path-right end at h) (λ a e b. then-right (scanString s end a) _ (string-right end a b) (λ c e' d. path-right end c d))
+
+  times-right : (f : ℕ → Scan) (end : ℕ) → ((a : ℕ) → a ≤ end → Right end (f a)) → (n at : ℕ) → at ≤ end → Right end (times n f at)
+  unfolding times
+  times-right f end p zero at h = h
+  times-right f end p (suc n) at h = then-right (f at) _ (p at h) (λ a e b. times-right f end p n a b)
+
+  count-right : (low high end at : ℕ) → at ≤ end → Right end (scanCount low high s end at)
+  unfolding scanCount
+  count-right low high end at h =
+      cond-elim (Right end) (ltb at end)
+      (λ b. let lt = ltb-true at end b in
+      cond-elim (Right end) (leb low (byte s at) && leb (byte s at) high) (λ c. omega arith) (λ c. tells end 3 at (omega arith) (omega arith) lt))
+      (λ b. cut end at h)
+
+  list-right : (field : Field) (limit end at : ℕ) → at ≤ end → Right end (scanList field limit s end at)
+  unfolding scanList
+  list-right field limit end at h =
+      then-right (scanCount 0 limit s end at) _ (count-right 0 limit end at h) (λ a e b. times-right (scanField field s end) end (field-right field end) (byte s at) a b)
+
+  length-right : (end at : ℕ) → at ≤ end → Right end (scanLength s end at)
+  unfolding scanLength
+  length-right end at h =
+      cond-elim (Right end) (leb (at + 2) end)
+      (λ b. let l = leb-true (at + 2) end b in
+      cond-elim (Right end) (leb (word s at) (end - (at + 2))) (λ c. let le = leb-true (word s at) (end - (at + 2)) c in omega arith) (λ c. cut end at h))
+      (λ b. cut end at h)
+
+  mark-right : (low high end at : ℕ) → at ≤ end → Right end (scanMark low high s end at)
+  unfolding scanMark
+  mark-right low high end at h =
+      cond-elim (Right end) (ltb at end)
+      (λ b. let lt = ltb-true at end b in
+      cond-elim (Right end) (leb low (byte s at) && leb (byte s at) high) (λ c. omega arith) (λ c. tells end 6 at (omega arith) (omega arith) lt))
+      (λ b. cut end at h)
+
+  end-right : (end at : ℕ) → at ≤ end → Right end (scanEnd end at)
+  unfolding scanEnd
+  end-right end at h = cond-elim (Right end) (eqb at end) (λ c. h) (λ c. cut end at h)
+
+  -- an item's length, kind and visibility end by its end, the end by its container's
+  right-more : (end last : ℕ) (X : Scan) → end ≤ last → Right end X → Right last X
+  right-more end last (Next a) h p = omega arith
+  right-more end last (Bad n m) h t = told-more end last n m h t
+
+  head-right : (end at c u : ℕ) → at ≤ end → Right end (scanHead s end at c u)
+  unfolding scanHead
+  head-right end at c u h =
+      then-right (scanLength s end at) _ (length-right end at h) (λ next e b.
+      let l = length-next s end at e in
+      then-right (scanMark 1 6 s next (at + 2)) _ (right-more next end (scanMark 1 6 s next (at + 2)) b (mark-right 1 6 next (at + 2) (omega arith))) (λ v e' d.
+      let m = mark-next s next (at + 2) 1 6 e' in
+      then-right (scanMark 0 1 s next v) _ (right-more next end (scanMark 0 1 s next v) b (mark-right 0 1 next v (m .1))) (λ w e'' f.
+      cond-elim (Right end) (ltb c item-limit && leb (usesAfter s at u) use-limit) (λ t. b) (λ t. tells end 3 at (omega arith) (omega arith) (omega arith)))))
+
+  body-right : (end at : ℕ) → at + 4 ≤ end → Right end (scanBody s end at)
+  unfolding scanBody scanUse
+  body-right end at h =
+      cond-elim (Right end) (eqb (byte s (at + 2)) ignored-kind) (λ c. h) (λ c.
+      cond-elim (Right end) (eqb (byte s (at + 2)) use-kind)
+      (λ c. then-right (scanList Name segment-limit s end (at + 4)) _ (list-right Name segment-limit end (at + 4) h) (λ a e b. list-right Element element-limit end a b))
+      (λ c. name-right end (at + 4) h))
+
+  leaf-right : (next at c u : ℕ) → at + 4 ≤ next → RightWalk next (walkOn (andThen (scanBody s next at) (scanEnd next)) (λ past. Past past (c + 1) (usesAfter s at u)))
+  leaf-right next at c u h =
+      on-right (andThen (scanBody s next at) (scanEnd next)) _ (then-right (scanBody s next at) _ (body-right next at h) (λ a e b. end-right next a b)) (λ past e b. b)
+
+  item-right : (M : ℕ → ℕ → ℕ → ℕ → Walk) → ((next at c u : ℕ) → at + 4 ≤ next → RightWalk next (M next at c u)) → (end at c u : ℕ) → at ≤ end → RightWalk end (scanItemWith M s end at c u)
+  unfolding scanItemWith
+  item-right M p end at c u h =
+      on-right (scanHead s end at c u) _ (head-right end at c u h) (λ next e b.
+      let k = (head-next s end at c u e) .long in
+      cond-elim (RightWalk end) (eqb (byte s (at + 2)) module-kind)
+      (λ t. walk-more next end (M next at c u) b (p next at c u k))
+      (λ t. walk-more next end (walkOn (andThen (scanBody s next at) (scanEnd next)) (λ past. Past past (c + 1) (usesAfter s at u))) b (leaf-right next at c u k)))
+
+  siblings-right : (one : ℕ → ℕ → ℕ → Walk) (end : ℕ) → ((at c u : ℕ) → at ≤ end → RightWalk end (one at c u)) → (k at c u : ℕ) → at ≤ end → RightWalk end (siblings k one end at c u)
+  unfolding siblings
+  siblings-right one end p zero at c u h = h
+  siblings-right one end p (suc k) at c u h =
+      cond-elim (RightWalk end) (ltb at end) (λ t. walk-right (one at c u) _ (p at c u h) (siblings-right one end p k)) (λ t. h)
+
+  module-right : (depth next at c u : ℕ) → at + 4 ≤ next → RightWalk next (scanModule depth s next at c u)
+  unfolding scanModule
+  module-right zero next at c u h = tells next 3 at (omega arith) (omega arith) (omega arith)
+  module-right (suc depth) next at c u h =
+      on-right (scanName s next (at + 4)) _ (name-right next (at + 4) h) (λ inner e b.
+      siblings-right (scanItem depth s next) next (item-right (scanModule depth s) (module-right depth) next) (next - inner) inner (c + 1) u b)
+
+  items-right : (end at c u : ℕ) → at ≤ end → RightWalk end (siblings (end - at) (scanItem depth-limit s end) end at c u)
+  items-right end at c u h = siblings-right (scanItem depth-limit s end) end (item-right (scanModule depth-limit s) (module-right depth-limit) end) (end - at) at c u h
+
+  file-right : (end at c u : ℕ) → at ≤ end → RightWalk end (scanFile s end at c u)
+  unfolding scanFile
+  file-right end at c u h =
+      on-right (scanPath s end at) _ (path-right end at h) (λ l e b.
+      on-right (scanLength s end l) _ (length-right end l b) (λ next e' d.
+      let z = length-next s end l e' in
+      walk-more next end (siblings (next - (l + 2)) (scanItem depth-limit s next) next (l + 2) c u) d (items-right next (l + 2) c u (omega arith))))
+
+  files-right : (n end at c u : ℕ) → at ≤ end → RightWalk end (scanFiles n s end at c u)
+  unfolding scanFiles
+  files-right zero end at c u h = h
+  files-right (suc n) end at c u h = walk-right (scanFile s end at c u) _ (file-right end at c u h) (files-right n end)
+
+  header-right : Right (length s) (scanHeader s)
+  unfolding scanHeader
+  header-right =
+      cond-elim (Right (length s)) (ltb (length s) header) (λ a. cut (length s) 0 (omega arith)) (λ a.
+      let l = ltb-false (length s) header a in
+      cond-elim (Right (length s)) (eqb (byte s 0) version)
+      (λ b. cond-elim (Right (length s)) (ltb (length s - header) (word s 1)) (λ c. cut (length s) 1 (omega arith)) (λ c.
+      cond-elim (Right (length s)) (ltb (word s 1) (length s - header)) (λ d. let w = ltb-true (word s 1) (length s - header) d in cut (length s) (header + word s 1) (omega arith)) (λ d. l)))
+      (λ b. tells (length s) 2 0 (omega arith) (omega arith) (omega arith)))
+
+  pub form-right : RightForm (length s) (form s)
+  unfolding form lists files
+  form-right =
+      check-right (scanHeader s) _ header-right (λ root h0.
+      check-right (scanPath s (length s) root) _ (path-right (length s) root h0) (λ f h1.
+      check-right (scanList Path folder-limit s (length s) f) _ (list-right Path folder-limit (length s) f h1) (λ r h2.
+      check-right (scanList Remapping remapping-limit s (length s) r) _ (list-right Remapping remapping-limit (length s) r h2) (λ g h3.
+      check-right (scanCount 1 file-limit s (length s) g) _ (count-right 1 file-limit (length s) g h3) (λ a h4.
+      checked-walk (scanFiles (byte s g) s (length s) a 0 0) _ (files-right (byte s g) (length s) a 0 0 h4) (λ last h5.
+      check-right (scanEnd (length s) last) _ (end-right (length s) last h5) (λ _ h6. tt)))))))
+
+-- THE CONFLICTS
+abbrev pub Late : Checked → Type 0
+Late Ok = Unit {0}
+Late (Refused n p) = (7 ≤ n) × (n ≤ 13)
+
+pick : (P : Checked → Type 0) (b : Bool) {x y : Checked} → P x → P y → P (cond b x y)
 pick P true p q = p
 pick P false p q = q
 
-then-right : (X : Scan) (f : ℕ → Scan) → Right X → ((a : ℕ) → Right (f a)) → Right (andThen X f)
-then-right (Next a) f p q = q a
-then-right (Bad n m) f p q = p
-
-on-right : (X : Scan) (f : ℕ → Walk) → Right X → ((a : ℕ) → RightWalk (f a)) → RightWalk (walkOn X f)
-on-right (Next a) f p q = q a
-on-right (Bad n m) f p q = p
-
-walk-right : (X : Walk) (f : ℕ → ℕ → ℕ → Walk) → RightWalk X → ((a c u : ℕ) → RightWalk (f a c u)) → RightWalk (walkThen X f)
-walk-right (Past a c u) f p q = q a c u
-walk-right (Fault n m) f p q = p
-
-check-right : (X : Scan) (f : ℕ → Checked) → Right X → ((a : ℕ) → RightCheck (f a)) → RightCheck (thenOk X f)
-check-right (Next a) f p q = q a
-check-right (Bad n m) f p q = p
-
-checked-walk : (X : Walk) (f : ℕ → Checked) → RightWalk X → ((a : ℕ) → RightCheck (f a)) → RightCheck (afterWalk X f)
-checked-walk (Past a c u) f p q = q a
-checked-walk (Fault n m) f p q = p
-
-or-right : (a b : Checked) → RightCheck a → RightCheck b → RightCheck (orElse a b)
+or-right : (a b : Checked) → Late a → Late b → Late (orElse a b)
 or-right Ok b p q = q
 or-right (Refused n m) b p q = p
 
-module _ (s : List ℕ) where
-  string-right : (end at : ℕ) → Right (scanString s end at)
-  unfolding scanString
-  string-right end at = pick Right (ltb at end) (pick Right (leb (byte s at) (end - (at + 1))) tt (omega arith)) (omega arith)
-
-  formed-right : (form : List ℕ → Bool) (k : ℕ) → One k → (end at : ℕ) → Right (scanFormed form k s end at)
-  unfolding scanFormed
-  formed-right form k h end at = then-right (scanString s end at) _ (string-right end at) (λ next. pick Right (form (text s at)) tt h)
-
-  name-right : (end at : ℕ) → Right (scanName s end at)
-  name-right end at = formed-right isIdentifier 5 (omega arith) end at
-
-  path-right : (end at : ℕ) → Right (scanPath s end at)
-  path-right end at = formed-right isPath 4 (omega arith) end at
-
-  field-right : (field : Field) (end at : ℕ) → Right (scanField field s end at)
-  unfolding scanField scanAlias
-  field-right Path end at = path-right end at
-  field-right Name end at = name-right end at
-  field-right Element end at = then-right (scanName s end at) _ (name-right end at) (λ a. pick Right (ltb a end && eqb (byte s a) 0) tt (name-right end a))
-  field-right Remapping end at =
-      then-right (scanPath s end at) _ (path-right end at) (λ a. then-right (scanString s end a) _ (string-right end a) (path-right end))
-
-  times-right : (f : ℕ → Scan) → ((a : ℕ) → Right (f a)) → (n at : ℕ) → Right (times n f at)
-  unfolding times
-  times-right f p zero at = tt
-  times-right f p (suc n) at = then-right (f at) _ (p at) (times-right f p n)
-
-  count-right : (low high end at : ℕ) → Right (scanCount low high s end at)
-  unfolding scanCount
-  count-right low high end at = pick Right (ltb at end) (pick Right (leb low (byte s at) && leb (byte s at) high) tt (omega arith)) (omega arith)
-
-  list-right : (field : Field) (limit end at : ℕ) → Right (scanList field limit s end at)
-  unfolding scanList
-  list-right field limit end at = then-right (scanCount 0 limit s end at) _ (count-right 0 limit end at) (times-right (scanField field s end) (field-right field end) (byte s at))
-
-  length-right : (end at : ℕ) → Right (scanLength s end at)
-  unfolding scanLength
-  length-right end at = pick Right (leb (at + 2) end) (pick Right (leb (word s at) (end - (at + 2))) tt (omega arith)) (omega arith)
-
-  mark-right : (low high end at : ℕ) → Right (scanMark low high s end at)
-  unfolding scanMark
-  mark-right low high end at = pick Right (ltb at end) (pick Right (leb low (byte s at) && leb (byte s at) high) tt (omega arith)) (omega arith)
-
-  end-right : (end at : ℕ) → Right (scanEnd end at)
-  unfolding scanEnd
-  end-right end at = pick Right (eqb at end) tt (omega arith)
-
-  head-right : (end at c u : ℕ) → Right (scanHead s end at c u)
-  unfolding scanHead
-  head-right end at c u =
-      then-right (scanLength s end at) _ (length-right end at) (λ next.
-      then-right (scanMark 1 6 s next (at + 2)) _ (mark-right 1 6 next (at + 2)) (λ v.
-      then-right (scanMark 0 1 s next v) _ (mark-right 0 1 next v) (λ w. pick Right (ltb c item-limit && leb (usesAfter s at u) use-limit) tt (omega arith))))
-
-  body-right : (end at : ℕ) → Right (scanBody s end at)
-  unfolding scanBody scanUse
-  body-right end at =
-      pick Right (eqb (byte s (at + 2)) 6) tt
-      (pick Right (eqb (byte s (at + 2)) 3)
-      (then-right (scanList Name segment-limit s end (at + 4)) _ (list-right Name segment-limit end (at + 4)) (list-right Element element-limit end)) (name-right end (at + 4)))
-
-  item-right : (M : ℕ → ℕ → ℕ → ℕ → Walk) → ((next at c u : ℕ) → RightWalk (M next at c u)) → (end at c u : ℕ) → RightWalk (scanItemWith M s end at c u)
-  unfolding scanItemWith
-  item-right M p end at c u =
-      on-right (scanHead s end at c u) _ (head-right end at c u) (λ next.
-      pick RightWalk (eqb (byte s (at + 2)) 5) (p next at c u)
-      (on-right (andThen (scanBody s next at) (scanEnd next)) _ (then-right (scanBody s next at) _ (body-right next at) (end-right next)) (λ past. tt)))
-
-  siblings-right : (one : ℕ → ℕ → ℕ → Walk) → ((at c u : ℕ) → RightWalk (one at c u)) → (k end at c u : ℕ) → RightWalk (siblings k one end at c u)
-  unfolding siblings
-  siblings-right one p zero end at c u = tt
-  siblings-right one p (suc k) end at c u = pick RightWalk (ltb at end) (walk-right (one at c u) _ (p at c u) (siblings-right one p k end)) tt
-
-  module-right : (depth next at c u : ℕ) → RightWalk (scanModule depth s next at c u)
-  unfolding scanModule
-  module-right zero next at c u = omega arith
-  module-right (suc depth) next at c u =
-      on-right (scanName s next (at + 4)) _ (name-right next (at + 4)) (λ inner.
-      siblings-right (scanItem depth s next) (item-right (scanModule depth s) (module-right depth) next) (next - inner) next inner (c + 1) u)
-
-  file-right : (end at c u : ℕ) → RightWalk (scanFile s end at c u)
-  unfolding scanFile
-  file-right end at c u =
-      on-right (scanPath s end at) _ (path-right end at) (λ l.
-      on-right (scanLength s end l) _ (length-right end l) (λ next.
-      siblings-right (scanItem depth-limit s next) (item-right (scanModule depth-limit s) (module-right depth-limit) next) (next - (l + 2)) next (l + 2) c u))
-
-  files-right : (n end at c u : ℕ) → RightWalk (scanFiles n s end at c u)
-  unfolding scanFiles
-  files-right zero end at c u = tt
-  files-right (suc n) end at c u = walk-right (scanFile s end at c u) _ (file-right end at c u) (files-right n end)
-
-  header-right : Right (scanHeader s)
-  unfolding scanHeader
-  header-right =
-      pick Right (ltb (length s) 3) (omega arith)
-      (pick Right (eqb (byte s 0) 1)
-      (pick Right (ltb (length s - 3) (word s 1)) (omega arith) (pick Right (ltb (word s 1) (length s - 3)) (omega arith) tt)) (omega arith))
-
-  form-right : RightCheck (form s)
-  unfolding form lists files
-  form-right =
-      check-right (scanHeader s) _ header-right (λ root.
-      check-right (scanPath s (length s) root) _ (path-right (length s) root) (λ f.
-      check-right (scanList Path folder-limit s (length s) f) _ (list-right Path folder-limit (length s) f) (λ r.
-      check-right (scanList Remapping remapping-limit s (length s) r) _ (list-right Remapping remapping-limit (length s) r) (λ g.
-      check-right (scanCount 1 file-limit s (length s) g) _ (count-right 1 file-limit (length s) g) (λ a.
-      checked-walk (scanFiles (byte s g) s (length s) a 0 0) _ (files-right (byte s g) (length s) a 0 0) (λ last.
-      check-right (scanEnd (length s) last) _ (end-right (length s) last) (λ _. tt)))))))
-
-listed-right : (seen F : List Text) (ps : List Placed) → RightCheck (listed seen F ps)
+listed-right : (seen F : List Text) (ps : List Placed) → Late (listed seen F ps)
 unfolding listed
 listed-right seen F [] = tt
 listed-right seen F (p ∷ ps) =
-    pick RightCheck (member (p .string) seen) (omega arith) (pick RightCheck (any (directlyIn (p .string)) F) (listed-right (seen ++ (p .string ∷ [])) F ps) (omega arith))
+    pick Late (member (p .string) seen) (omega arith) (pick Late (any (directlyIn (p .string)) F) (listed-right (seen ++ (p .string ∷ [])) F ps) (omega arith))
 
-located-right : (F G : List Text) (p : Placed) → RightCheck (located F G p)
+located-right : (F G : List Text) (p : Placed) → Late (located F G p)
 unfolding located
-located-right F G p = pick RightCheck (member (p .string) F) tt (pick RightCheck (member (p .string) G) (omega arith) (omega arith))
+located-right F G p = pick Late (member (p .string) F) tt (pick Late (member (p .string) G) (omega arith) (omega arith))
 
-name-told-right : (p : Placed) → RightCheck (nameTold p)
+name-told-right : (p : Placed) → Late (nameTold p)
 unfolding nameTold
-name-told-right p = pick RightCheck (isCrate (p .string)) (omega arith) (pick RightCheck (isIdentifier (p .string) && not (isKeyword (p .string))) tt (omega arith))
+name-told-right p = pick Late (isCrate (p .string)) (omega arith) (pick Late (isIdentifier (p .string) && not (isKeyword (p .string))) tt (omega arith))
 
-remapped-right : (F G : List Text) (seen l : List PlacedRemapping) → RightCheck (remapped F G seen l)
+remapped-right : (F G : List Text) (seen l : List PlacedRemapping) → Late (remapped F G seen l)
 unfolding remapped
 remapped-right F G seen [] = tt
 remapped-right F G seen (r ∷ l) =
     or-right (located F G (r .context)) _ (located-right F G (r .context))
     (or-right (located F G (r .target)) _ (located-right F G (r .target))
     (or-right (nameTold (r .name)) _ (name-told-right (r .name))
-    (pick RightCheck (any (sameRemapping r) seen) (omega arith) (remapped-right F G (seen ++ (r ∷ [])) l))))
+    (pick Late (any (sameRemapping r) seen) (omega arith) (remapped-right F G (seen ++ (r ∷ [])) l))))
 
-conflicts-right : (s : List ℕ) → RightCheck (conflicts s)
+pub conflicts-right : (s : List ℕ) → Late (conflicts s)
 unfolding conflicts
 conflicts-right s = or-right (listed _ _ _) _ (listed-right _ _ _) (or-right (remapped _ _ _ _) _ (remapped-right _ _ _ _) (located-right _ _ _))
 
+-- BOTH
+abbrev One : Checked → Type 0
+One Ok = Unit {0}
+One (Refused n p) = (1 ≤ n) × (n ≤ 13)
+
 pub numbers : (s : List ℕ) (n p : ℕ) → verdict s ≡ Refused n p → (1 ≤ n) × (n ≤ 13)
 unfolding verdict
-numbers s n p e = rw e at (or-right (form s) (conflicts s) (form-right s) (conflicts-right s))
+numbers s n p e = rw e at (go (form s) (conflicts s) (form-right s) (conflicts-right s))
+  where
+    go : (a b : Checked) → RightForm (length s) a → Late b → One (orElse a b)
+    go Ok Ok p q = tt
+    go Ok (Refused n m) p q = let x = q .0 in (omega arith, q .1)
+    go (Refused n m) b p q = let x = p .most in (p .least, omega arith)

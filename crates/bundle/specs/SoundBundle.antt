@@ -21,6 +21,7 @@ use Rattle.bundle.specs.Stand.{Bytes, Stands, stands-then, stands-length
 use Rattle.bundle.specs.Sound.{Read, CountRead, formed-read, remapping-read, count-read}
 use Rattle.bundle.specs.SoundItems.{ItemsAre, items-are-read}
 use Rattle.bundle.specs.Read.{form, lists, files, afterWalk}
+use Rattle.bundle.specs.Answers.{refused-ok}
 use Rattle.bundle.specs.Read.{after as thenOk}
 use Rattle.bundle.specs.declared.Scan.{Scan}
 use Rattle.bundle.specs.declared.Scan.the-variants.{Next, Bad}
@@ -31,9 +32,6 @@ use Rattle.bundle.specs.declared.Checked.{Checked}
 use Rattle.bundle.specs.declared.Checked.the-variants.{Ok, Refused}
 
 -- WHAT WAS NOT REFUSED
-refused-ok : {n p : ℕ} → Refused n p ≡ Ok → ⊥
-refused-ok e = let z : _≡_ {A = ℕ} 0 1 = cc in omega arith
-
 pub record Went (X : Scan) (f : ℕ → Checked) : Type 0 where
   pub mid : ℕ
   pub first : X ≡ Next mid

@@ -11,18 +11,15 @@ use Rattle.bundle.specs.Encode.{string, joined, sized, remapping, file, 
 use Rattle.bundle.specs.Encode.{counted as count-list}
 use Rattle.bundle.specs.Decode.{decode}
 use Rattle.bundle.specs.Conflicts.{orElse, conflicts}
+use Rattle.bundle.specs.Answers.{both-ok, value-ok}
 use Rattle.bundle.specs.Form.{Unconflicted, WellFormed, firstFile}
 use Rattle.bundle.specs.Stand.{Bytes, at-append}
 use Rattle.bundle.specs.SoundBundle.{form-sound}
 use Rattle.bundle.specs.CompleteBundle.{form-complete}
 use Rattle.bundle.specs.Free.{conflicts-free, free-conflicts}
 use Rattle.bundle.specs.Marks.{fileMarks, rising-less, files-rising, FoundFiles, files-found, behind-length}
-use Rattle.bundle.specs.Read.{form, verdict, value, refused, reading, read}
-use Rattle.bundle.specs.declared.Checked.{Checked}
+use Rattle.bundle.specs.Read.{form, verdict, value, refused, read}
 use Rattle.bundle.specs.declared.Checked.the-variants.{Ok, Refused}
-
-refused-ok : {n p : ℕ} → Refused n p ≡ Ok → ⊥
-refused-ok e = let z : _≡_ {A = ℕ} 0 1 = cc in omega arith
 
 -- REFUSAL AND ACCEPTANCE
 pub exclusive : (s : List ℕ) (b : Bundle) (n p : ℕ) → read s ≡ value b → read s ≡ refused n p → ⊥
@@ -36,17 +33,6 @@ accepted s h = rw h
 pub told : (s : List ℕ) (n p : ℕ) → verdict s ≡ Refused n p → read s ≡ refused n p
 unfolding read
 told s n p h = rw h
-
-value-ok : (c : Checked) (d b : Bundle) → reading c d ≡ value b → (c ≡ Ok) × (d ≡ b)
-value-ok Ok d b h = (refl, cc)
-value-ok (Refused n p) d b h = absurd (no h)
-  where
-    no : refused n p ≡ value b → ⊥
-    no e = let z : _≡_ {A = ℕ} 0 1 = cc in omega arith
-
-both-ok : (a c : Checked) → orElse a c ≡ Ok → (a ≡ Ok) × (c ≡ Ok)
-both-ok Ok c h = (refl, h)
-both-ok (Refused n p) c h = absurd (refused-ok h)
 
 -- ACCEPTED BYTES are the encoding of their value, which is well-formed
 pub sound : (s : List ℕ) → Bytes s → (b : Bundle) → read s ≡ value b → (s ≡ encode b) × WellFormed b
