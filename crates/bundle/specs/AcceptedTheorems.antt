@@ -15,11 +15,12 @@ use Rattle.names.specs.Identifier.{isIdentifier}
 use Rattle.names.specs.Keywords.{isCrate, isKeyword}
 use Rattle.names.specs.FolderTheorems.{directly-in-parent}
 use Rattle.bundle.specs.Bundle.{Text, Remapping, File, Bundle}
-use Rattle.bundle.specs.Limits.{folder-limit, remapping-limit, file-limit, item-limit, use-limit}
+use Rattle.bundle.specs.Limits.{folder-limit, remapping-limit, file-limit, item-limit, use-limit, depth-limit}
+use Rattle.bundle.specs.Encode.{fields}
 use Rattle.bundle.specs.Conflicts.{any}
 use Rattle.bundle.specs.Stand.{Bytes}
 use Rattle.bundle.specs.Read.{value, read}
-use Rattle.bundle.specs.Form.{Every, IsPath, IsName, FormedRemapping, FormedFile, fileItems, fileUses, fresh, usable, alike, usableAll, withSlash, WellFormed}
+use Rattle.bundle.specs.Form.{Every, IsPath, IsName, FormedRemapping, FormedFile, Formed, fileItems, fileUses, fresh, usable, alike, usableAll, withSlash, WellFormed}
 use Rattle.bundle.specs.Theorems.{sound}
 
 -- the paths that are listed, folders before files
@@ -40,11 +41,14 @@ pub record Accepted (b : Bundle) : Type 0 where
   pub remapping-count : length (b .remappings) ≤ remapping-limit
   pub item-count : fileItems (b .files) ≤ item-limit
   pub use-count : fileUses (b .files) ≤ use-limit
-  -- 4: every path is in form
+  -- the header's length counts it
+  pub size : length (fields b) < 65536
+  -- 4 to 6: every path and every item is in form
   pub root-path : IsPath (b .root)
   pub paths : (p : Text) → List·Memᴰ p (pathsListed b) → IsPath p
   pub context-path : (r : Remapping) → List·Memᴰ r (b .remappings) → IsPath (r .context)
   pub target-path : (r : Remapping) → List·Memᴰ r (b .remappings) → IsPath (r .target)
+  pub items : (f : File) → List·Memᴰ f (b .files) → Formed (f .items) depth-limit
   -- 7: every two listed paths differ, and none is `/`
   pub path-once : (i j : ℕ) → i < length (pathsListed b) → j < length (pathsListed b) → getD (pathsListed b) i [] ≡ getD (pathsListed b) j [] → i ≡ j
   pub not-slash : List·Memᴰ slash-path (pathsListed b) → ⊥
@@ -261,10 +265,12 @@ module _ (b : Bundle) (w : WellFormed b) where
         remapping-count = w .form .remapping-count;
         item-count = w .form .item-count;
         use-count = w .form .use-count;
+        size = w .form .size;
         root-path = w .form .root;
         paths = path-form;
         context-path = λ r m. each r m .0;
         target-path = λ r m. each r m .1 .1;
+        items = λ f m. every-mem FormedFile (b .files) (w .form .files) f m .1;
         path-once = fresh-once (withSlash b) (slash-path ∷ []) (pathsListed b) (w .free .paths);
         not-slash = λ m. fresh-new (withSlash b) (slash-path ∷ []) (pathsListed b) (w .free .paths) slash-path m (List·Memᴰ·head refl);
         parents = parent-listed;

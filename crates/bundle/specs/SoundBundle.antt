@@ -2,7 +2,7 @@
 use Prim.Native.Nat.{ℕ, zero, suc, _+_, _-_, _≤_, _<_}
 use native.Mathlib.Omega.{arith}
 use mathlib.Core.Bool.{Bool, true, false, cond}
-use mathlib.Core.Path.{_≡_, refl, sym, ap, _∙_}
+use mathlib.Core.Path.{_≡_, refl, sym, ap, subst, _∙_}
 use mathlib.Core.List.{List, [], _∷_, _++_, append-nil}
 use lib.Dec.{eqb, ltb}
 use lib.ListN.{length}
@@ -12,21 +12,23 @@ use Rattle.names.specs.Path.{isPath}
 use Rattle.bundle.specs.Limits.{version, header, folder-limit, remapping-limit, file-limit, item-limit, use-limit, depth-limit}
 use Rattle.bundle.specs.Encode.{string, joined, sized, items, remapping, file, fields, encode}
 use Rattle.bundle.specs.Encode.{counted as count-list}
-use Rattle.bundle.specs.Scan.{byte, word, text, scanPath, scanField, scanCount, scanList, scanLength, scanEnd, scanFile, scanFiles, scanHeader}
-use Rattle.bundle.specs.Decode.{each, far, counted, after, afterRemapping, afterLength, afterFile, remappingAt, fileAt, itemsAt, foldersAt, remappingsAt, filesAt, decode}
-use Rattle.bundle.specs.Steps.{length-next, count-next, end-next, walked-on, walked-then}
+use Rattle.bundle.specs.Scan.{byte, word, text, times, scanString, scanPath, scanField, scanCount, scanList, scanLength, scanEnd, scanFile, scanFiles, scanHeader}
+use Rattle.bundle.specs.Decode.{each, far, counted, after, afterRemapping, afterLength, afterFile, afterList, remappingAt, fileAt, itemsAt, foldersAt, remappingsAt, filesAt, decode}
+use Rattle.bundle.specs.Conflicts.{orElse, conflicts}
+use Rattle.bundle.specs.Steps.{string-next, formed-next, length-next, count-next, end-next, read-then, walked-on, walked-then}
 use Rattle.bundle.specs.Walks.{file-goes}
 use Rattle.bundle.specs.Form.{Every, IsPath, FormedRemapping, FormedFile, Marked, MarkedFiles, itemCount, useCount, fileItems, fileUses, InForm}
 use Rattle.bundle.specs.Stand.{Bytes, Stands, stands-then, stands-length, stands-byte, stands-sized}
 use Rattle.bundle.specs.Sound.{Read, CountRead, formed-read, remapping-read, count-read}
 use Rattle.bundle.specs.SoundItems.{ItemsAre, items-are-read}
-use Rattle.bundle.specs.Read.{form, lists, files, afterWalk}
+use Rattle.bundle.specs.Read.{form, lists, files, verdict, afterWalk}
 use Rattle.bundle.specs.Answers.{refused-ok}
 use Rattle.bundle.specs.Read.{after as thenOk}
 use Rattle.bundle.specs.declared.Scan.{Scan}
 use Rattle.bundle.specs.declared.Scan.the-variants.{Next, Bad}
 use Rattle.bundle.specs.declared.Walk.{Walk}
 use Rattle.bundle.specs.declared.Walk.the-variants.{Past, Fault}
+use Rattle.bundle.specs.declared.Field.{Field}
 use Rattle.bundle.specs.declared.Field.the-variants.{Path, Remapping as RemappingField}
 use Rattle.bundle.specs.declared.Checked.{Checked}
 use Rattle.bundle.specs.declared.Checked.the-variants.{Ok, Refused}
@@ -78,6 +80,72 @@ header-is s n h =
         let m : word s 1 ≤ length s - header = ltb-false _ _ r in
         let k : length s - header ≤ word s 1 = ltb-false _ _ t in
         record { at = sym x; long = l; is-version = eqb-true _ _ q; counts = omega arith }
+
+-- WHERE THE LISTS STAND that were not refused: of any numbers, bytes or not
+path-next : (s : List ℕ) (end a n : ℕ) → scanPath s end a ≡ Next n → n ≡ after s a
+path-next s end a n h = string-next s end a (formed-next s end a isPath 4 h .0) .1
+
+remapping-next : (s : List ℕ) (end a n : ℕ) → scanField RemappingField s end a ≡ Next n → n ≡ afterRemapping s a
+unfolding scanField
+remapping-next s end a n h =
+    let m = read-then (scanPath s end a) h in
+    let k = read-then (scanString s end (m .mid)) (m .second) in
+    path-next s end (k .mid) n (k .second) ∙ ap (after s) (string-next s end (m .mid) (k .first) .1 ∙ ap (after s) (path-next s end a (m .mid) (m .first)))
+
+times-far : (n : ℕ) (f : ℕ → Scan) (skip : ℕ → ℕ) (at x : ℕ) → ((a y : ℕ) → f a ≡ Next y → y ≡ skip a) → times n f at ≡ Next x → x ≡ far skip n at
+unfolding times far
+times-far zero f skip at x k h = cc
+times-far (suc n) f skip at x k h =
+    let m = read-then (f at) h in
+    times-far n f skip (m .mid) x k (m .second) ∙ ap (far skip n) (k at (m .mid) (m .first))
+
+list-next : (field : Field) (limit : ℕ) (s : List ℕ) (end at x : ℕ) (skip : ℕ → ℕ) → ((a y : ℕ) → scanField field s end a ≡ Next y → y ≡ skip a)
+    → scanList field limit s end at ≡ Next x → x ≡ afterList skip s at
+unfolding scanList
+list-next field limit s end at x skip k h =
+    let m = read-then (scanCount 0 limit s end at) h in
+    times-far (byte s at) (scanField field s end) skip (m .mid) x k (m .second) ∙ ap (far skip (byte s at)) (count-next s end at 0 limit (m .first) .0)
+
+-- a list that was read has no more than its limit
+pub list-few : (field : Field) (limit : ℕ) (s : List ℕ) (end at x : ℕ) → scanList field limit s end at ≡ Next x → byte s at ≤ limit
+unfolding scanList
+list-few field limit s end at x h = let m = read-then (scanCount 0 limit s end at) h in count-next s end at 0 limit (m .first) .3
+
+pub record Parts (s : List ℕ) : Type 0 where
+  pub headed : HeaderIs s header
+  pub root : scanPath s (length s) header ≡ Next (foldersAt s)
+  pub folders : scanList Path folder-limit s (length s) (foldersAt s) ≡ Next (remappingsAt s)
+  pub remappings : scanList RemappingField remapping-limit s (length s) (remappingsAt s) ≡ Next (filesAt s)
+  pub files-pass : files s (filesAt s) ≡ Ok
+
+pub form-parts : (s : List ℕ) → form s ≡ Ok → Parts s
+unfolding form lists scanField
+form-parts s h =
+    let m = went-on (scanHeader s) h in
+    let H = header-is s (m .mid) (m .first) in
+    let r = went-on (scanPath s (length s) (m .mid)) (m .second) in
+    let x : r .mid ≡ foldersAt s = path-next s (length s) (m .mid) (r .mid) (r .first) ∙ ap (after s) (H .at) in
+    let f = went-on (scanList Path folder-limit s (length s) (r .mid)) (r .second) in
+    let y : f .mid ≡ remappingsAt s = list-next Path folder-limit s (length s) (r .mid) (f .mid) (after s) (path-next s (length s)) (f .first) ∙ ap (afterList (after s) s) x in
+    let g = went-on (scanList RemappingField remapping-limit s (length s) (f .mid)) (f .second) in
+    let z : g .mid ≡ filesAt s =
+    list-next RemappingField remapping-limit s (length s) (f .mid) (g .mid) (afterRemapping s) (remapping-next s (length s)) (g .first) ∙ ap (afterList (afterRemapping s) s) y in
+    record {
+      headed = subst (HeaderIs s) (H .at) H;
+      root = ap (scanPath s (length s)) (sym (H .at)) ∙ (r .first ∙ ap Next x);
+      folders = ap (scanList Path folder-limit s (length s)) (sym x) ∙ (f .first ∙ ap Next y);
+      remappings = ap (scanList RemappingField remapping-limit s (length s)) (sym y) ∙ (g .first ∙ ap Next z);
+      files-pass = ap (files s) (sym z) ∙ g .second;
+    }
+
+both-ok : (a c : Checked) → orElse a c ≡ Ok → (a ≡ Ok) × (c ≡ Ok)
+both-ok Ok c h = (refl, h)
+both-ok (Refused n p) c h = absurd (refused-ok h)
+
+-- neither 1 to 6 nor 7 to 13
+pub both-pass : (s : List ℕ) → verdict s ≡ Ok → (form s ≡ Ok) × (conflicts s ≡ Ok)
+unfolding verdict
+both-pass s h = both-ok (form s) (conflicts s) h
 
 -- FILES
 pub record FilesAre (s : List ℕ) (end n at c u a c' u' : ℕ) : Type 0 where
@@ -239,44 +307,21 @@ module _ (s : List ℕ) (B : Bytes s) (E : length s ≤ length s) where
         encoded = zero-up ∙ rw (drop-length s) (ap (λ (l : List ℕ). byte s 0 ∷ l) (append-nil (sized (X1 ++ (X2 ++ (X3 ++ X4))))) ∙ rw (H .is-version));
       }
 
-module _ (s : List ℕ) (B : Bytes s) (E : length s ≤ length s) where
-  at-places : (f r g a c u : ℕ) → HeaderIs s header → Read s (length s) IsPath string (after s) (text s) header f
-      → CountRead s B (length s) E IsPath string (after s) (text s) 0 folder-limit f r
-      → CountRead s B (length s) E FormedRemapping remapping (afterRemapping s) (remappingAt s) 0 remapping-limit r g
-      → 1 ≤ byte s g → byte s g ≤ file-limit → g < length s
-      → FilesAre s (length s) (byte s g) (g + 1) 0 0 a c u → a ≡ length s → c ≤ item-limit → u ≤ use-limit → Sound s
-  at-places f r g a c u H R F M low high lt G last hc hu =
-      let ef : f ≡ foldersAt s = R .ends in
-      let F1 : CountRead s B (length s) E IsPath string (after s) (text s) 0 folder-limit (foldersAt s) r = rw ef at F in
-      let er : r ≡ remappingsAt s = F1 .ends in
-      let M1 : CountRead s B (length s) E FormedRemapping remapping (afterRemapping s) (remappingAt s) 0 remapping-limit (remappingsAt s) g = rw er at M in
-      let eg : g ≡ filesAt s = M1 .ends in
-      put-together s B E a c u H (rw ef at R) (rw er at F1) (rw eg at M1) (rw eg at low) (rw eg at high) (rw eg at lt) (rw eg at G) last hc hu
-
 pub form-sound : (s : List ℕ) → Bytes s → form s ≡ Ok → Sound s
-unfolding form lists files scanList scanField
+unfolding files scanList scanField
 form-sound s B h =
     let E : length s ≤ length s = omega arith in
-    let m0 = went-on (scanHeader s) h in
-    let H0 = header-is s (m0 .mid) (m0 .first) in
-    let m1 = went-on (scanPath s (length s) (m0 .mid)) (m0 .second) in
-    let R0 = formed-read s B (length s) E isPath 4 (m0 .mid) (m1 .mid) (m1 .first) in
-    let m2 = went-on (scanList Path folder-limit s (length s) (m1 .mid)) (m1 .second) in
-    let F = count-read s B (length s) E IsPath string (after s) (text s) (scanPath s (length s)) (formed-read s B (length s) E isPath 4) 0 folder-limit (m1 .mid) (m2 .mid) (m2 .first) in
-    let m3 = went-on (scanList RemappingField remapping-limit s (length s) (m2 .mid)) (m2 .second) in
-    let M = count-read s B (length s) E FormedRemapping remapping (afterRemapping s) (remappingAt s) (scanField RemappingField s (length s)) (remapping-read s B (length s) E) 0 remapping-limit (m2 .mid) (m3 .mid) (m3 .first) in
-    let m4 = went-on (scanCount 1 file-limit s (length s) (m3 .mid)) (m3 .second) in
-    let c4 = count-next s (length s) (m3 .mid) 1 file-limit (m4 .first) in
-    let m5 = went-walk (scanFiles (byte s (m3 .mid)) s (length s) (m4 .mid) 0 0) (m4 .second) in
-    let G0 = files-are s B (length s) E (byte s (m3 .mid)) (m4 .mid) 0 0 (m5 .at) (m5 .count) (m5 .uses) (c4 .1) (omega arith) (omega arith) (m5 .first) in
-    let m6 = went-on (scanEnd (length s) (m5 .at)) (m5 .second) in
-    let e6 = end-next s (length s) (m5 .at) (m6 .first) in
-    finish E (m0 .mid) (m1 .mid) (m2 .mid) (m3 .mid) (m4 .mid) (m5 .at) (m5 .count) (m5 .uses) H0 R0 F M (c4 .0) (c4 .1) (c4 .2) (c4 .3) (G0 .0) (e6 .0) (G0 .1) (G0 .2)
-  where
-    finish : (E : length s ≤ length s) (n f r g k a c u : ℕ) → HeaderIs s n → Read s (length s) IsPath string (after s) (text s) n f
-        → CountRead s B (length s) E IsPath string (after s) (text s) 0 folder-limit f r
-        → CountRead s B (length s) E FormedRemapping remapping (afterRemapping s) (remappingAt s) 0 remapping-limit r g
-        → k ≡ g + 1 → k ≤ length s → 1 ≤ byte s g → byte s g ≤ file-limit
-        → FilesAre s (length s) (byte s g) k 0 0 a c u → a ≡ length s → c ≤ item-limit → u ≤ use-limit → Sound s
-    finish E n f r g k a c u H R F M ek wk low high G last hc hu =
-        at-places s B E f r g a c u (rw (H .at) at H) (rw (H .at) at R) F M low high (omega arith) (rw ek at G) last hc hu
+    let p = form-parts s h in
+    let R = formed-read s B (length s) E isPath 4 header (foldersAt s) (p .root) in
+    let F = count-read s B (length s) E IsPath string (after s) (text s) (scanPath s (length s)) (formed-read s B (length s) E isPath 4) 0 folder-limit (foldersAt s) (remappingsAt s) (p .folders) in
+    let M = count-read s B (length s) E FormedRemapping remapping (afterRemapping s) (remappingAt s) (scanField RemappingField s (length s)) (remapping-read s B (length s) E) 0 remapping-limit (remappingsAt s) (filesAt s) (p .remappings) in
+    let m = went-on (scanCount 1 file-limit s (length s) (filesAt s)) (p .files-pass) in
+    let c = count-next s (length s) (filesAt s) 1 file-limit (m .first) in
+    let w = went-walk (scanFiles (byte s (filesAt s)) s (length s) (m .mid) 0 0) (m .second) in
+    let G = files-are s B (length s) E (byte s (filesAt s)) (m .mid) 0 0 (w .at) (w .count) (w .uses) (c .1) (omega arith) (omega arith) (w .first) in
+    let l = went-on (scanEnd (length s) (w .at)) (w .second) in
+    let e = end-next s (length s) (w .at) (l .first) in
+    let G' = subst (λ (k : ℕ). FilesAre s (length s) (byte s (filesAt s)) k 0 0 (w .at) (w .count) (w .uses)) (c .0) (G .0) in
+    let x = c .0 in
+    let y = c .1 in
+    put-together s B E (w .at) (w .count) (w .uses) (p .headed) R F M (c .2) (c .3) (omega arith) G' (e .0) (G .1) (G .2)

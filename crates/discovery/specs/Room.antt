@@ -2,7 +2,7 @@
 use Prim.Native.Nat.{ℕ, zero, suc, _+_, _-_, _≤_, _<_}
 use native.Mathlib.Omega.{arith}
 use mathlib.Core.Bool.{Bool, true, false, cond}
-use mathlib.Core.Path.{_≡_, refl, sym, ap, subst, _∙_}
+use mathlib.Core.Path.{_≡_, refl, sym, ap, _∙_}
 use mathlib.Core.List.{List, [], _∷_}
 use lib.Dec.{eqb, ltb}
 use lib.ListN.{length, length-append}
@@ -10,21 +10,16 @@ use borrow.Author.Tests.{ltb-true, ltb-false}
 use Rattle.names.specs.Identifier.{isIdentifier}
 use Rattle.names.specs.Path.{isPath}
 use Rattle.bundle.specs.Bundle.{File, Bundle}
-use Rattle.bundle.specs.Limits.{version, header, folder-limit, remapping-limit, file-limit, use-limit, item-limit, use-kind, module-kind, depth-limit}
-use Rattle.bundle.specs.Scan.{byte, word, text, andThen, scanName, scanPath, scanLength, usesAfter, scanHead, scanBody, scanEnd, walkOn, walkThen, scanItemWith, siblings, scanModule, scanItem, scanFile, scanFiles, times, scanString, scanField, scanCount, scanList, scanHeader}
+use Rattle.bundle.specs.Limits.{folder-limit, file-limit, use-limit, item-limit, use-kind, module-kind, depth-limit}
+use Rattle.bundle.specs.Scan.{byte, text, andThen, scanName, scanPath, scanLength, usesAfter, scanHead, scanBody, scanEnd, walkOn, walkThen, scanItemWith, siblings, scanModule, scanItem, scanFile, scanFiles, scanCount}
 use Rattle.bundle.specs.Steps.{string-next, formed-next, length-next, count-next, end-next, Head, head-next, read-then, walked-on, walked-then}
 use Rattle.bundle.specs.Walks.{file-goes}
-use Rattle.bundle.specs.Decode.{each, far, after, afterLength, afterRemapping, afterFile, afterList, fileAt, foldersAt, remappingsAt, filesAt, decode}
-use Rattle.bundle.specs.Conflicts.{orElse, conflicts}
-use Rattle.bundle.specs.Read.{form, lists, files, verdict, afterWalk}
-use Rattle.bundle.specs.Read as read
-use Rattle.bundle.specs.declared.Checked.{Checked}
-use Rattle.bundle.specs.declared.Checked.the-variants.{Ok, Refused}
-use Rattle.bundle.specs.declared.Field.{Field}
-use Rattle.bundle.specs.declared.Field.the-variants.{Path, Remapping}
-use Rattle.bundle.specs.declared.Scan.{Scan}
-use Rattle.bundle.specs.declared.Scan.the-variants.{Next, Bad}
-use Rattle.bundle.specs.declared.Walk.{Walk}
+use Rattle.bundle.specs.Decode.{each, after, afterLength, afterFile, fileAt, foldersAt, remappingsAt, filesAt, decode}
+use Rattle.bundle.specs.Read.{files, verdict}
+use Rattle.bundle.specs.ListLaws.{each-length}
+use Rattle.bundle.specs.SoundBundle.{went-on, went-walk, list-few, form-parts, both-pass}
+use Rattle.bundle.specs.declared.Checked.the-variants.{Ok}
+use Rattle.bundle.specs.declared.Field.the-variants.{Path}
 use Rattle.bundle.specs.declared.Walk.the-variants.{Past, Fault}
 use Rattle.discovery.specs.Discovery.{Use, uses}
 use Rattle.discovery.specs.Walk.{useAt, usesAt, usesInside, itemUses, uses-end, uses-step}
@@ -180,51 +175,6 @@ files-right (suc n) s end at c u a c' u' hc hu h =
     (omega arith, r .1)
 
 -- A CHECKED BUNDLE
-not-ok : (n p : ℕ) → Refused n p ≡ Ok → ⊥
-not-ok n p e = let z : _≡_ {A = ℕ} 0 1 = cc in omega arith
-
-record Passed (X : Scan) (f : ℕ → Checked) : Type 0 where
-  mid : ℕ
-  first : X ≡ Next mid
-  second : f mid ≡ Ok
-
-passed : (X : Scan) {f : ℕ → Checked} → read.after X f ≡ Ok → Passed X f
-passed (Next at) h = record { mid = at; first = refl; second = h }
-passed (Bad n p) h = absurd (not-ok n p h)
-
-walked : (X : Walk) (f : ℕ → Checked) → afterWalk X f ≡ Ok → (a c u : ℕ) × (X ≡ Past a c u)
-walked (Past a c u) f h = (a, c, u, refl)
-walked (Fault n p) f h = absurd (not-ok n p h)
-
-times-far : (n : ℕ) (f : ℕ → Scan) (skip : ℕ → ℕ) (at x : ℕ) → ((a y : ℕ) → f a ≡ Next y → y ≡ skip a) → times n f at ≡ Next x → x ≡ far skip n at
-unfolding times far
-times-far zero f skip at x k h = cc
-times-far (suc n) f skip at x k h =
-    let m = read-then (f at) h in
-    times-far n f skip (m .mid) x k (m .second) ∙ ap (far skip n) (k at (m .mid) (m .first))
-
-path-next : (s : List ℕ) (end a y : ℕ) → scanPath s end a ≡ Next y → y ≡ after s a
-path-next s end a y h = string-next s end a (formed-next s end a isPath 4 h .0) .1
-
-remapping-next : (s : List ℕ) (end a y : ℕ) → scanField Remapping s end a ≡ Next y → y ≡ afterRemapping s a
-unfolding scanField
-remapping-next s end a y h =
-    let m = read-then (scanPath s end a) h in
-    let n = read-then (scanString s end (m .mid)) (m .second) in
-    path-next s end (n .mid) y (n .second) ∙ ap (after s) (string-next s end (m .mid) (n .first) .1 ∙ ap (after s) (path-next s end a (m .mid) (m .first)))
-
-list-next : (field : Field) (limit : ℕ) (s : List ℕ) (end at x : ℕ) (skip : ℕ → ℕ) → ((a y : ℕ) → scanField field s end a ≡ Next y → y ≡ skip a)
-    → scanList field limit s end at ≡ Next x → x ≡ afterList skip s at
-unfolding scanList
-list-next field limit s end at x skip k h =
-    let m = read-then (scanCount 0 limit s end at) h in
-    times-far (byte s at) (scanField field s end) skip (m .mid) x k (m .second) ∙ ap (far skip (byte s at)) (count-next s end at 0 limit (m .first) .0)
-
--- a list that was read has no more than its limit
-list-few : (field : Field) (limit : ℕ) (s : List ℕ) (end at x : ℕ) → scanList field limit s end at ≡ Next x → byte s at ≤ limit
-unfolding scanList
-list-few field limit s end at x h = let m = read-then (scanCount 0 limit s end at) h in count-next s end at 0 limit (m .first) .3
-
 -- at least one file, and no more files, folders and uses than the arrays hold
 pub record Roomy (b : Bundle) : Type 0 where
   pub some : 0 < length (b .files)
@@ -232,54 +182,24 @@ pub record Roomy (b : Bundle) : Type 0 where
   pub uses : totalUses (b .files) ≤ use-limit
   pub folders : length (b .folders) ≤ folder-limit
 
-pub length-each : {A : Type 0} (skip : ℕ → ℕ) (get : ℕ → A) (n at : ℕ) → length (each skip get n at) ≡ n
-unfolding each
-length-each skip get zero at = refl
-length-each skip get (suc n) at = ap suc (length-each skip get n (skip at))
-
 files-roomy : (s : List ℕ) (at : ℕ) → files s at ≡ Ok
     → (0 < byte s at) × (byte s at ≤ file-limit) × (totalUses (each (afterFile s) (fileAt s) (byte s at) (at + 1)) ≤ use-limit)
 unfolding files
 files-roomy s at h =
-    let m = passed (scanCount 1 file-limit s (length s) at) h in
+    let m = went-on (scanCount 1 file-limit s (length s) at) h in
     let k = count-next s (length s) at 1 file-limit (m .first) in
-    let w = walked (scanFiles (byte s at) s (length s) (m .mid) 0 0) _ (m .second) in
-    let r = files-right (byte s at) s (length s) (m .mid) 0 0 (w .0) (w .1) (w .2) (omega arith) (omega arith) (w .3) in
+    let w = went-walk (scanFiles (byte s at) s (length s) (m .mid) 0 0) (m .second) in
+    let r = files-right (byte s at) s (length s) (m .mid) 0 0 (w .at) (w .count) (w .uses) (omega arith) (omega arith) (w .first) in
     let e = ap (λ (n : ℕ). totalUses (each (afterFile s) (fileAt s) (byte s at) n)) (k .0) in
     let x = r .0 in
     (k .2, k .3, omega (arith, r .1))
 
-header-next : (s : List ℕ) (n : ℕ) → scanHeader s ≡ Next n → n ≡ header
-unfolding scanHeader
-header-next s n h = go (ltb (length s) header) (eqb (byte s 0) version) (ltb (length s - header) (word s 1)) (ltb (word s 1) (length s - header)) h
-  where
-    no : (k p : ℕ) → Bad k p ≡ Next n → ⊥
-    no k p e = let z : _≡_ {A = ℕ} 0 1 = cc in omega arith
-
-    go : (b1 b2 b3 b4 : Bool) → cond b1 (Bad 1 0) (cond b2 (cond b3 (Bad 1 1) (cond b4 (Bad 1 (header + word s 1)) (Next header))) (Bad 2 0)) ≡ Next n → n ≡ header
-    go true b2 b3 b4 e = absurd (no 1 0 e)
-    go false false b3 b4 e = absurd (no 2 0 e)
-    go false true true b4 e = absurd (no 1 1 e)
-    go false true false true e = absurd (no 1 (header + word s 1) e)
-    go false true false false e = cc
-
 pub checked-roomy : (s : List ℕ) → verdict s ≡ Ok → Roomy (decode s)
-unfolding verdict form lists decode scanField
-checked-roomy s h = go (form s) refl h
-  where
-    go : (c : Checked) → form s ≡ c → orElse c (conflicts s) ≡ Ok → Roomy (decode s)
-    go (Refused n p) e q = absurd (not-ok n p q)
-    go Ok e q =
-        let a = passed (scanHeader s) e in
-        let b = passed (scanPath s (length s) (a .mid)) (a .second) in
-        let c = passed (scanList Path folder-limit s (length s) (b .mid)) (b .second) in
-        let d = passed (scanList Remapping remapping-limit s (length s) (c .mid)) (c .second) in
-        let x : b .mid ≡ foldersAt s = path-next s (length s) (a .mid) (b .mid) (b .first) ∙ ap (after s) (header-next s (a .mid) (a .first)) in
-        let y : c .mid ≡ remappingsAt s = list-next Path folder-limit s (length s) (b .mid) (c .mid) (after s) (path-next s (length s)) (c .first) ∙ ap (afterList (after s) s) x in
-        let z : d .mid ≡ filesAt s =
-        list-next Remapping remapping-limit s (length s) (c .mid) (d .mid) (afterRemapping s) (remapping-next s (length s)) (d .first) ∙ ap (afterList (afterRemapping s) s) y in
-        let r = files-roomy s (filesAt s) (ap (files s) (sym z) ∙ d .second) in
-        let n = length-each (afterFile s) (fileAt s) (byte s (filesAt s)) (filesAt s + 1) in
-        let o = length-each (after s) (text s) (byte s (foldersAt s)) (foldersAt s + 1) in
-        let few : byte s (foldersAt s) ≤ folder-limit = subst (λ (k : ℕ). byte s k ≤ folder-limit) x (list-few Path folder-limit s (length s) (b .mid) (c .mid) (c .first)) in
-        record { some = omega (arith, r .0); files = omega (arith, r .1); uses = r .2; folders = omega arith }
+unfolding decode
+checked-roomy s h =
+    let p = form-parts s (both-pass s h .0) in
+    let r = files-roomy s (filesAt s) (p .files-pass) in
+    let few = list-few Path folder-limit s (length s) (foldersAt s) (remappingsAt s) (p .folders) in
+    let n = each-length (afterFile s) (fileAt s) (byte s (filesAt s)) (filesAt s + 1) in
+    let o = each-length (after s) (text s) (byte s (foldersAt s)) (foldersAt s + 1) in
+    record { some = omega (arith, r .0); files = omega (arith, r .1); uses = r .2; folders = omega arith }

@@ -13,6 +13,7 @@ use Rattle.names.specs.Prefix.{startsWith, child, childFile}
 use Rattle.bundle.specs.Bundle.{Text}
 use Rattle.bundle.specs.Limits.{header}
 use Rattle.bundle.specs.Scan.{text}
+use Rattle.bundle.specs.ListLaws.{each-length}
 use Rattle.bundle.specs.Decode.{each, after, afterRemapping, afterFile, remappingAt, fileAt, decode}
 use Rattle.resolution.specs.Lists.{Lists, listsOf}
 use Rattle.resolution.specs.Longest.{only, longer, longest}
@@ -157,11 +158,6 @@ module _ (s : List ℕ) (at : Layout) (file : Text) where
         ∙ rw (each-map (afterRemapping s) (remappingAt s) (at .«remapping_count») (at .remappings)) (mapped-longest (remappingAt s) (λ r. length (r .context)) (applies file name) remappingPlaces))
 
 -- LOOKUPS
-pub length-each : {A : Type 0} (next : ℕ → ℕ) (get : ℕ → A) (n at : ℕ) → length (each next get n at) ≡ n
-unfolding each
-length-each next get zero at = refl
-length-each next get (suc n) at = ap suc (length-each next get n (next at))
-
 module _ (s : List ℕ) (b : Lists) (d : Text) where
   -- the first segment that is no folder names the file
   located-tells : (part : Text) (rest : List Text) (r : Lookup) → member (child d part) (b .folders) ≡ false → located s b (childFile d part) (length rest) r
@@ -183,7 +179,7 @@ module _ (s : List ℕ) (b : Lists) (d : Text) where
     unfolding each
     names-file r h m l =
         let z : n - i ≡ suc (n - i - 1) = omega arith in
-        rw z (located-tells (text u a) (each (after u) (text u) (n - i - 1) (after u a)) r m (rw (length-each (after u) (text u) (n - i - 1) (after u a)) l))
+        rw z (located-tells (text u a) (each (after u) (text u) (n - i - 1) (after u a)) r m (rw (each-length (after u) (text u) (n - i - 1) (after u a)) l))
 
     pub runs-out : n ≤ i → Tells s b InFolder (buildAndVerifyPath b d (each (after u) (text u) (n - i) a))
     unfolding buildAndVerifyPath each

@@ -11,7 +11,7 @@ use Rattle.bundle.specs.Decode.{after}
 use Rattle.resolution.specs.Resolution.{resolvePathInternal}
 use Rattle.resolution.specs.Layouts.{listsAt}
 use Rattle.discovery.specs.Walk.{useAt, useList, use-list-length, use-at-place, mark-at-place}
-use Rattle.discovery.specs.Room.{length-each}
+use Rattle.bundle.specs.ListLaws.{each-length}
 use Rattle.discovery.specs.Known.{Table, table-keep}
 use Rattle.discovery.specs.Record.{LookedTo, noImports, lookup-is, looked-none, looked-one, looked-done, folder-small}
 use Rattle.discovery.proofs.lookups.resolve_imports.Statement.{statement}
@@ -116,7 +116,7 @@ enum-known-found-3 c = search needs
 add-w-3 : tie.Need-add-w-3 Inv-loop μ-loop
 add-w-3 c =
     let small = folder-small (listsAt (c .before .before .before .before .before .before .before .before .before .before .before .args .s .now) (c .before .before .before .before .before .before .before .before .before .before .before .args .at)) (resolvePathInternal (listsAt (c .before .before .before .before .before .before .before .before .before .before .before .args .s .now) (c .before .before .before .before .before .before .before .before .before .before .before .args .at)) (c .before .before .before .before .before .before .before .before .before .before .before .args .file .now) (useAt (c .before .before .before .before .before .before .before .before .before .before .before .args .s .now) (getD (c .before .before .before .before .before .before .before .before .before .before .before .args .t5 .marks) (c .before .before .before .before .before .before .before .before .loop .i) 0) .segments)) (c .before .found3 .given .0 .0) _ (sym (c .before .before .before .before .before .resolve-single .ensures) ∙ c .before .found3 .given .1) in
-    let n = length-each (after (c .before .before .before .before .before .before .before .before .before .before .before .args .s .now)) (text (c .before .before .before .before .before .before .before .before .before .before .before .args .s .now)) (c .before .before .before .before .before .before .before .before .before .before .before .args .at .«folder_count») (c .before .before .before .before .before .before .before .before .before .before .before .args .at .folders) in
+    let n = each-length (after (c .before .before .before .before .before .before .before .before .before .before .before .args .s .now)) (text (c .before .before .before .before .before .before .before .before .before .before .before .args .s .now)) (c .before .before .before .before .before .before .before .before .before .before .before .args .at .«folder_count») (c .before .before .before .before .before .before .before .before .before .before .before .args .at .folders) in
     let k = c .before .before .before .before .before .before .before .before .before .before .before .pre .0 .0 .folder-count in
     search needs
 

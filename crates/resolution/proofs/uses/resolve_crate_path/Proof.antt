@@ -4,7 +4,7 @@ use mathlib.Core.Path.{sym, _∙_}
 use Rattle.bundle.specs.Scan.{text}
 use Rattle.bundle.specs.Decode.{each, after}
 use Rattle.resolution.specs.Layouts.{listsAt}
-use Rattle.resolution.specs.SearchLaws.{length-each}
+use Rattle.bundle.specs.ListLaws.{each-length}
 use Rattle.resolution.specs.UseLaws.{no-root, crate-file, crate-folder, crate-ran-out, crate-no-path}
 use borrow.Author.Needs.{needs}
 use Rattle.resolution.proofs.uses.resolve_crate_path.Statement.{statement}
@@ -50,10 +50,10 @@ returns-3 : tie.Need-returns-3
 returns-3 c = crate-folder ((c .before .before .before .before .before .before .before .before .before .before .before) .args .s .now) (listsAt ((c .before .before .before .before .before .before .before .before .before .before .before) .args .s .now) ((c .before .before .before .before .before .before .before .before .before .before .before) .args .at)) ((c .before .before .before .before .before .before .before .before .before .before .before) .args .file .now) (each (after ((c .before .before .before .before .before .before .before .before .before .before .before) .args .u .now)) (text ((c .before .before .before .before .before .before .before .before .before .before .before) .args .u .now)) ((c .before .before .before .before .before .before .before .before .before .before .before) .args .n) ((c .before .before .before .before .before .before .before .before .before .before .before) .args .first)) (text ((c .before .before .before .before .before .before .before .before .before .before .before) .args .s .now) ((c .before .before .before .before .before .root) .given .0 .0)) (sym (rw ((c .before .before .before .before .before .root) .given .1) at ((c .before .before .before .before .before .before .before .get-package-root) .ensures .0))) _ _ _ (rw ((c .before .lookup2) .given .1) at ((c .before .before .before .build-and-verify-path) .ensures))
 
 returns-4 : tie.Need-returns-4
-returns-4 c = (c .itself) .ensures ∙ crate-ran-out ((c .before .before .before .before .before .before .before .before .before .before .before) .args .s .now) (listsAt ((c .before .before .before .before .before .before .before .before .before .before .before) .args .s .now) ((c .before .before .before .before .before .before .before .before .before .before .before) .args .at)) ((c .before .before .before .before .before .before .before .before .before .before .before) .args .file .now) (each (after ((c .before .before .before .before .before .before .before .before .before .before .before) .args .u .now)) (text ((c .before .before .before .before .before .before .before .before .before .before .before) .args .u .now)) ((c .before .before .before .before .before .before .before .before .before .before .before) .args .n) ((c .before .before .before .before .before .before .before .before .before .before .before) .args .first)) (text ((c .before .before .before .before .before .before .before .before .before .before .before) .args .s .now) ((c .before .before .before .before .before .root) .given .0 .0)) (sym (rw ((c .before .before .before .before .before .root) .given .1) at ((c .before .before .before .before .before .before .before .get-package-root) .ensures .0))) ((c .before .before .before .before .before .before .before .before .before .before .before) .args .index) ((c .before .before .before .before .before .before .before .before .before .before .before) .args .n) ((c .before .before .before .before .before .before .before .before .before .before .before) .pre .0 .1) (sym (length-each (after ((c .before .before .before .before .before .before .before .before .before .before .before) .args .u .now)) (text ((c .before .before .before .before .before .before .before .before .before .before .before) .args .u .now)) ((c .before .before .before .before .before .before .before .before .before .before .before) .args .n) ((c .before .before .before .before .before .before .before .before .before .before .before) .args .first))) (rw ((c .before .enum-told2) .given .1) at ((c .before .before .before .build-and-verify-path) .ensures))
+returns-4 c = (c .itself) .ensures ∙ crate-ran-out ((c .before .before .before .before .before .before .before .before .before .before .before) .args .s .now) (listsAt ((c .before .before .before .before .before .before .before .before .before .before .before) .args .s .now) ((c .before .before .before .before .before .before .before .before .before .before .before) .args .at)) ((c .before .before .before .before .before .before .before .before .before .before .before) .args .file .now) (each (after ((c .before .before .before .before .before .before .before .before .before .before .before) .args .u .now)) (text ((c .before .before .before .before .before .before .before .before .before .before .before) .args .u .now)) ((c .before .before .before .before .before .before .before .before .before .before .before) .args .n) ((c .before .before .before .before .before .before .before .before .before .before .before) .args .first)) (text ((c .before .before .before .before .before .before .before .before .before .before .before) .args .s .now) ((c .before .before .before .before .before .root) .given .0 .0)) (sym (rw ((c .before .before .before .before .before .root) .given .1) at ((c .before .before .before .before .before .before .before .get-package-root) .ensures .0))) ((c .before .before .before .before .before .before .before .before .before .before .before) .args .index) ((c .before .before .before .before .before .before .before .before .before .before .before) .args .n) ((c .before .before .before .before .before .before .before .before .before .before .before) .pre .0 .1) (sym (each-length (after ((c .before .before .before .before .before .before .before .before .before .before .before) .args .u .now)) (text ((c .before .before .before .before .before .before .before .before .before .before .before) .args .u .now)) ((c .before .before .before .before .before .before .before .before .before .before .before) .args .n) ((c .before .before .before .before .before .before .before .before .before .before .before) .args .first))) (rw ((c .before .enum-told2) .given .1) at ((c .before .before .before .build-and-verify-path) .ensures))
 
 returns-5 : tie.Need-returns-5
-returns-5 c = (c .itself2) .ensures ∙ crate-no-path ((c .before .before .before .before .before .before .before .before .before .before .before) .args .s .now) (listsAt ((c .before .before .before .before .before .before .before .before .before .before .before) .args .s .now) ((c .before .before .before .before .before .before .before .before .before .before .before) .args .at)) ((c .before .before .before .before .before .before .before .before .before .before .before) .args .file .now) (each (after ((c .before .before .before .before .before .before .before .before .before .before .before) .args .u .now)) (text ((c .before .before .before .before .before .before .before .before .before .before .before) .args .u .now)) ((c .before .before .before .before .before .before .before .before .before .before .before) .args .n) ((c .before .before .before .before .before .before .before .before .before .before .before) .args .first)) (text ((c .before .before .before .before .before .before .before .before .before .before .before) .args .s .now) ((c .before .before .before .before .before .root) .given .0 .0)) (sym (rw ((c .before .before .before .before .before .root) .given .1) at ((c .before .before .before .before .before .before .before .get-package-root) .ensures .0))) ((c .before .before .before .before .before .before .before .before .before .before .before) .args .index) ((c .before .before .before .before .before .before .before .before .before .before .before) .args .n) ((c .before .before .before .before .before .before .before .before .before .before .before) .pre .0 .1) (sym (length-each (after ((c .before .before .before .before .before .before .before .before .before .before .before) .args .u .now)) (text ((c .before .before .before .before .before .before .before .before .before .before .before) .args .u .now)) ((c .before .before .before .before .before .before .before .before .before .before .before) .args .n) ((c .before .before .before .before .before .before .before .before .before .before .before) .args .first))) (rw ((c .before .enum-told3) .given .1) at ((c .before .before .before .build-and-verify-path) .ensures))
+returns-5 c = (c .itself2) .ensures ∙ crate-no-path ((c .before .before .before .before .before .before .before .before .before .before .before) .args .s .now) (listsAt ((c .before .before .before .before .before .before .before .before .before .before .before) .args .s .now) ((c .before .before .before .before .before .before .before .before .before .before .before) .args .at)) ((c .before .before .before .before .before .before .before .before .before .before .before) .args .file .now) (each (after ((c .before .before .before .before .before .before .before .before .before .before .before) .args .u .now)) (text ((c .before .before .before .before .before .before .before .before .before .before .before) .args .u .now)) ((c .before .before .before .before .before .before .before .before .before .before .before) .args .n) ((c .before .before .before .before .before .before .before .before .before .before .before) .args .first)) (text ((c .before .before .before .before .before .before .before .before .before .before .before) .args .s .now) ((c .before .before .before .before .before .root) .given .0 .0)) (sym (rw ((c .before .before .before .before .before .root) .given .1) at ((c .before .before .before .before .before .before .before .get-package-root) .ensures .0))) ((c .before .before .before .before .before .before .before .before .before .before .before) .args .index) ((c .before .before .before .before .before .before .before .before .before .before .before) .args .n) ((c .before .before .before .before .before .before .before .before .before .before .before) .pre .0 .1) (sym (each-length (after ((c .before .before .before .before .before .before .before .before .before .before .before) .args .u .now)) (text ((c .before .before .before .before .before .before .before .before .before .before .before) .args .u .now)) ((c .before .before .before .before .before .before .before .before .before .before .before) .args .n) ((c .before .before .before .before .before .before .before .before .before .before .before) .args .first))) (rw ((c .before .enum-told3) .given .1) at ((c .before .before .before .build-and-verify-path) .ensures))
 
 pub resolve-crate-path-spec : {M : Type 1} → statement M
 resolve-crate-path-spec =
