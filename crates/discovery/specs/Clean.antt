@@ -13,9 +13,9 @@ use Rattle.names.specs.Bytes.{member, false-true}
 use Rattle.bundle.specs.Bundle.{Text, Bundle}
 use Rattle.resolution.specs.Lists.{listsOf}
 use Rattle.resolution.specs.Resolution.{Resolved, to, fails, resolvePathInternal}
-use Rattle.discovery.specs.Discovery.{Use, uses, programOf, ResolvedUse, resolveSingle, useCache, Import, faultOf, lookupFaults, validImports, Loading, load, loadAll, Graph, current, handled, turn, turns, entryOf, start, pathsOf, discoverDependencies}
+use Rattle.discovery.specs.Discovery.{Use, uses, programOf, ResolvedUse, resolveSingle, useCache, Import, faultOf, lookupFaults, validImports, Loading, load, loadAll, Graph, current, handled, turn, turns, start, pathsOf, discoverDependencies}
 use Rattle.discovery.specs.Reached.{Reached, imported}
-use Rattle.discovery.specs.Facts.{cond-elim, member-true, mem-member, mem-snoc, mem-getD, each-snoc}
+use Rattle.discovery.specs.Facts.{cond-elim, member-true, mem-member, entry-file, mem-snoc, mem-getD, each-snoc}
 use Rattle.discovery.specs.Right.{discovered, resolves-import}
 
 -- nothing after something is nothing
@@ -144,10 +144,6 @@ module _ (files : List Text) where
       queue = omega arith;
       lands = λ q u lt. absurd (not-suc-le-zero lt);
     }
-      where
-        entry-file : (fs : List Text) (p : Text) → List·Memᴰ p (entryOf fs) → List·Memᴰ p fs
-        entry-file [] p m = m
-        entry-file (q ∷ fs) p m = ⊎-elim List·Memᴰ·head (λ w. absurd (List·Memᴰ·not-nil w)) (List·Memᴰ·cases-cons m)
 
 -- a use with no lookup fault resolves
 found-resolves : (rs : List ResolvedUse) {r : ResolvedUse} → lookupFaults rs ≡ [] → List·Memᴰ r rs → (p : Text) × ((rest : List Text) × (r .resolved ≡ to p rest))

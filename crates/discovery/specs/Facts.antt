@@ -13,13 +13,9 @@ use borrow.Author.Tests.{eqb-true, eqb-false}
 use Rattle.names.specs.Bytes.{same, member, false-true, not-true, same-eq, equal-same, same-differs}
 use Rattle.bundle.specs.Bundle.{Text}
 use Rattle.resolution.specs.Call.{position}
-use Rattle.discovery.specs.Discovery.{Import, holds}
+pub use Rattle.graph.specs.Facts.{cond-elim, mem-snoc, once-snoc, pigeons}
+use Rattle.discovery.specs.Discovery.{Import, holds, entryOf}
 use Rattle.discovery.specs.Reached.{Once, none, more, readable, firsts}
-
--- a goal at `cond b x y` is one at x where b is true and one at y where it is false
-pub cond-elim : {A : Type 0} (P : A → Type 0) (b : Bool) {x y : A} → (b ≡ true → P x) → (b ≡ false → P y) → P (cond b x y)
-cond-elim P true f g = f refl
-cond-elim P false f g = g refl
 
 -- TESTS OF MEMBERSHIP
 pub member-true : (s : Text) (l : List Text) → member s l ≡ true → List·Memᴰ s l
@@ -42,6 +38,11 @@ member-false e m = false-true (sym e ∙ mem-member m)
 pub not-member : (s : Text) (l : List Text) → (List·Memᴰ s l → ⊥) → member s l ≡ false
 not-member s l f = not-true (member s l) (λ e. f (member-true s l e))
 
+-- the entry is a file
+pub entry-file : (fs : List Text) (p : Text) → List·Memᴰ p (entryOf fs) → List·Memᴰ p fs
+entry-file [] p m = m
+entry-file (q ∷ fs) p m = ⊎-elim List·Memᴰ·head (λ w. absurd (List·Memᴰ·not-nil w)) (List·Memᴰ·cases-cons m)
+
 pub holds-true : (d : ℕ) (l : List ℕ) → holds d l ≡ true → List·Memᴰ d l
 unfolding holds
 holds-true d [] e = absurd (false-true e)
@@ -60,33 +61,8 @@ holds-false d (x ∷ l) e m = go (eqb d x) refl e (holds-false d l)
     go true h e' k = false-true (sym e')
     go false h e' k = ⊎-elim (eqb-false d x h) (k e') (List·Memᴰ·cases-cons m)
 
--- ONE MORE AT THE END
+-- PLACES
 module _ {A : Type 0} where
-  pub mem-snoc : {x u : A} (l : List A) → List·Memᴰ x (l ++ (u ∷ [])) → List·Memᴰ x l ⊎ (x ≡ u)
-  mem-snoc l m = ⊎-elim (λ a. inl a) (λ b. inr (List·Memᴰ·eq-of-singleton b)) (List·Memᴰ·append-cases l m)
-
-  pub once-snoc : {u : A} {l : List A} → Once l → (List·Memᴰ u l → ⊥) → Once (l ++ (u ∷ []))
-  once-snoc none h = more List·Memᴰ·not-nil none
-  once-snoc {u} (more {a = x} {l = l'} f o) h =
-      more (λ m. ⊎-elim f (λ e. h (List·Memᴰ·head (sym e))) (mem-snoc l' m)) (once-snoc o (λ m. h (List·Memᴰ·tail m)))
-
-  -- what can be pulled out of a list leaves one less
-  pull : {x : A} {m : List A} → List·Memᴰ x m → (k : List A) × ((length m ≡ suc (length k)) × ((y : A) → List·Memᴰ y m → (y ≡ x) ⊎ List·Memᴰ y k))
-  pull (List·Memᴰ·head {x} {xs} e) = (xs, (refl, λ y h. ⊎-elim (λ q. inl (q ∙ sym e)) (λ t. inr t) (List·Memᴰ·cases-cons h)))
-  pull (List·Memᴰ·tail {x} {xs} h) =
-      let t = pull h in
-      (x ∷ t .0, (ap suc (t .1 .0), λ y j. ⊎-elim (λ q. inr (List·Memᴰ·head q)) (λ j'. ⊎-elim (λ q. inl q) (λ w. inr (List·Memᴰ·tail w)) (t .1 .1 y j')) (List·Memᴰ·cases-cons j)))
-
-  -- different elements of a list are no more than it has
-  pub pigeons : {l : List A} → Once l → (m : List A) → ((x : A) → List·Memᴰ x l → List·Memᴰ x m) → length l ≤ length m
-  pigeons none m h = omega arith
-  pigeons (more {a} {l} f o) m h =
-      let t = pull (h a (List·Memᴰ·head refl)) in
-      let ih = pigeons o (t .0) (λ x k. ⊎-elim (λ q. absurd (f (Memᴰ·cast (sym q) k))) (λ w. w) (t .1 .1 x (h x (List·Memᴰ·tail k)))) in
-      let e = t .1 .0 in
-      omega arith
-
-  -- PLACES
   pub getD-mem : (l : List A) (i : ℕ) (d : A) → i < length l → List·Memᴰ (getD l i d) l
   getD-mem [] i d h = absurd (not-suc-le-zero h)
   getD-mem (x ∷ l) zero d h = List·Memᴰ·head refl
@@ -100,8 +76,8 @@ module _ {A : Type 0} where
   pub once-place : {l : List A} (d : A) → Once l → (i j : ℕ) → i < length l → j < length l → getD l i d ≡ getD l j d → i ≡ j
   once-place d none i j hi hj e = absurd (not-suc-le-zero hi)
   once-place d (more f o) zero zero hi hj e = refl
-  once-place d (more {a} {l} f o) zero (suc j) hi hj e = absurd (f (Memᴰ·cast e (getD-mem l j d (le-of-suc-le-suc hj))))
-  once-place d (more {a} {l} f o) (suc i) zero hi hj e = absurd (f (Memᴰ·cast (sym e) (getD-mem l i d (le-of-suc-le-suc hi))))
+  once-place d (more {u = a} {l} f o) zero (suc j) hi hj e = absurd (f (Memᴰ·cast e (getD-mem l j d (le-of-suc-le-suc hj))))
+  once-place d (more {u = a} {l} f o) (suc i) zero hi hj e = absurd (f (Memᴰ·cast (sym e) (getD-mem l i d (le-of-suc-le-suc hi))))
   once-place d (more f o) (suc i) (suc j) hi hj e = ap suc (once-place d o i j (le-of-suc-le-suc hi) (le-of-suc-le-suc hj) e)
 
 -- the default does not matter within a list
@@ -110,9 +86,12 @@ getD-any [] i d e h = absurd (not-suc-le-zero h)
 getD-any (x ∷ l) zero d e h = refl
 getD-any (x ∷ l) (suc i) d e h = getD-any l i d e (le-of-suc-le-suc h)
 
+pub map-append : {A B : Type 0} (f : A → B) (l k : List A) → map f (l ++ k) ≡ map f l ++ map f k
+map-append f [] k = refl
+map-append f (x ∷ l) k = rw (map-append f l k)
+
 pub map-snoc : {A B : Type 0} (f : A → B) (l : List A) (a : A) → map f (l ++ (a ∷ [])) ≡ map f l ++ (f a ∷ [])
-map-snoc f [] a = refl
-map-snoc f (x ∷ l) a = rw (map-snoc f l a)
+map-snoc f l a = map-append f l (a ∷ [])
 
 -- what holds at each place of a list, and of one more at its end
 pub each-snoc : {A : Type 0} (P : ℕ → A → Type 0) (l : List A) (a d : A) → ((u : ℕ) → u < length l → P u (getD l u d)) → P (length l) a

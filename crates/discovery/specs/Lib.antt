@@ -1,9 +1,16 @@
+-- definitions
 pub mod Discovery
 pub mod Reached
-pub mod Facts
+pub mod InTurn
+-- theorems to cite
 pub mod Right
 pub mod Clean
 pub mod Told
+pub mod ItemOrder
+pub mod InTurnTheorems
+pub mod Cases
+-- laws, for the code and for proofs
+pub mod Facts
 pub mod Walk
 pub mod Room
 pub mod Weight
@@ -13,4 +20,3 @@ pub mod Meaning
 pub mod Readings
 pub mod Turns
 pub mod Known
-pub mod Cases

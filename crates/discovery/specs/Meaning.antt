@@ -1,5 +1,5 @@
 -- What the code's lookups leave in its record: the faults and the imports of the definition. Assumes nothing.
-use Prim.Native.Nat.{ℕ, _+_, _-_, _≤_, _<_}
+use Prim.Native.Nat.{ℕ, zero, suc, _+_, _-_, _≤_, _<_}
 use native.Mathlib.Numerals.{add-one}
 use native.Mathlib.Omega.{arith}
 use mathlib.Core.Bool.{Bool, true, false, cond, _||_}
@@ -77,6 +77,14 @@ unfoldable pub faultsIn : List ℕ → List ℕ → List Fault
 faultsIn [] ps = []
 faultsIn (n ∷ ns) [] = []
 faultsIn (n ∷ ns) (p ∷ ps) = fault n p ∷ faultsIn ns ps
+
+-- as many as are taken
+pub faults-counted : (i : ℕ) (ns ps : List ℕ) → i ≤ length ns → i ≤ length ps → length (faultsIn (take i ns) (take i ps)) ≡ i
+unfolding faultsIn
+faults-counted zero ns ps h k = refl
+faults-counted (suc i) [] ps h k = absurd (omega arith)
+faults-counted (suc i) (n ∷ ns) [] h k = absurd (omega arith)
+faults-counted (suc i) (n ∷ ns) (p ∷ ps) h k = let e = faults-counted i ns ps (omega arith) (omega arith) in omega arith
 
 abbrev pub faultsOf : Graph → List Fault
 faultsOf g = faultsIn (take (g .faults) (g .numbers)) (take (g .faults) (g .places))

@@ -6,6 +6,7 @@ use Rattle.names.specs.Bytes.{member}
 use Rattle.bundle.specs.Bundle.{Text, Bundle}
 use Rattle.resolution.specs.Lists.{listsOf}
 use Rattle.resolution.specs.Resolution.{to, resolvePathInternal}
+pub use Rattle.graph.specs.Order.{Once, none, more}
 use Rattle.discovery.specs.Discovery.{Use, uses, programOf, Import, validImports, useCache, pathsOf}
 
 -- file f imports file g: some use of f, at any depth, resolves to the readable g
@@ -20,11 +21,6 @@ pub record Imports (b : Bundle) (f g : Text) : Type 0 where
 pub data Reached (b : Bundle) : Text → Type 0 where
   entry : {p : Text} {ps : List Text} → pathsOf b ≡ p ∷ ps → Reached b p
   imported : {f g : Text} → Reached b f → Imports b f g → Reached b g
-
--- nothing twice
-pub data Once {A : Type 0} : List A → Type 0 where
-  none : Once []
-  more : {a : A} {l : List A} → (List·Memᴰ a l → ⊥) → Once l → Once (a ∷ l)
 
 -- the paths that can be read, of imports in their order
 unfoldable pub readable : List Text → List Import → List Text

@@ -17,7 +17,7 @@ use Rattle.resolution.specs.Resolution.{Resolved, to, fails}
 use Rattle.resolution.specs.Call.{position}
 use Rattle.discovery.specs.Discovery.{uses, programOf, ResolvedUse, resolveSingle, useCache, Fault, Import, importOf, lookupFaults, validImports, Loading, holds, addOnce, load, loadAll, Graph, current, handled, turn, turns, entryOf, start, pathsOf, discoverDependencies}
 use Rattle.discovery.specs.Reached.{Imports, Reached, entry, imported, Once, none, more, readable, firsts, importsOf}
-use Rattle.discovery.specs.Facts.{cond-elim, member-true, mem-member, member-false, not-member, holds-true, holds-false, mem-snoc, once-snoc, pigeons, getD-mem, mem-getD, once-place, each-snoc, id-found, pathsAt, paths-snoc, paths-grow, paths-mem, mem-paths, paths-once, firsts-append, firsts-sound, firsts-complete, firsts-once, readable-cons, readable-sound, readable-complete}
+use Rattle.discovery.specs.Facts.{cond-elim, member-true, mem-member, member-false, not-member, entry-file, holds-true, holds-false, mem-snoc, once-snoc, pigeons, getD-mem, mem-getD, once-place, each-snoc, id-found, pathsAt, paths-snoc, paths-grow, paths-mem, mem-paths, paths-once, firsts-append, firsts-sound, firsts-complete, firsts-once, readable-cons, readable-sound, readable-complete}
 
 -- LOADING
 module _ (files : List Text) where
@@ -287,10 +287,6 @@ module _ (files : List Text) (cache : Text → List ResolvedUse) (Reach : Text �
     lists = λ u lt. absurd (not-suc-le-zero lt);
   }
     where
-      entry-file : (fs : List Text) (p : Text) → List·Memᴰ p (entryOf fs) → List·Memᴰ p fs
-      entry-file [] p m = m
-      entry-file (q ∷ fs) p m = ⊎-elim List·Memᴰ·head (λ w. absurd (List·Memᴰ·not-nil w)) (List·Memᴰ·cases-cons m)
-
       entry-once : (fs : List Text) → Once (entryOf fs)
       entry-once [] = none
       entry-once (q ∷ fs) = more List·Memᴰ·not-nil none

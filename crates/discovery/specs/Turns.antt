@@ -86,13 +86,13 @@ take-within (suc k) (y ∷ l) m = ⊎-elim (λ e. List·Memᴰ·head e) (λ w. L
 once-take : {A : Type 0} {l : List A} (n : ℕ) → Once l → Once (take n l)
 once-take zero o = none
 once-take (suc n) none = none
-once-take (suc n) (more {a} {l} f o) = more (λ m. f (take-within n l m)) (once-take n o)
+once-take (suc n) (more {u = a} {l} f o) = more (λ m. f (take-within n l m)) (once-take n o)
 
 -- PATHS OF PLACES
 module _ (l : List Text) where
   paths-once : {k : List ℕ} → Once k → ((x : ℕ) → List·Memᴰ x k → FirstOf l x) → Once (map (λ x. getD l x []) k)
   paths-once none h = none
-  paths-once (more {a} {l = k} f o) h =
+  paths-once (more {u = a} {l = k} f o) h =
       more (λ m. let t = Memᴰ·of-map (λ (x : ℕ). getD l x []) k m in
       let x = h a (List·Memᴰ·head refl) in
       let y = h (t .0) (List·Memᴰ·tail (t .1)) in

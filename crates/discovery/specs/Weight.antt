@@ -75,7 +75,7 @@ module _ (g : Items → ℕ) where
   pub weigh-of : {l : List Text} → Once l → (fs : List File) → ((p : Text) → List·Memᴰ p l → List·Memᴰ p (paths fs)) → sumOf g fs l ≤ totalOf g fs
   unfolding sumOf
   weigh-of none fs h = omega arith
-  weigh-of (more {a} {l} f o) fs h =
+  weigh-of (more {u = a} {l} f o) fs h =
       let t = total-without g a fs (h a (List·Memᴰ·head refl)) in
       let ne : (q : Text) → List·Memᴰ q l → q ≡ a → ⊥ = λ q m e. f (Memᴰ·cast (sym e) m) in
       let ih = weigh-of o (without a fs) (λ q m. mem-without a q (ne q m) fs (h q (List·Memᴰ·tail m))) in

@@ -1,9 +1,10 @@
 -- Facts of lists and chains. Assumes nothing.
-use mathlib.Core.Path.{_≡_, refl, sym, subst}
+use mathlib.Core.Path.{_≡_, refl, sym, ap, subst, _∙_}
 use mathlib.Core.Bool.{Bool, true, false, cond, _||_}
 use mathlib.Core.Logic.{_⊎_, inl, inr, ⊎-elim}
 use mathlib.Core.List.{List, [], _∷_, _++_, List·Memᴰ, List·Memᴰ·head, List·Memᴰ·tail, List·Memᴰ·not-nil, List·Memᴰ·cases-cons, List·Memᴰ·append-cases, List·Memᴰ·eq-of-singleton, Memᴰ·cast}
 use Prim.Native.Nat.{ℕ, zero, suc, _<_, _≤_}
+use native.Mathlib.Nat.{le-of-suc-le-suc, eq-or-lt-of-le}
 use native.Mathlib.Omega.{arith}
 use lib.Dec.{eqb}
 use lib.ListN.{length}
@@ -34,64 +35,50 @@ memb-false u (x ∷ l) e m = go (eqb u x) refl e (memb-false u l)
     go true h e' k = let z : _≡_ {A = ℕ} 0 1 = cc in omega arith
     go false h e' k = ⊎-elim (eqb-false u x h) (k e') (List·Memᴰ·cases-cons m)
 
--- a member of l with one more at its end
-pub mem-snoc : {x u : ℕ} (l : List ℕ) → List·Memᴰ x (l ++ (u ∷ [])) → List·Memᴰ x l ⊎ (x ≡ u)
-mem-snoc l m = ⊎-elim (λ a. inl a) (λ b. inr (List·Memᴰ·eq-of-singleton b)) (List·Memᴰ·append-cases l m)
+-- ONE MORE AT THE END, AND PIGEONS
+module _ {A : Type 0} where
+  pub mem-snoc : {x u : A} (l : List A) → List·Memᴰ x (l ++ (u ∷ [])) → List·Memᴰ x l ⊎ (x ≡ u)
+  mem-snoc l m = ⊎-elim (λ a. inl a) (λ b. inr (List·Memᴰ·eq-of-singleton b)) (List·Memᴰ·append-cases l m)
 
-pub once-snoc : {u : ℕ} {l : List ℕ} → Once l → (List·Memᴰ u l → ⊥) → Once (l ++ (u ∷ []))
-once-snoc none h = more List·Memᴰ·not-nil none
-once-snoc {u} (more {u = x} {l = l'} f o) h =
-    more (λ m. ⊎-elim f (λ e. h (List·Memᴰ·head (sym e))) (mem-snoc l' m)) (once-snoc o (λ m. h (List·Memᴰ·tail m)))
+  pub once-snoc : {u : A} {l : List A} → Once l → (List·Memᴰ u l → ⊥) → Once (l ++ (u ∷ []))
+  once-snoc none h = more List·Memᴰ·not-nil none
+  once-snoc {u} (more {u = x} {l = l'} f o) h =
+      more (λ m. ⊎-elim f (λ e. h (List·Memᴰ·head (sym e))) (mem-snoc l' m)) (once-snoc o (λ m. h (List·Memᴰ·tail m)))
 
--- THE PIGEONHOLE PRINCIPLE
-without : ℕ → List ℕ → List ℕ
-without m [] = []
-without m (x ∷ l) = cond (eqb m x) l (x ∷ without m l)
+  -- what can be pulled out of a list leaves one less
+  pull : {x : A} {m : List A} → List·Memᴰ x m → (k : List A) × ((length m ≡ suc (length k)) × ((y : A) → List·Memᴰ y m → (y ≡ x) ⊎ List·Memᴰ y k))
+  pull (List·Memᴰ·head {x} {xs} e) = (xs, (refl, λ y h. ⊎-elim (λ q. inl (q ∙ sym e)) (λ t. inr t) (List·Memᴰ·cases-cons h)))
+  pull (List·Memᴰ·tail {x} {xs} h) =
+      let t = pull h in
+      (x ∷ t .0, (ap suc (t .1 .0), λ y j. ⊎-elim (λ q. inr (List·Memᴰ·head q)) (λ j'. ⊎-elim (λ q. inl q) (λ w. inr (List·Memᴰ·tail w)) (t .1 .1 y j')) (List·Memᴰ·cases-cons j)))
 
-without-mem : (m : ℕ) (l : List ℕ) {x : ℕ} → List·Memᴰ x (without m l) → List·Memᴰ x l
-unfolding without
-without-mem m [] h = h
-without-mem m (y ∷ l) {x} h = go (eqb m y) h (λ k. without-mem m l k)
-  where
-    go : (b : Bool) → List·Memᴰ x (cond b l (y ∷ without m l)) → (List·Memᴰ x (without m l) → List·Memᴰ x l) → List·Memᴰ x (y ∷ l)
-    go true h' k = List·Memᴰ·tail h'
-    go false h' k = ⊎-elim List·Memᴰ·head (λ w. List·Memᴰ·tail (k w)) (List·Memᴰ·cases-cons h')
+  -- different elements of a list are no more than it has
+  pub pigeons : {l : List A} → Once l → (m : List A) → ((x : A) → List·Memᴰ x l → List·Memᴰ x m) → length l ≤ length m
+  pigeons none m h = omega arith
+  pigeons (more {u = a} {l} f o) m h =
+      let t = pull (h a (List·Memᴰ·head refl)) in
+      let ih = pigeons o (t .0) (λ x k. ⊎-elim (λ q. absurd (f (Memᴰ·cast (sym q) k))) (λ w. w) (t .1 .1 x (h x (List·Memᴰ·tail k)))) in
+      let e = t .1 .0 in
+      omega arith
 
-without-once : (m : ℕ) {l : List ℕ} → Once l → Once (without m l)
-unfolding without
-without-once m none = none
-without-once m (more {u = y} {l = l'} f o) =
-    cond-elim Once (eqb m y) (λ e. o) (λ e. more (λ h. f (without-mem m l' h)) (without-once m o))
+-- the numbers below n
+unfoldable numbersBelow : ℕ → List ℕ
+numbersBelow zero = []
+numbersBelow (suc n) = n ∷ numbersBelow n
 
-without-gone : (m : ℕ) {l : List ℕ} → Once l → List·Memᴰ m (without m l) → ⊥
-unfolding without
-without-gone m none h = List·Memᴰ·not-nil h
-without-gone m (more {u = y} {l = l'} f o) h =
-    cond-elim (λ k. List·Memᴰ m k → ⊥) (eqb m y)
-    (λ e h'. f (Memᴰ·cast (sym (eqb-true m y e)) h'))
-    (λ e h'. ⊎-elim (eqb-false m y e) (without-gone m o) (List·Memᴰ·cases-cons h')) h
+below-length : (n : ℕ) → length (numbersBelow n) ≡ n
+unfolding numbersBelow
+below-length zero = refl
+below-length (suc n) = ap suc (below-length n)
 
-without-length : (m : ℕ) (l : List ℕ) → length l ≤ suc (length (without m l))
-unfolding without
-without-length m [] = omega arith
-without-length m (y ∷ l) =
-    let ih = without-length m l in
-    cond-elim (λ k. length (y ∷ l) ≤ suc (length k)) (eqb m y) {x = l} {y = y ∷ without m l} (λ e. omega arith) (λ e. omega arith)
+below-all : (n : ℕ) {x : ℕ} → x < n → List·Memᴰ x (numbersBelow n)
+unfolding numbersBelow
+below-all zero h = absurd (omega arith)
+below-all (suc n) {x} h = ⊎-elim (λ e. List·Memᴰ·head e) (λ l. List·Memᴰ·tail (below-all n l)) (eq-or-lt-of-le (le-of-suc-le-suc h))
 
--- as many different numbers below n as n, and no more
+-- there are no more different numbers below n than n
 pub pigeonhole : (n : ℕ) (l : List ℕ) → Once l → ((x : ℕ) → List·Memᴰ x l → x < n) → length l ≤ n
-pigeonhole zero [] o h = omega arith
-pigeonhole zero (x ∷ l) o h = let z = h x (List·Memᴰ·head refl) in absurd (omega arith)
-pigeonhole (suc m) l o h =
-    let ih = pigeonhole m (without m l) (without-once m o) (λ x k. below x k (h x (without-mem m l k))) in
-    omega (arith, without-length m l)
-  where
-    below : (x : ℕ) → List·Memᴰ x (without m l) → x < suc m → x < m
-    below x k b = go (eqb m x) refl
-      where
-        go : (t : Bool) → eqb m x ≡ t → x < m
-        go true e = absurd (without-gone m o (Memᴰ·cast (eqb-true m x e) k))
-        go false e = let ne = eqb-false m x e in omega arith
+pigeonhole n l o h = let p = pigeons o (numbersBelow n) (λ x m. below-all n (h x m)) in omega (arith, below-length n)
 
 -- CHAINS AND PATHS
 module _ {deps : ℕ → List ℕ} where

@@ -18,10 +18,10 @@ pub data Chain (deps : ℕ → List ℕ) : ℕ → List ℕ → ℕ → Type 0 w
   last : {u w : ℕ} → Edge deps u w → Chain deps u [] w
   link : {u v w : ℕ} {l : List ℕ} → Edge deps u v → Chain deps v l w → Chain deps u (v ∷ l) w
 
--- no unit twice
-pub data Once : List ℕ → Type 0 where
+-- nothing twice
+pub data Once {A : Type 0} : List A → Type 0 where
   none : Once []
-  more : {u : ℕ} {l : List ℕ} → (List·Memᴰ u l → ⊥) → Once l → Once (u ∷ l)
+  more : {u : A} {l : List A} → (List·Memᴰ u l → ⊥) → Once l → Once (u ∷ l)
 
 -- o is an order: it has exactly the reached units, each once, and each after every other unit that it lists
 pub record Ordered (deps : ℕ → List ℕ) (o : List ℕ) : Type 0 where

@@ -1,14 +1,17 @@
+-- definitions
 pub mod Run
 pub mod Files
-pub mod Units
-pub mod Theorems
 pub mod Report
-pub mod Listed
-pub mod Exact
 pub mod Call
+-- theorems to cite
+pub mod Theorems
 pub mod Demand
+pub mod Exact
 pub mod Cases
 pub mod Examples
+-- laws, for the code and for proofs
+pub mod Units
+pub mod Listed
 pub mod Writing
 pub mod Steps
 pub mod Join

@@ -9,7 +9,7 @@ use lib.Seq.{length-take-le, take-suc, take-at}
 use Rattle.bundle.specs.Limits.{file-limit, use-limit}
 use Rattle.discovery.specs.declared.Graph.{Graph}
 use Rattle.discovery.specs.Discovery.{Fault}
-use Rattle.discovery.specs.Meaning.{faultsIn, faultsOf}
+use Rattle.discovery.specs.Meaning.{faultsIn, faults-counted, faultsOf}
 use Rattle.graph.specs.declared.Graph as given
 use Rattle.graph.specs.declared.Linearized.{Linearized}
 use Rattle.graph.specs.Linearize.{Out, order, ring, linearize}
@@ -69,13 +69,6 @@ module _ (files : List ℕ) (units : ℕ) (fit : units ≤ length files) (small 
       ∙ ap (λ (l : List ℕ). record { number = 0; place = 0; report = 0; units = length (take units files); files = l; ids = ids }) f
 
 -- THE ANSWERS
-faults-counted : (i : ℕ) (ns ps : List ℕ) → i ≤ length ns → i ≤ length ps → length (faultsIn (take i ns) (take i ps)) ≡ i
-unfolding faultsIn
-faults-counted zero ns ps h k = refl
-faults-counted (suc i) [] ps h k = absurd (omega arith)
-faults-counted (suc i) (n ∷ ns) [] h k = absurd (omega arith)
-faults-counted (suc i) (n ∷ ns) (p ∷ ps) h k = let e = faults-counted i ns ps (omega arith) (omega arith) in omega arith
-
 some-faulty : (fs : List Fault) (x : Out) → 0 < length fs → outcome fs x ≡ faulty fs
 some-faulty [] x h = absurd (omega arith)
 some-faulty (f ∷ fs) x h = refl

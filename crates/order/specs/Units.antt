@@ -83,7 +83,7 @@ module _ (b : Bundle) (g : Graph) (d : Discovered b g) where
 
   -- the units, where there is a file
   module _ (some : 0 < length (pathsOf b)) where
-    some-unit : 0 < length (g .sources)
+    pub some-unit : 0 < length (g .sources)
     some-unit = go (pathsOf b) refl some
       where
         go : (l : List Text) → pathsOf b ≡ l → 0 < length l → 0 < length (g .sources)
