@@ -21,10 +21,11 @@ use Rattle.scopes.specs.Form.{Request, enters, exits, inserts-alias, inserts-en
 use Rattle.scopes.specs.Rows.{tab}
 use Rattle.scopes.specs.Index.{last-of}
 use Rattle.scopes.specs.Nav.{stack-of}
-use Rattle.scopes.specs.Trees.{cleared, told, flat-of, Good, Sized, accepting, refusing, ended, got-of}
-use Rattle.scopes.specs.Meets.{Meets, Answers}
-use Rattle.scopes.specs.Calls.{got-alias, got-function}
-use Rattle.scopes.specs.Lent.{declares, Keeps}
+use Rattle.scopes.specs.Views.{told}
+use Rattle.scopes.specs.Trees.{part, cleared, flat-of, Good}
+use Rattle.scopes.specs.Pack.{part-clear}
+use Rattle.scopes.specs.Meets.{Meets, Answers, request, declares}
+use Rattle.scopes.specs.Meets as meets
 use Rattle.scopes.specs.Runs.{first-is, first-good}
 
 -- THE BYTES
@@ -75,9 +76,6 @@ shown ok = 0
 shown (marked m) = 65536 + m
 shown (refused n) = 131072 + n
 
-abbrev pub number-shown : ℕ → ℕ
-number-shown n = cond (eqb n 0) 0 (131072 + n)
-
 abbrev pub turn : Flat → Order → Flat × Answer
 turn x (asks q) = step flat x (call-of q)
 turn x clears = (first-flat, ok)
@@ -107,21 +105,11 @@ unfoldable pub written : List ℕ → ℕ → List ℕ → List ℕ
 written o i [] = o
 written o i (v ∷ vs) = written (put-at o i v) (i + 1) vs
 
--- a call on lent arrays
-pub record Turns (t : Tree) (o : Order) (n : ℕ) (u : Tree) : Type 0 where
-  pub sized : Sized t → Sized u
-  pub good : Sized t → Good t → Good u
-  pub tree : Sized t → Good t → flat-of u ≡ turn (flat-of t) o .0
-  pub said : Sized t → Good t → n ≡ shown (turn (flat-of t) o .1)
-
 -- a call on a tree
 pub record Turned (t : Tree) (o : Order) (n : ℕ) (u : Tree) : Type 0 where
   pub good : Good t → Good u
   pub tree : Good t → flat-of u ≡ turn (flat-of t) o .0
   pub said : Good t → n ≡ shown (turn (flat-of t) o .1)
-
-pub at-size : {t u : Tree} {o : Order} {n : ℕ} → Turns t o n u → Sized t → Turned t o n u
-at-size c z = record { good = c .good z; tree = c .tree z; said = c .said z }
 
 -- by value
 pub turned-meets : (t : Tree) (q : Request) (r : Outcome) → Meets t q r → (n : ℕ) → n ≡ shown (told (r .answer)) → (u : Tree) → u ≡ r .tree → Turned t (asks q) n u
@@ -148,63 +136,32 @@ turned-clears t n e u x f h =
       said = λ g. e;
     }
 
-pub turns-keeps : (t : Tree) (q : Request) (n : ℕ) (u : Tree) → Keeps t q n u → (r : ℕ) → r ≡ number-shown n → Turns t (asks q) r u
-unfolding ended
-turns-keeps t q n u k r e =
-    record {
-      sized = k .sized;
-      good = λ z g. good-of (eqb n 0) (k .meets z) g;
-      tree = λ z g. tree-of (eqb n 0) (k .meets z) g;
-      said = λ z g. e ∙ said-of (eqb n 0) (k .meets z) g;
-    }
-  where
-    good-of : (b : Bool) → Meets t q (cond b (accepting u) (refusing n u)) → Good t → Good u
-    good-of true m g = m .good g
-    good-of false m g = m .good g
-
-    tree-of : (b : Bool) → Meets t q (cond b (accepting u) (refusing n u)) → Good t → flat-of u ≡ step flat (flat-of t) (call-of q) .0
-    tree-of true m g = m .tree g
-    tree-of false m g = m .tree g
-
-    said-of : (b : Bool) → Meets t q (cond b (accepting u) (refusing n u)) → Good t → cond b 0 (131072 + n) ≡ shown (step flat (flat-of t) (call-of q) .1)
-    said-of true m g = ap shown (m .answer g)
-    said-of false m g = ap shown (m .answer g)
-
-pub turns-asks : (t : Tree) (q : Request) (a : Told) → Answers t q a → (r : ℕ) → r ≡ shown (told a) → Turns t (asks q) r t
-turns-asks t q a m r e =
-    record {
-      sized = λ z. z;
-      good = λ z g. g;
-      tree = λ z g. m .tree g;
-      said = λ z g. e ∙ ap shown (m .answer g);
-    }
-
-pub turns-alias : (t : Tree) (d : List ℕ) (a : Told) → a ≡ got-of t d 1 → (r : ℕ) → r ≡ shown (told a) → Turns t (asks (gets-alias d)) r t
-turns-alias t d a q r e = turns-asks t (gets-alias d) a (subst (Answers t (gets-alias d)) (sym q) (got-alias t d)) r e
-
-pub turns-function : (t : Tree) (d : List ℕ) (a : Told) → a ≡ got-of t d 2 → (r : ℕ) → r ≡ shown (told a) → Turns t (asks (gets-function d)) r t
-turns-function t d a q r e = turns-asks t (gets-function d) a (subst (Answers t (gets-function d)) (sym q) (got-function t d)) r e
+-- over lent arrays
+pub turned-lent : {t u : Tree} {q : Request} {o : Order} {a : Told} {n : ℕ} → asks q ≡ o → Meets t q (meets.left a u) → n ≡ shown (told a) → Turned t o n u
+turned-lent {t} {u} {q} {o} {a} {n} e m y = subst (λ (x : Order). Turned t x n u) e (turned-meets t q (meets.left a u) m n y u refl)
 
 -- no entry, no open module
 abbrev pub emptied : Tree → Tree
 emptied t =
-    record { count = 0; kinds = t .kinds; visible = t .visible; scopes = t .scopes; marks = t .marks; n0 = t .n0; n1 = t .n1; n2 = t .n2; n3 = t .n3; origins = t .origins; targets = t .targets; times = t .times; heads = replicate 1024 0; links = t .links; depth = 0; stack = t .stack }
+    record { opened = replicate 11 0; cells = replicate 6144 0; visible = t .visible; scopes = t .scopes; marks = t .marks; n0 = t .n0; n1 = t .n1; n2 = t .n2; n3 = t .n3 }
 
-pub turns-clears : (t : Tree) → Turns t clears 0 (emptied t)
+pub turned-emptied : (t : Tree) {o : Order} → clears ≡ o → Turned t o 0 (emptied t)
 unfolding tab stack-of last-of
-turns-clears t =
-    record {
-      sized = λ z. record { kinds = z .kinds; visible = z .visible; scopes = z .scopes; marks = z .marks; n0 = z .n0; n1 = z .n1; n2 = z .n2; n3 = z .n3; origins = z .origins; targets = z .targets; times = z .times; heads = length-replicate {A = ℕ} 1024 zero; links = z .links; stack = z .stack };
-      good = λ z g.
-          record {
-            small = omega arith;
-            shallow = omega arith;
-            doors = λ j h. absurd (omega arith);
-            indexed = record { heads = λ b h. getD-replicate 1024 b 0 0 h; links = λ i h. absurd (omega arith) };
-          };
-      tree = λ z g. refl;
-      said = λ z g. refl;
-    }
+turned-emptied t {o} e = subst (λ (x : Order). Turned t x 0 (emptied t)) e (record { good = good; tree = λ g. refl; said = λ g. refl })
+  where
+    good : Good t → Good (emptied t)
+    good g =
+        let z = g .sized in
+        record {
+          sized = record { opened = length-replicate {A = ℕ} 11 zero; cells = length-replicate {A = ℕ} 6144 zero; visible = z .visible; scopes = z .scopes; marks = z .marks; n0 = z .n0; n1 = z .n1; n2 = z .n2; n3 = z .n3 };
+          good =
+              record {
+                small = omega arith;
+                shallow = omega arith;
+                doors = λ j h. absurd (omega arith);
+                indexed = record { heads = λ b h. ap (λ (x : List ℕ). getD x b 0) (part-clear 5120 6144 (omega arith)) ∙ getD-replicate 1024 b 0 0 h; links = λ i h. absurd (omega arith) };
+              };
+        }
 
 -- what is told of a call by value
 pub record Tells (a : Told) (t : Tree) (e : ℕ) (r : Step) : Type 0 where
@@ -282,10 +239,6 @@ module _ (s : List ℕ) (p op : ℕ) (oq : op ≡ getD s p 0) where
           order-enter z = rw (← oq, z, dq, bq, mq, nq)
 
           module _ (z1 : op ≡ 1 → ⊥) (c : Bool) (cq : c ≡ is-declaring op) where
-            pub order-insert : c ≡ true → (i : ℕ) → i ≡ item-kind op → asks (declares i d (eqb b 1) m) ≡ order-at s p
-            unfolding order-at
-            order-insert z i iq = rw (← oq, ne-eqb op 2 z2, ne-eqb op 6 z6, ne-eqb op 7 z7, ne-eqb op 8 z8, ne-eqb op 1 z1, ← cq, z, dq, bq, mq, iq, nq)
-
             pub order-clear : c ≡ false → clears ≡ order-at s p
             unfolding order-at
             order-clear z = rw (← oq, ne-eqb op 2 z2, ne-eqb op 6 z6, ne-eqb op 7 z7, ne-eqb op 8 z8, ne-eqb op 1 z1, ← cq, z)
@@ -301,6 +254,78 @@ module _ (s : List ℕ) (p op : ℕ) (oq : op ≡ getD s p 0) where
           pub order-fn : op ≡ 5 → asks (inserts-function d (eqb b 1) m) ≡ order-at s p
           unfolding order-at
           order-fn z = rw (← oq, z, dq, bq, mq, nq)
+
+-- a call that declares
+module _ (op : ℕ) where
+  pub no-declaring : (op ≡ 3 → ⊥) → (op ≡ 4 → ⊥) → (op ≡ 5 → ⊥) → is-declaring op ≡ false
+  no-declaring a b c = go (decLt op 3) (decLt op 6)
+    where
+      go : Dec (op < 3) → Dec (op < 6) → is-declaring op ≡ false
+      go (yes h) k = rw (lt-ltb op 3 h)
+      go (no h) (yes k) = absurd (omega arith)
+      go (no h) (no k) = rw (le-ltb op 3 (omega arith), le-ltb op 6 (omega arith))
+
+  pub declares-low : op < 3 → false ≡ is-declaring op
+  declares-low h = rw (lt-ltb op 3 h)
+
+  pub declares-rest : 3 ≤ op → ltb op 6 ≡ is-declaring op
+  declares-rest h = rw (le-ltb op 3 h)
+
+never : true ≡ false → ⊥
+never e = let x : _≡_ {A = ℕ} 0 1 = cc in omega arith
+
+-- a call of the tree, by its code
+abbrev pub is-call : ℕ → Bool
+is-call op = cond (eqb op 0) false (ltb op 9)
+
+pub call-none : (op : ℕ) → op ≡ 0 → false ≡ is-call op
+call-none op z = rw z
+
+pub call-some : (op : ℕ) → (op ≡ 0 → ⊥) → ltb op 9 ≡ is-call op
+call-some op z = rw (ne-eqb op 0 z)
+
+call-within : (op : ℕ) → is-call op ≡ true → (0 < op) × (op < 9)
+call-within op h = go (decLt 0 op) (decLt op 9)
+  where
+    go : Dec (0 < op) → Dec (op < 9) → (0 < op) × (op < 9)
+    go (yes a) (yes b) = (a, b)
+    go (no a) b = let z : op ≡ 0 = omega arith in absurd (never (sym (rw z at h)))
+    go (yes a) (no b) = absurd (never (sym (rw (ne-eqb op 0 (λ z. omega arith), le-ltb op 9 (omega arith)) at h)))
+
+call-without : (op : ℕ) → is-call op ≡ false → (op ≡ 0) ⊎ (8 < op)
+call-without op h = go (decLt 0 op) (decLt op 9)
+  where
+    go : Dec (0 < op) → Dec (op < 9) → (op ≡ 0) ⊎ (8 < op)
+    go (no a) b = inl (omega arith)
+    go (yes a) (no b) = inr (omega arith)
+    go (yes a) (yes b) = absurd (never (rw (ne-eqb op 0 (λ z. omega arith), lt-ltb op 9 b) at h))
+
+module _ (s : List ℕ) (p op : ℕ) (oq : op ≡ getD s p 0) (z6 : op ≡ 6 → ⊥) (c : Bool) (cq : c ≡ is-call op) where
+  pub order-asked : c ≡ true → (n : ℕ) → n ≡ getD s (p + 1) 0 → (d : List ℕ) → d ≡ part-of s (p + 2) n → (b : ℕ) → b ≡ getD s (p + 2 + n) 0 → (m : ℕ) → m ≡ pair-at s (p + 2 + n + 1) → (k : ℕ) → k ≡ op
+      → asks (request k d (eqb b 1) m) ≡ order-at s p
+  order-asked y n nq d dq b bq m mq k kq = rw kq (go (decLt op 2) (decLt op 3) (decLt op 4) (decLt op 5) (decLt op 6) (decLt op 8))
+    where
+      w : (0 < op) × (op < 9)
+      w = call-within op (sym cq ∙ y)
+
+      go : Dec (op < 2) → Dec (op < 3) → Dec (op < 4) → Dec (op < 5) → Dec (op < 6) → Dec (op < 8) → asks (request op d (eqb b 1) m) ≡ order-at s p
+      go (yes a) e f g h i = let z : op ≡ 1 = omega (arith, w .0) in rw z (order-enter s p op oq (λ x. omega arith) z6 n nq d dq (λ x. omega arith) (λ x. omega arith) b bq m mq z)
+      go (no a) (yes e) f g h i = let z : op ≡ 2 = omega arith in rw z (order-exit s p op oq z)
+      go (no a) (no e) (yes f) g h i = let z : op ≡ 3 = omega arith in rw z (order-type s p op oq (λ x. omega arith) z6 n nq d dq (λ x. omega arith) (λ x. omega arith) b bq m mq z)
+      go (no a) (no e) (no f) (yes g) h i = let z : op ≡ 4 = omega arith in rw z (order-enum s p op oq (λ x. omega arith) z6 n nq d dq (λ x. omega arith) (λ x. omega arith) b bq m mq z)
+      go (no a) (no e) (no f) (no g) (yes h) i = let z : op ≡ 5 = omega arith in rw z (order-fn s p op oq (λ x. omega arith) z6 n nq d dq (λ x. omega arith) (λ x. omega arith) b bq m mq z)
+      go (no a) (no e) (no f) (no g) (no h) (yes i) = let z : op ≡ 7 = omega (arith, z6) in rw z (order-alias s p op oq (λ x. omega arith) z6 n nq d dq z)
+      go (no a) (no e) (no f) (no g) (no h) (no i) = let z : op ≡ 8 = omega (arith, w .1) in rw z (order-function s p op oq (λ x. omega arith) z6 n nq d dq (λ x. omega arith) z)
+
+  pub order-none : c ≡ false → clears ≡ order-at s p
+  order-none y = go (call-without op (sym cq ∙ y))
+    where
+      clear : (op ≡ 2 → ⊥) → (op ≡ 7 → ⊥) → (op ≡ 8 → ⊥) → (op ≡ 1 → ⊥) → is-declaring op ≡ false → clears ≡ order-at s p
+      clear z2 z7 z8 z1 x = order-clear s p op oq z2 z6 _ refl _ refl z7 z8 _ refl _ refl z1 false (sym x) refl
+
+      go : (op ≡ 0) ⊎ (8 < op) → clears ≡ order-at s p
+      go (inl z) = clear (λ x. omega arith) (λ x. omega arith) (λ x. omega arith) (λ x. omega arith) (no-declaring op (λ x. omega arith) (λ x. omega arith) (λ x. omega arith))
+      go (inr h) = clear (λ x. omega arith) (λ x. omega arith) (λ x. omega arith) (λ x. omega arith) (no-declaring op (λ x. omega arith) (λ x. omega arith) (λ x. omega arith))
 
 -- a part of the bytes
 pub part-none : (s : List ℕ) (p n : ℕ) → length s ≤ p → [] ≡ part-of s p n
@@ -319,45 +344,12 @@ pub part-some : (s : List ℕ) (p n e : ℕ) → e ≡ p + n → take (e - p) (d
 unfolding part-of
 part-some s p n e q = let x : e - p ≡ n = omega arith in rw x
 
-pub turned : {t u : Tree} {o o′ : Order} {r : ℕ} → o ≡ o′ → Turns t o r u → Turns t o′ r u
-turned {t} {u} {o} {o′} {r} e c = subst (λ (x : Order). Turns t x r u) e c
-
 -- answers as numbers
-pub shown-no : (n : ℕ) → n ≡ 0 → 0 ≡ number-shown n
-shown-no n z = rw (eq-eqb n 0 z)
-
-pub shown-number : (n : ℕ) → (n ≡ 0 → ⊥) → (w r : ℕ) → w ≡ n → r ≡ 2 * 65536 + w → r ≡ number-shown n
-shown-number n z w r q e = rw (ne-eqb n 0 z) (omega arith)
-
 pub shown-mark : (a : Told) (m r : ℕ) → a ≡ Mark m → r ≡ 1 * 65536 + m → r ≡ shown (told a)
 shown-mark a m r q e = rw q (omega arith)
 
 pub shown-refused : (a : Told) (n w r : ℕ) → a ≡ Refused n → w ≡ n → r ≡ 2 * 65536 + w → r ≡ shown (told a)
 shown-refused a n w r q x e = rw q (omega arith)
-
-module _ (op : ℕ) where
-  pub no-declaring : (op ≡ 3 → ⊥) → (op ≡ 4 → ⊥) → (op ≡ 5 → ⊥) → is-declaring op ≡ false
-  no-declaring a b c = go (decLt op 3) (decLt op 6)
-    where
-      go : Dec (op < 3) → Dec (op < 6) → is-declaring op ≡ false
-      go (yes h) k = rw (lt-ltb op 3 h)
-      go (no h) (yes k) = absurd (omega arith)
-      go (no h) (no k) = rw (le-ltb op 3 (omega arith), le-ltb op 6 (omega arith))
-
-  pub declares-low : op < 3 → false ≡ is-declaring op
-  declares-low h = rw (lt-ltb op 3 h)
-
-  pub declares-rest : 3 ≤ op → ltb op 6 ≡ is-declaring op
-  declares-rest h = rw (le-ltb op 3 h)
-
-  pub item-function : op ≡ 5 → 2 ≡ item-kind op
-  item-function z = rw (eq-eqb op 5 z)
-
-  pub item-enum : (op ≡ 5 → ⊥) → op ≡ 4 → 4 ≡ item-kind op
-  item-enum y z = rw (ne-eqb op 5 y, eq-eqb op 4 z)
-
-  pub item-alias : (op ≡ 5 → ⊥) → (op ≡ 4 → ⊥) → 1 ≡ item-kind op
-  item-alias y z = rw (ne-eqb op 5 y, ne-eqb op 4 z)
 
 module _ (o : List ℕ) (i v : ℕ) where
   pub put-inside : i < length o → (set o i v ≡ put-at o i v) × (length (set o i v) ≡ length o)

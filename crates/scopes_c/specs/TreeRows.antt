@@ -9,11 +9,10 @@ use lib.Dec.{eqb, ltb}
 use lib.ListN.{length, drop, getD, set, drop-of-length-le, length-set}
 use lib.Seq.{drop-cons}
 use Rattle.names.specs.declared.Name.{Name}
-use Rattle.scopes.specs.declared.Tree.{Tree}
 use Rattle.scopes.specs.Step.{Came, declared, used}
 use Rattle.scopes.specs.Flat.{Body, own, copy, Entry, none}
-use Rattle.scopes.specs.Rows.{tab, length-tab, getD-tab, isOwn, row, row-at, came-of, body-of}
-use Rattle.scopes.specs.Trees.{Good, rows, entries-of, flat-of}
+use Rattle.scopes.specs.Rows.{tab, length-tab, getD-tab, isOwn, row, row-at, name-at, came-of, body-of}
+use Rattle.scopes.specs.Views.{View, rows, entries-of, flat-of}
 use Rattle.scopes_c.specs.Lists.{put-at, written, left-tree}
 
 -- 0 for a declaration, else the number of the entry copied, plus one
@@ -82,6 +81,12 @@ row-put o′ o at k v s m n og a u b bq x xq y yq z zq h =
     let e : x ∷ s ∷ m ∷ og ∷ y ∷ z ∷ n .w0 ∷ n .w1 ∷ n .w2 ∷ n .w3 ∷ [] ≡ cond (eqb v 1) 1 0 ∷ s ∷ m ∷ og ∷ cond (isOwn k og) 0 a ∷ cond (isOwn k og) 0 u ∷ n .w0 ∷ n .w1 ∷ n .w2 ∷ n .w3 ∷ [] = rw (xq, yq, zq, bq) in
     h ∙ ap (λ (l : List ℕ). written o at (k ∷ l)) e ∙ ap (written o at) (entry-numbers k v s m n og a u)
 
+-- four of an entry's numbers read by way of its cells
+pub row-read : (t : View) (i : ℕ) (o′ o : List ℕ) (at k og a u : ℕ) → k ≡ getD (t .kinds) i 0 → og ≡ getD (t .origins) i 0 → a ≡ getD (t .targets) i 0 → u ≡ getD (t .times) i 0
+    → o′ ≡ written o at (numbers (row k (getD (t .visible) i 0) (getD (t .scopes) i 0) (getD (t .marks) i 0) (name-at (t .n0) (t .n1) (t .n2) (t .n3) i) og a u)) → o′ ≡ written o at (numbers (rows t i))
+row-read t i o′ o at k og a u kq oq aq uq h =
+    h ∙ (λ j. written o at (numbers (row (kq j) (getD (t .visible) i 0) (getD (t .scopes) i 0) (getD (t .marks) i 0) (name-at (t .n0) (t .n1) (t .n2) (t .n3) i) (oq j) (aq j) (uq j))))
+
 -- THE LOOP over a row's numbers: those before i are written
 module _ (o₀ : List ℕ) (at : ℕ) (xs : List ℕ) where
   pub record Putting (o : List ℕ) (i : ℕ) : Type 0 where
@@ -116,7 +121,7 @@ module _ (o₀ : List ℕ) (at : ℕ) (xs : List ℕ) where
         sym (w .same ∙ ap (written o (at + i)) (drop-of-length-le xs b))
 
 -- THE LOOP over the entries: the rows before i are written
-module _ (o₀ : List ℕ) (t : Tree) where
+module _ (o₀ : List ℕ) (t : View) where
   pub record Listing (o : List ℕ) (i : ℕ) : Type 0 where
     pub within : i ≤ t .count
     pub long : length o ≡ length o₀

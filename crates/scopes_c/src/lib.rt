@@ -5,13 +5,15 @@ ghost use mathlib.Core.Path.{_≡_};
 ghost use Prim.Native.Nat.{_+_, _*_, _<_, _≤_};
 ghost use mathlib.Core.Bool.{cond};
 ghost use lib.ListN.{length, getD};
-ghost use Rattle.scopes.specs.Trees.{told};
-ghost use Rattle.scopes.specs.Lent.{lent};
-ghost use Rattle.scopes_c.specs.Lists.{pair-at, part-of, item-kind, is-declaring, order-at, after-order, shown, number-shown, Turns, Tells, Called, put-at, written, Walked, Replayed};
+ghost use Rattle.scopes.specs.Views.{told};
+ghost use Rattle.scopes.specs.Trees.{packed-in};
+ghost use Rattle.scopes_c.specs.Lists.{pair-at, part-of, is-declaring, is-call, order-at, after-order, shown, Turned, Tells, Called, put-at, written, Walked, Replayed};
 ghost use Rattle.scopes.specs.Rows.{isOwn, row};
 ghost use Rattle.scopes_c.specs.TreeRows.{numbers, Listed};
 use names::Name;
 use scopes::Answer;
+use scopes::CELLS;
+use scopes::OPENED;
 use scopes::Outcome;
 use scopes::Tree;
 
@@ -198,15 +200,6 @@ pub extern "C" fn scopes_replay(s: &[u8], out: &mut [u32]) -> usize
 }
 
 // An answer as a number: code times 65,536 plus value.
-fn numbered(number: u8) -> u32
-    ensures { λ r. ⌜ r ≡ number-shown number ⌝ }
-{
-    if number == 0 {
-        return 0;
-    }
-    packed(2, wider(number))
-}
-
 fn shown(a: Answer) -> u32
     ensures { λ r. ⌜ r ≡ shown (told a) ⌝ }
 {
@@ -242,19 +235,6 @@ fn after(s: &[u8], p: usize) -> usize
     p + 1
 }
 
-// The item kind of a declaring call, as in a bundle.
-fn item_of(op: usize) -> u8
-    ensures { λ r. ⌜ r ≡ item-kind op ⌝ }
-{
-    if op == 5 {
-        return 2;
-    }
-    if op == 4 {
-        return 4;
-    }
-    1
-}
-
 fn declares(op: usize) -> bool
     ensures { λ r. ⌜ r ≡ is-declaring op ⌝ }
 {
@@ -264,10 +244,27 @@ fn declares(op: usize) -> bool
     op < 6
 }
 
+// Whether there is a tree call of this code.
+fn is_call(op: usize) -> bool
+    ensures { λ r. ⌜ r ≡ is-call op ⌝ }
+{
+    if op == 0 {
+        return false;
+    }
+    op < 9
+}
+
+fn narrow(op: usize) -> u8
+    requires { ⌜ op < 256 ⌝ }
+    ensures { λ r. ⌜ r ≡ op ⌝ }
+{
+    op as u8
+}
+
 // The call at p on lent arrays: its answer as a number.
 fn call_in(
-    count: &mut usize,
-    kinds: &mut [u8; 1024],
+    opened: &mut [u16; OPENED],
+    cells: &mut [u16; CELLS],
     visible: &mut [u8; 1024],
     scopes: &mut [u16; 1024],
     marks: &mut [u16; 1024],
@@ -275,29 +272,19 @@ fn call_in(
     n1: &mut [u64; 1024],
     n2: &mut [u64; 1024],
     n3: &mut [u64; 1024],
-    origins: &mut [u16; 1024],
-    targets: &mut [u16; 1024],
-    times: &mut [u16; 1024],
-    heads: &mut [u16; 1024],
-    links: &mut [u16; 1024],
-    depth: &mut usize,
-    stack: &mut [u16; 9],
     s: &[u8],
     p: usize,
 ) -> u32
     requires { ⌜ p < 16777216 ⌝ }
-    ensures { λ r. ⌜ Turns (lent (now (count .entry)) (now (kinds .entry)) (now (visible .entry)) (now (scopes .entry)) (now (marks .entry)) (now (n0 .entry)) (now (n1 .entry)) (now (n2 .entry)) (now (n3 .entry)) (now (origins .entry)) (now (targets .entry)) (now (times .entry)) (now (heads .entry)) (now (links .entry)) (now (depth .entry)) (now (stack .entry))) (order-at (now (s .entry)) p) r (lent (now (count .exit)) (now (kinds .exit)) (now (visible .exit)) (now (scopes .exit)) (now (marks .exit)) (now (n0 .exit)) (now (n1 .exit)) (now (n2 .exit)) (now (n3 .exit)) (now (origins .exit)) (now (targets .exit)) (now (times .exit)) (now (heads .exit)) (now (links .exit)) (now (depth .exit)) (now (stack .exit))) ⌝ }
+    ensures { λ r. ⌜ Turned (packed-in (now (opened .entry)) (now (cells .entry)) (now (visible .entry)) (now (scopes .entry)) (now (marks .entry)) (now (n0 .entry)) (now (n1 .entry)) (now (n2 .entry)) (now (n3 .entry))) (order-at (now (s .entry)) p) r (packed-in (now (opened .exit)) (now (cells .exit)) (now (visible .exit)) (now (scopes .exit)) (now (marks .exit)) (now (n0 .exit)) (now (n1 .exit)) (now (n2 .exit)) (now (n3 .exit))) ⌝ }
 {
     let op = byte(s, p);
-    if op == 2 {
-        return numbered(scopes::lent::exit(&mut *depth));
-    }
     if op == 6 {
         let n = pair(s, p + 1);
         let v = byte(s, p + 3 + n) == 1;
-        return numbered(scopes::lent::resolve_use(
-            &mut *count,
-            &mut *kinds,
+        return shown(scopes::lent::call(
+            &mut *opened,
+            &mut *cells,
             &mut *visible,
             &mut *scopes,
             &mut *marks,
@@ -305,61 +292,20 @@ fn call_in(
             &mut *n1,
             &mut *n2,
             &mut *n3,
-            &mut *origins,
-            &mut *targets,
-            &mut *times,
-            &mut *heads,
-            &mut *links,
-            *depth,
-            &*stack,
+            6,
             part(s, p + 3, n),
             v,
+            0,
         ));
     }
-    let n = byte(s, p + 1);
-    let e = p + 2 + n;
-    if op == 7 {
-        return shown(scopes::lent::get(
-            *count,
-            &*kinds,
-            &*scopes,
-            &*marks,
-            &*n0,
-            &*n1,
-            &*n2,
-            &*n3,
-            &*heads,
-            &*links,
-            *depth,
-            &*stack,
-            part(s, p + 2, n),
-            1,
-        ));
-    }
-    if op == 8 {
-        return shown(scopes::lent::get(
-            *count,
-            &*kinds,
-            &*scopes,
-            &*marks,
-            &*n0,
-            &*n1,
-            &*n2,
-            &*n3,
-            &*heads,
-            &*links,
-            *depth,
-            &*stack,
-            part(s, p + 2, n),
-            2,
-        ));
-    }
-    let v = byte(s, e) == 1;
-    let m = mark(s, e + 1);
-    if op == 1 {
-        return numbered(scopes::lent::enter(
-            &mut *count,
-            &mut *kinds,
+    if is_call(op) {
+        let n = byte(s, p + 1);
+        let e = p + 2 + n;
+        let v = byte(s, e) == 1;
+        let m = mark(s, e + 1);
+        return shown(scopes::lent::call(
+            &mut *opened,
+            &mut *cells,
             &mut *visible,
             &mut *scopes,
             &mut *marks,
@@ -367,45 +313,14 @@ fn call_in(
             &mut *n1,
             &mut *n2,
             &mut *n3,
-            &mut *origins,
-            &mut *targets,
-            &mut *times,
-            &mut *heads,
-            &mut *links,
-            &mut *depth,
-            &mut *stack,
+            narrow(op),
             part(s, p + 2, n),
             v,
             m,
         ));
     }
-    if declares(op) {
-        return numbered(scopes::lent::insert(
-            &mut *count,
-            &mut *kinds,
-            &mut *visible,
-            &mut *scopes,
-            &mut *marks,
-            &mut *n0,
-            &mut *n1,
-            &mut *n2,
-            &mut *n3,
-            &mut *origins,
-            &mut *targets,
-            &mut *times,
-            &mut *heads,
-            &mut *links,
-            *depth,
-            &*stack,
-            item_of(op),
-            part(s, p + 2, n),
-            v,
-            m,
-        ));
-    }
-    *count = 0;
-    *heads = [0u16; 1024];
-    *depth = 0;
+    *opened = [0u16; OPENED];
+    *cells = [0u16; CELLS];
     0
 }
 
@@ -415,8 +330,8 @@ fn call_in(
 pub extern "C" fn scopes_walk(s: &[u8], out: &mut [u32]) -> usize
     ensures { λ r. ⌜ Walked (now (s .entry)) (now (out .entry)) r (now (out .exit)) ⌝ }
 {
-    let mut count: usize = 0;
-    let mut kinds = [0u8; 1024];
+    let mut opened = [0u16; OPENED];
+    let mut cells = [0u16; CELLS];
     let mut visible = [0u8; 1024];
     let mut scopes = [0u16; 1024];
     let mut marks = [0u16; 1024];
@@ -424,13 +339,6 @@ pub extern "C" fn scopes_walk(s: &[u8], out: &mut [u32]) -> usize
     let mut n1 = [0u64; 1024];
     let mut n2 = [0u64; 1024];
     let mut n3 = [0u64; 1024];
-    let mut origins = [0u16; 1024];
-    let mut targets = [0u16; 1024];
-    let mut times = [0u16; 1024];
-    let mut heads = [0u16; 1024];
-    let mut links = [0u16; 1024];
-    let mut depth: usize = 0;
-    let mut stack = [0u16; 9];
     let mut p: usize = 0;
     let mut i: usize = 0;
     while i < 16000000 {
@@ -441,8 +349,8 @@ pub extern "C" fn scopes_walk(s: &[u8], out: &mut [u32]) -> usize
             return i;
         }
         let a = call_in(
-            &mut count,
-            &mut kinds,
+            &mut opened,
+            &mut cells,
             &mut visible,
             &mut scopes,
             &mut marks,
@@ -450,13 +358,6 @@ pub extern "C" fn scopes_walk(s: &[u8], out: &mut [u32]) -> usize
             &mut n1,
             &mut n2,
             &mut n3,
-            &mut origins,
-            &mut targets,
-            &mut times,
-            &mut heads,
-            &mut links,
-            &mut depth,
-            &mut stack,
             s,
             p,
         );
@@ -492,7 +393,7 @@ fn one(b: bool) -> u64
     if b { 1 } else { 0 }
 }
 
-fn is_own(kind: u8, origin: u16) -> bool
+fn is_own(kind: u16, origin: u16) -> bool
     ensures { λ r. ⌜ r ≡ isOwn kind origin ⌝ }
 {
     if kind != 3 {
@@ -511,7 +412,7 @@ fn unless(own: bool, x: u16) -> u64
 fn put_row(
     out: &mut [u64],
     at: usize,
-    kind: u8,
+    kind: u16,
     visible: u8,
     scope: u16,
     mark: u16,
@@ -550,24 +451,29 @@ pub extern "C" fn scopes_rows(s: &[u8], out: &mut [u64]) -> usize
     let mut none = [0u32; 1];
     let r = replayed(s, &mut none);
     let t = r.tree;
+    let count = scopes::count_of(&t.opened);
     let mut i: usize = 0;
-    while i < t.count {
+    while i < count {
         let n = Name {
             w0: t.n0[i],
             w1: t.n1[i],
             w2: t.n2[i],
             w3: t.n3[i],
         };
+        let kind = scopes::kind_at(&t.cells, i);
+        let origin = scopes::origin_at(&t.cells, i);
+        let target = scopes::target_at(&t.cells, i);
+        let time = scopes::time_at(&t.cells, i);
         put_row(
             out,
             i * 11,
-            t.kinds[i],
+            kind,
             t.visible[i],
             t.scopes[i],
             t.marks[i],
-            t.origins[i],
-            t.targets[i],
-            t.times[i],
+            origin,
+            target,
+            time,
             n,
         );
         i += 1;
