@@ -1,7 +1,7 @@
 -- ANY BYTES AND ANY BUFFERS are answered in one of six ways, and what each of them means. Assumes nothing.
 use Prim.Native.Nat.{ℕ, _<_}
 use mathlib.Core.Bool.{Bool, true, false}
-use mathlib.Core.Path.{_≡_, refl, sym, ap, subst, _∙_}
+use mathlib.Core.Path.{_≡_, refl, sym, ap, subst}
 use mathlib.Core.List.{List, [], _∷_, map}
 use lib.Dec.{leb}
 use lib.ListN.{length}
@@ -17,8 +17,8 @@ use Rattle.order.specs.Report.{Record, fault, ring, small-buffer, reportLength,
 use Rattle.order.specs.Demand.{ReportEnds, too-small, whole, report-ends, wrote, fault-some, ring-some, files-linked}
 use Rattle.order.specs.declared.Reported.{Reported}
 use Rattle.order.specs.declared.Reported.the-variants as reported
-use Rattle.assembly.specs.Assemble.{Outcome, faulty, closed, program, assembled, linearizeAndAssemble}
-use Rattle.assembly.specs.Call.{recordsOf, refusing, reportedTo, imagedTo, answering, imageAfter, answerTo, reportTo, imageTo, assembleAnswer, assembleReport, assembleImage, ImageWritten, NoImage}
+use Rattle.assembly.specs.Assemble.{Outcome, faulty, closed, program, linearizeAndAssemble}
+use Rattle.assembly.specs.Call.{recordsOf, telling, refusing, reportedTo, imagedTo, answering, imageAfter, answerTo, reportTo, imageTo, assembleAnswer, assembleReport, assembleImage, ImageWritten, NoImage}
 use Rattle.assembly.specs.Call as call
 use Rattle.assembly.specs.Image.{image-limit, itemsLength, imageLength, imaging, lentImage}
 use Rattle.assembly.specs.Image as image
@@ -38,10 +38,10 @@ pub data AssembleTold (s rep img rep₁ img₁ : List ℕ) (a : Answer) : Type 0
   -- 14 only where the report exceeds its buffer, and no byte is changed
   small-report : (b : Bundle) → read s ≡ value b → length rep < reportLength (recordsOf (linearizeAndAssemble b)) → a ≡ refusing small-buffer 0 → rep₁ ≡ rep → img₁ ≡ img
       → AssembleTold s rep img rep₁ img₁ a
-  -- the faults of discovery or of step 5, one record each
-  faults : (b : Bundle) (l : List Fault) → read s ≡ value b → FaultsMet b l → Wrote (map fault l) rep rep₁ (a .number) (a .report) → img₁ ≡ img → AssembleTold s rep img rep₁ img₁ a
+  -- the faults of discovery or of step 5, one record each: the report's length is answered, and nothing else
+  faults : (b : Bundle) (l : List Fault) → read s ≡ value b → FaultsMet b l → a ≡ telling 0 0 (a .report) → Wrote (map fault l) rep rep₁ (a .number) (a .report) → img₁ ≡ img → AssembleTold s rep img rep₁ img₁ a
   -- 26: two or more different reached files import each other, and the ring is named
-  ring-met : (b : Bundle) (r : List ℕ) → read s ≡ value b → RingMet b r → Wrote (ring r ∷ []) rep rep₁ (a .number) (a .report) → img₁ ≡ img → AssembleTold s rep img rep₁ img₁ a
+  ring-met : (b : Bundle) (r : List ℕ) → read s ≡ value b → RingMet b r → a ≡ telling 0 0 (a .report) → Wrote (ring r ∷ []) rep rep₁ (a .number) (a .report) → img₁ ≡ img → AssembleTold s rep img rep₁ img₁ a
   -- 15, and 14 only where the image exceeds its buffer: no byte is changed
   no-image : (b : Bundle) (o : List ℕ) (p : Items) (n : ℕ) → read s ≡ value b → WholeProgram b o p → NoImage p (length img) n → a ≡ refusing n 0 → rep₁ ≡ rep → img₁ ≡ img
       → AssembleTold s rep img rep₁ img₁ a
@@ -102,8 +102,8 @@ module _ (s : List ℕ) (B : Bytes s) (rep img : List ℕ) where
 
     by-outcome : (x : Outcome) → linearizeAndAssemble b ≡ x → AssembleTold s rep img (lentReport (recordsOf x) rep) (imageAfter x img) (answering (unitFiles b) (length rep) (length img) x)
     by-outcome (faulty []) e = absurd (faults-only s b v [] e .some refl)
-    by-outcome (faulty (f ∷ fs)) e = report-told (map fault (f ∷ fs)) (ap recordsOf e) (λ w. faults b (f ∷ fs) v (faults-only s b v (f ∷ fs) e) w refl) (fault-some f fs)
-    by-outcome (closed r) e = report-told (ring r ∷ []) (ap recordsOf e) (λ w. ring-met b r v (ring-only s b v r e) w refl) (ring-some r)
+    by-outcome (faulty (f ∷ fs)) e = report-told (map fault (f ∷ fs)) (ap recordsOf e) (λ w. faults b (f ∷ fs) v (faults-only s b v (f ∷ fs) e) refl w refl) (fault-some f fs)
+    by-outcome (closed r) e = report-told (ring r ∷ []) (ap recordsOf e) (λ w. ring-met b r v (ring-only s b v r e) refl w refl) (ring-some r)
     by-outcome (program o p) e = image-told o p e (image-ends p img)
 
   by-reading : (x : Reading) → read s ≡ x → AssembleTold s rep img (reportTo x rep) (imageTo x img) (answerTo x (length rep) (length img))

@@ -24,7 +24,8 @@ use Rattle.order.specs.Theorems.{first-half}
 use Rattle.order.specs.Writing.{started}
 use Rattle.assembly.specs.Assemble.{enum-kind, itemsOf, enumDeclarations, foreignEnum, hasMain, noMain, assemblyFaults}
 use Rattle.assembly.specs.Faults.{zero-last, once-last, enumsOf, mainFault, faults-are}
-use Rattle.assembly.specs.Given.{OrderGiven, OneUnit, one-unit}
+use Rattle.assembly.specs.Given.{OrderGiven, OneUnit}
+use Rattle.assembly.specs.GivenLaws.{one-unit}
 
 -- an enum is an item
 enums-few : (x : Items) → length (enumDeclarations x) ≤ itemCount x

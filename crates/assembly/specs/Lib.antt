@@ -20,6 +20,7 @@ pub mod Targets
 pub mod Walk
 pub mod Uses
 pub mod Written
+pub mod GivenLaws
 pub mod EnumRoom
 pub mod UseRoom
 pub mod WholeImage

@@ -1,6 +1,6 @@
 -- STEP 5 IS RIGHT, of every bundle that is not refused and links: its units, their items, their uses, and when 27 and 28 are told.
 -- Assumes nothing.
-use Prim.Native.Nat.{ℕ, _+_, _<_, _≤_}
+use Prim.Native.Nat.{ℕ, _<_, _≤_}
 use native.Mathlib.Omega.{arith}
 use mathlib.Core.Bool.{Bool, true, false, cond}
 use mathlib.Core.Logic.{_⊎_, inl, inr, ⊎-elim}

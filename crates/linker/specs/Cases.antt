@@ -136,10 +136,10 @@ pub record Lent : Type 0 where
   pub image : ℕ
   pub answer : List ℕ
 
-abbrev numbers : Answer → List ℕ
+abbrev pub numbers : Answer → List ℕ
 numbers a = a .number ∷ a .place ∷ a .report ∷ a .units ∷ a .image ∷ []
 
-abbrev two-files : Bundle
+abbrev pub two-files : Bundle
 two-files = below-r (main-of (use-of 0 0 (path ("crate" ∷ "a" ∷ [])) (plain "f" ∷ []) main) ∷ at-path "/r/a.simf" (named 2 0 1 (ascii "f") none) ∷ [])
 
 abbrev no-main : Bundle

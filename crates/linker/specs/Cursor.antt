@@ -22,7 +22,8 @@ use Rattle.resolution.specs.declared.Layout.{Layout}
 use Rattle.scopes.specs.Form.{enters, exits, resolves-use}
 use Rattle.scopes.specs.Lent.{declares}
 use Rattle.assembly.specs.Assemble.{fileOf, itemsOf}
-use Rattle.assembly.specs.Given.{OrderGiven, one-unit, below, items-are, path-is}
+use Rattle.assembly.specs.Given.{OrderGiven}
+use Rattle.assembly.specs.GivenLaws.{one-unit, below, items-are, path-is}
 use Rattle.assembly.specs.Targets.{UnitOf}
 use Rattle.assembly.specs.Walk.{segmentsAt, useBytes, oneAt, kind-byte, next-is}
 use Rattle.linker.specs.Scopes.{Asked, asked, isPublic}

@@ -22,7 +22,7 @@ use Rattle.scopes.specs.declared.Tree.{Tree}
 use Rattle.assembly.specs.Assemble.{linearizeAndAssemble}
 use Rattle.assembly.specs.Assemble as assembly
 use Rattle.assembly.specs.Image.{small-buffer, imageLength, imaging, lentImage}
-use Rattle.assembly.specs.Call.{refusing, reportedTo, imagedTo, ImageWritten, NoImage}
+use Rattle.assembly.specs.Call.{telling, refusing, reportedTo, imagedTo, ImageWritten, NoImage}
 use Rattle.assembly.specs.Demand.{ImageEnds, none, some, image-ends, image-written}
 use Rattle.assembly.specs.Theorems.{Program, program-only, FaultsMet}
 use Rattle.assembly.specs.declared.Answer.{Answer}
@@ -51,10 +51,10 @@ pub data LinkTold (s rep img : List ℕ) (t u : Tree) (rep₁ img₁ : List ℕ)
   -- 14 only where the report exceeds its buffer
   small-report : (b : Bundle) → read s ≡ value b → length rep < reportLength (recordsOf (linkBundle b)) → a ≡ refusing small-buffer 0 → rep₁ ≡ rep → Untouched img img₁ t u
       → LinkTold s rep img t u rep₁ img₁ a
-  -- 20 to 25, 27, 28: the faults of discovery or of step 5, one record each
-  faults : (b : Bundle) (l : List Fault) → read s ≡ value b → FaultsMet b l → Wrote (map fault l) rep rep₁ (a .number) (a .report) → Untouched img img₁ t u → LinkTold s rep img t u rep₁ img₁ a
+  -- 20 to 25, 27, 28: the faults of discovery or of step 5, one record each: the report's length is answered, and nothing else
+  faults : (b : Bundle) (l : List Fault) → read s ≡ value b → FaultsMet b l → a ≡ telling 0 0 (a .report) → Wrote (map fault l) rep rep₁ (a .number) (a .report) → Untouched img img₁ t u → LinkTold s rep img t u rep₁ img₁ a
   -- 26: "a ring is refused exactly when two or more different reached files import each other in one, and such a ring is named"
-  ring-met : (b : Bundle) (r : List ℕ) → read s ≡ value b → RingMet b r → Wrote (ring r ∷ []) rep rep₁ (a .number) (a .report) → Untouched img img₁ t u → LinkTold s rep img t u rep₁ img₁ a
+  ring-met : (b : Bundle) (r : List ℕ) → read s ≡ value b → RingMet b r → a ≡ telling 0 0 (a .report) → Wrote (ring r ∷ []) rep rep₁ (a .number) (a .report) → Untouched img img₁ t u → LinkTold s rep img t u rep₁ img₁ a
   -- 40 to 51: the first call that is refused, and its item's mark
   ends : (b : Bundle) (n m : ℕ) → read s ≡ value b → EndsAt b n m → a ≡ refusing n m → rep₁ ≡ rep → Untouched img img₁ t u → LinkTold s rep img t u rep₁ img₁ a
   -- 15, and 14 only where the image exceeds its buffer, of a bundle that links
@@ -119,10 +119,10 @@ module _ (s : List ℕ) (B : Bytes s) (rep img : List ℕ) (t u : Tree) where
     by-outcome (faulty []) e k = absurd (faults-only s b v [] e .some refl)
     by-outcome (faulty (f ∷ fs)) e k =
         let n : Untouched img img t u = record { image = refl; tree = k } in
-        report-told (map fault (f ∷ fs)) (ap recordsOf e) n (λ w. faults b (f ∷ fs) v (faults-only s b v (f ∷ fs) e) w n) (fault-some f fs)
+        report-told (map fault (f ∷ fs)) (ap recordsOf e) n (λ w. faults b (f ∷ fs) v (faults-only s b v (f ∷ fs) e) refl w n) (fault-some f fs)
     by-outcome (closed r) e k =
         let n : Untouched img img t u = record { image = refl; tree = k } in
-        report-told (ring r ∷ []) (ap recordsOf e) n (λ w. ring-met b r v (ring-only s b v r e) w n) (ring-some r)
+        report-told (ring r ∷ []) (ap recordsOf e) n (λ w. ring-met b r v (ring-only s b v r e) refl w n) (ring-some r)
     by-outcome (ended n m) e k = ends b n m v (ends-at b n m e) refl (nothing-lent rep) (record { image = refl; tree = k })
     by-outcome (linked o p x) e k = image-told o p x e k (image-ends p img)
 

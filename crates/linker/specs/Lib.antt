@@ -5,8 +5,10 @@ pub mod Call
 -- THEOREMS to cite
 pub mod Theorems
 pub mod Demand
+pub mod Evidence
 pub mod Cases
 -- LAWS for code and proofs
+pub mod Refusals
 pub mod Steps
 pub mod Fit
 pub mod Units

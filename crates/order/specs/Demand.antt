@@ -26,18 +26,20 @@ use Rattle.order.specs.Report as report
 use Rattle.order.specs.Call.{pathsOfIds, Wrote, padded, refusing, reportedTo, linking, answering, unitFiles, answerTo, reportTo, orderAnswer, orderReport}
 use Rattle.order.specs.declared.Answer.{Answer}
 use Rattle.order.specs.declared.Reported.{Reported}
+use Rattle.order.specs.declared.Reported.the-variants as reported
 
 pub data OrderTold (s out final : List ℕ) (a : Answer) : Type 0 where
   -- 1 to 13: number and place, and no byte is changed
   turned-back : (n p : ℕ) → read s ≡ refused n p → a ≡ refusing n p → final ≡ out → OrderTold s out final a
   -- 14 only where the report exceeds the buffer, and no byte is changed
   small : (b : Bundle) → read s ≡ value b → length out < reportLength (recordsOf (ordered b)) → a ≡ refusing small-buffer 0 → final ≡ out → OrderTold s out final a
-  -- the faults of discovery, one record each
-  faults : (b : Bundle) → read s ≡ value b → Wrote (map fault (faultsOf b)) out final (a .number) (a .report) → OrderTold s out final a
+  -- the faults of discovery, one record each: the report's length is answered, and nothing else
+  faults : (b : Bundle) → read s ≡ value b → a ≡ reportedTo (reported.Report (a .report)) → Wrote (map fault (faultsOf b)) out final (a .number) (a .report) → OrderTold s out final a
   -- "a ring is refused exactly when two or more different reached files import each other in one, and such a ring is named"
-  ring-met : (b : Bundle) (r : List ℕ) → read s ≡ value b → RingMet b r → Wrote (ring r ∷ []) out final (a .number) (a .report) → OrderTold s out final a
+  ring-met : (b : Bundle) (r : List ℕ) → read s ≡ value b → RingMet b r → a ≡ reportedTo (reported.Report (a .report)) → Wrote (ring r ∷ []) out final (a .number) (a .report) → OrderTold s out final a
   -- "a linked program's units are exactly the reached files, each once, each after every other file it imports"
-  in-order : (b : Bundle) → read s ≡ value b → (ImportEachOther b → ⊥) → LinkedFiles b (pathsOfIds b (a .files) (a .ids) (a .units)) → a .number ≡ 0 → a .report ≡ 0 → final ≡ out → OrderTold s out final a
+  in-order : (b : Bundle) (o : List ℕ) → read s ≡ value b → ordered b ≡ linked o → (ImportEachOther b → ⊥) → LinkedFiles b (pathsOfIds b (a .files) (a .ids) (a .units))
+      → a ≡ linking (unitFiles b) (padded o) → final ≡ out → OrderTold s out final a
 
 -- THE PATHS OF AN ORDER
 getD-map-in : {A B : Type 0} (f : A → B) (l : List A) (i : ℕ) (d : A) (e : B) → i < length l → getD (map f l) i e ≡ f (getD l i d)
@@ -103,14 +105,14 @@ module _ (s out : List ℕ) where
       → OrderTold s out (lentReport (recordsOf x) out) (answering (unitFiles b) (length out) x)
   by-outcome b v h (linked o) e =
       let files = h .order o e in
-      in-order b v (h .no-ring o e) (files-linked b o (h .ids o e) files) refl refl (nothing-lent out)
+      in-order b o v e (h .no-ring o e) (files-linked b o (h .ids o e) files) refl (nothing-lent out)
   by-outcome b v h (closed r) e = go (report-ends (ring r ∷ []) out)
     where
       go : ReportEnds (ring r ∷ []) out → OrderTold s out (lentReport (ring r ∷ []) out) (reportedTo (reporting (ring r ∷ []) (length out)))
       go (too-small l x) = small b v (subst (λ (y : Outcome). length out < reportLength (recordsOf y)) (sym e) l) (ap reportedTo (x .answered)) (x .untouched)
       go (whole f) =
           subst (λ (y : Reported). OrderTold s out (lentReport (ring r ∷ []) out) (reportedTo y)) (sym (f .answered))
-          (ring-met b r v (ring-met-only s b v r e) (wrote f (ring-some r)))
+          (ring-met b r v (ring-met-only s b v r e) refl (wrote f (ring-some r)))
   by-outcome b v h (faulty []) e = absurd (h .faults [] e .1 refl)
   by-outcome b v h (faulty (f ∷ fs)) e = go (report-ends (map fault (f ∷ fs)) out)
     where
@@ -118,7 +120,7 @@ module _ (s out : List ℕ) where
       go (too-small l x) = small b v (subst (λ (y : Outcome). length out < reportLength (recordsOf y)) (sym e) l) (ap reportedTo (x .answered)) (x .untouched)
       go (whole x) =
           subst (λ (y : Reported). OrderTold s out (lentReport (map fault (f ∷ fs)) out) (reportedTo y)) (sym (x .answered))
-          (faults b v (subst (λ (l : List Fault). Wrote (map fault l) out (lentReport (map fault (f ∷ fs)) out) 0 (reportLength (map fault (f ∷ fs)))) (h .faults (f ∷ fs) e .0) (wrote x (fault-some f fs))))
+          (faults b v refl (subst (λ (l : List Fault). Wrote (map fault l) out (lentReport (map fault (f ∷ fs)) out) 0 (reportLength (map fault (f ∷ fs)))) (h .faults (f ∷ fs) e .0) (wrote x (fault-some f fs))))
 
   by-reading : (x : Reading) → read s ≡ x → Due x
   by-reading (refused n p) e = turned-back n p e refl refl

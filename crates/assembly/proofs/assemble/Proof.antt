@@ -9,7 +9,7 @@ use borrow.Author.Needs.{needs}
 use Rattle.order.specs.Writing.{faultRecords}
 use Rattle.order.specs.Report.{reporting, lentReport}
 use Rattle.discovery.specs.Known.{table-none}
-use Rattle.assembly.specs.Given.{known-linked}
+use Rattle.assembly.specs.GivenLaws.{known-linked}
 use Rattle.assembly.specs.Join.{no-units, units-linked, faults-told, image-told}
 use Rattle.assembly.proofs.assemble.Statement.{statement}
 use Rattle.assembly.proofs.assemble.Tie as tie

@@ -3,7 +3,7 @@ use mathlib.Core.Path.{_≡_, _∙_}
 use lib.ListN.{length}
 use denote.Ref.{now}
 use Rattle.discovery.specs.Known.{table-none}
-use Rattle.assembly.specs.Given.{known-linked}
+use Rattle.assembly.specs.GivenLaws.{known-linked}
 use Rattle.assembly.specs.Join.{units-linked}
 use Rattle.linker.specs.Join.{no-units, faults-due, ended-due, image-due}
 use borrow.Author.Needs.{needs}

@@ -9,7 +9,8 @@ use borrow.Author.Needs.{needs}
 use Rattle.bundle.specs.Decode.{decode}
 use Rattle.order.specs.Writing.{started}
 use Rattle.assembly.specs.EnumRoom.{enums-step, enums-end}
-use Rattle.assembly.specs.Given.{OneUnit, one-unit, below}
+use Rattle.assembly.specs.Given.{OneUnit}
+use Rattle.assembly.specs.GivenLaws.{one-unit, below}
 use Rattle.assembly.specs.Assemble.{itemsOf, enumDeclarations}
 use Rattle.assembly.specs.Faults.{enumsOf}
 use Rattle.assembly.specs.Parts.{Filled, lent-length, filled-none, filled-length, filled-start, filled-room, filled-more, filled-all}

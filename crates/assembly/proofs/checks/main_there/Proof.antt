@@ -2,7 +2,7 @@
 use mathlib.Core.Path.{ap, _∙_}
 use denote.Ref.{now}
 use borrow.Author.Needs.{needs}
-use Rattle.assembly.specs.Given.{index-small, items-are}
+use Rattle.assembly.specs.GivenLaws.{index-small, items-are}
 use Rattle.assembly.specs.Assemble.{hasMain}
 use Rattle.assembly.proofs.checks.main_there.Statement.{statement}
 use Rattle.assembly.proofs.checks.main_there.Tie as tie

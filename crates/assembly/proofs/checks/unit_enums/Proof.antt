@@ -7,7 +7,7 @@ use lib.ListN.{length}
 use denote.Ref.{now}
 use borrow.Author.Needs.{needs}
 use Rattle.bundle.specs.Decode.{decode}
-use Rattle.assembly.specs.Given.{index-small, items-are}
+use Rattle.assembly.specs.GivenLaws.{index-small, items-are}
 use Rattle.assembly.specs.Walk.{enums-of}
 use Rattle.assembly.specs.Parts.{same-filled}
 use Rattle.assembly.specs.Assemble.{itemsOf}

@@ -7,7 +7,7 @@ use denote.Ref.{now}
 use borrow.Author.Needs.{needs}
 use Rattle.names.specs.Decimal.{unitName}
 use Rattle.bundle.specs.Encode.{string}
-use Rattle.assembly.specs.Given.{index-small, items-are, path-is, one-unit, unit-of, unit-form}
+use Rattle.assembly.specs.GivenLaws.{index-small, items-are, path-is, one-unit, unit-of, unit-form}
 use Rattle.assembly.specs.Uses.{name-length}
 use Rattle.assembly.specs.Walk.{itemsBytes}
 use Rattle.assembly.proofs.lengths.unit_length.Statement.{statement}

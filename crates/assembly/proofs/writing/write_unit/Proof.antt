@@ -11,7 +11,8 @@ use Rattle.names.specs.Decimal.{unitName}
 use Rattle.bundle.specs.Decode.{decode, itemsAt}
 use Rattle.bundle.specs.Encode.{string}
 use Rattle.assembly.specs.Written.{Inside, inside-start, inside-room, inside-short, inside-length, inside-done}
-use Rattle.assembly.specs.Given.{OneUnit, index-small, items-are, path-is, one-unit, unit-of, unit-brief, unitBytes, unit-room, unit-form}
+use Rattle.assembly.specs.Given.{OneUnit, unitBytes}
+use Rattle.assembly.specs.GivenLaws.{index-small, items-are, path-is, one-unit, unit-of, unit-brief, unit-room, unit-form}
 use Rattle.assembly.specs.Assemble.{fileOf, itemsOf}
 use Rattle.assembly.specs.Walk.{itemsBytes, Brief}
 use Rattle.assembly.proofs.writing.write_unit.Statement.{statement}

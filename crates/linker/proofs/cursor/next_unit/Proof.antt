@@ -1,6 +1,6 @@
 use Prim.Native.Nat.{_<_}
 use native.Mathlib.Omega.{arith}
-use Rattle.assembly.specs.Given.{one-unit, few-units, index-small}
+use Rattle.assembly.specs.GivenLaws.{one-unit, few-units, index-small}
 use Rattle.linker.specs.Cursor.{yields-end, unit-below, yields-unit}
 use borrow.Author.Needs.{needs}
 use Rattle.linker.proofs.cursor.next_unit.Statement.{statement}

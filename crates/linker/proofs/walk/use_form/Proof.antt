@@ -4,7 +4,7 @@ use native.Mathlib.Omega.{arith}
 use Prim.Native.Nat.{ℕ, _≤_}
 use lib.ListN.{length}
 use Rattle.order.specs.Writing.{started}
-use Rattle.assembly.specs.Given.{unit-of}
+use Rattle.assembly.specs.GivenLaws.{unit-of}
 use Rattle.assembly.specs.Walk.{useBytes}
 use borrow.Author.Needs.{needs}
 use Rattle.linker.proofs.walk.use_form.Statement.{statement}
