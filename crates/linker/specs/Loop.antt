@@ -9,7 +9,8 @@ use lib.ListN.{length, take}
 use borrow.Author.Tests.{eqb-true, eqb-false}
 use Rattle.bundle.specs.Decode.{decode}
 use Rattle.scopes.specs.Form.{Request}
-use Rattle.scopes.specs.Lent.{Keeps}
+use Rattle.scopes.specs.Meets.{Meets, number-of, left}
+use Rattle.scopes.specs.declared.Answer.{Answer as Told}
 use Rattle.scopes.specs.Trees.{cleared}
 use Rattle.scopes.specs.declared.Tree.{Tree}
 use Rattle.linker.specs.Scopes.{Asked, asked}
@@ -59,9 +60,9 @@ module _ {s ids : List ℕ} {units : ℕ} {c : Cursor} {n : Stepped} (y : Yields
         by true = let l = ap length calls-one in omega arith
         by false = let l = ap length calls-one in omega arith
 
-  pub walking-call : {t u : Tree} {number place k p : ℕ} {going : Bool} {q : Request} → stepCalls s (n .cursor) x ≡ asked p q ∷ []
-      → Walking s ids units t c number place going → going ≡ true → Keeps t q k u → Walking s ids units u (n .cursor) k p (eqb k 0)
-  walking-call {t} {u} {number} {place} {k} {p} {going} {q} one w g h =
+  pub walking-call : {t u : Tree} {number place k p : ℕ} {going : Bool} {q : Request} {a : Told} → stepCalls s (n .cursor) x ≡ asked p q ∷ []
+      → Walking s ids units t c number place going → going ≡ true → Meets t q (left a u) → k ≡ number-of a → Walking s ids units u (n .cursor) k p (eqb k 0)
+  walking-call {t} {u} {number} {place} {k} {p} {going} {q} {a} one w g h i′ =
       record {
         stands = y .stands;
         accepted = λ e. eqb-true k 0 e;
@@ -70,7 +71,7 @@ module _ {s ids : List ℕ} {units : ℕ} {c : Cursor} {n : Stepped} (y : Yields
       }
     where
       first : Walks t (asked p q ∷ []) (record { number = k; place = p }) u
-      first = walks-one t q k u h (record { number = k; place = p }) p refl refl
+      first = walks-one t q a u h (record { number = k; place = p }) p i′ refl
 
 -- NO CALL IS LEFT
 module _ {s ids : List ℕ} {units : ℕ} {c : Cursor} {n : Stepped} (y : Yields s ids units c n) (is : n .step ≡ step.End) where

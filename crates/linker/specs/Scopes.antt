@@ -6,7 +6,7 @@ use lib.Dec.{eqb}
 use Rattle.bundle.specs.Bundle.{Text, Element, Items, none, named, use-of, module-of, ignored}
 use Rattle.bundle.specs.Encode.{string, counted, element}
 use Rattle.scopes.specs.Form.{Request, enters, exits, resolves-use, call-of}
-use Rattle.scopes.specs.Lent.{declares}
+use Rattle.scopes.specs.Meets.{declares}
 use Rattle.scopes.specs.Step.{Answer, ok, marked, refused, Model, step}
 use Rattle.scopes.specs.Flat.{Flat, flat, first-flat}
 

@@ -16,11 +16,15 @@ use Rattle.bundle.specs.Decode.{after, afterLength, itemAt, itemsAt, decode}
 use Rattle.bundle.specs.Access.{insideOf, items-end, items-step, item-module, item-use, item-ignored, item-named, by-kind, kindOf, restOf, innerOf, visibilityOf, first-inner, first-visibility}
 use Rattle.order.specs.Writing.{started}
 use Rattle.scopes.specs.Form.{Request, enters, exits, resolves-use, call-of}
-use Rattle.scopes.specs.Lent.{declares, Keeps, Leaves, at-depth}
+use Rattle.scopes.specs.Meets.{Meets, number-of, request, declares, left}
+use Rattle.scopes.specs.Note.{accepted}
+use Rattle.scopes.specs.Views.{told}
+use Rattle.scopes.specs.declared.Answer.{Answer as Told}
+use Rattle.scopes.specs.declared.Answer.the-variants.{Done, Mark, Refused}
+use Rattle.scopes.specs.declared.Outcome.{Outcome}
 use Rattle.scopes.specs.Step.{Answer, ok, marked, refused, Model, step}
 use Rattle.scopes.specs.Flat.{Flat, flat}
-use Rattle.scopes.specs.Trees.{Sized, Good, flat-of, accepting, refusing, ended}
-use Rattle.scopes.specs.Meets.{Meets}
+use Rattle.scopes.specs.Trees.{Good, flat-of}
 use Rattle.scopes.specs.declared.Tree.{Tree}
 use Rattle.resolution.specs.declared.Layout.{Layout}
 use Rattle.assembly.specs.Assemble.{rewriteUse, rewriteItems}
@@ -30,14 +34,14 @@ use Rattle.assembly.specs.UseRoom.{use-few}
 use Rattle.assembly.specs.Walk.{segmentsAt, useBytes, oneAt, kind-byte, kind-of, next-is}
 use Rattle.linker.specs.Scopes.{Asked, asked, isPublic, scopeCalls, Walked, done, stopped, onwards, walkFrom}
 
--- A DECLARATION'S KIND, as the tree's calls take it
+-- A DECLARATION'S CALL, by its code
 abbrev pub item-code : ℕ → ℕ
-item-code k = cond (eqb k 2) 2 (cond (eqb k 4) 4 1)
+item-code k = cond (eqb k 2) 5 (cond (eqb k 4) 4 3)
 
-pub code-declares : (k : ℕ) (s : List ℕ) (v : Bool) (m : ℕ) → declares (item-code k) s v m ≡ declares k s v m
+pub code-declares : (k : ℕ) (s : List ℕ) (v : Bool) (m : ℕ) → request (item-code k) s v m ≡ declares k s v m
 code-declares k s v m = go (eqb k 2) (eqb k 4)
   where
-    go : (a b : Bool) → declares (cond a 2 (cond b 4 1)) s v m ≡ cond a (Rattle.scopes.specs.Form.inserts-function s v m) (cond b (Rattle.scopes.specs.Form.inserts-enum s v m) (Rattle.scopes.specs.Form.inserts-alias s v m))
+    go : (a b : Bool) → request (cond a 5 (cond b 4 3)) s v m ≡ cond a (Rattle.scopes.specs.Form.inserts-function s v m) (cond b (Rattle.scopes.specs.Form.inserts-enum s v m) (Rattle.scopes.specs.Form.inserts-alias s v m))
     go true b = refl
     go false true = refl
     go false false = refl
@@ -46,23 +50,18 @@ code-declares k s v m = go (eqb k 2) (eqb k 4)
 pub visible-is : (s : List ℕ) (at v : ℕ) → ((d e : ℕ) → at < e → v ≡ visibilityOf (itemsAt d s e at)) → isPublic v ≡ isPublic (byte s (at + 3))
 visible-is s at v f = ap isPublic (f 0 (suc at) (omega arith) ∙ first-visibility 0 s (suc at) at (omega arith))
 
-pub keeps-declares : {t u : Tree} {n : ℕ} (k k' : ℕ) {code m m' : ℕ} {name name' : List ℕ} {v v' : Bool} → code ≡ item-code k → k ≡ k' → name ≡ name' → v ≡ v' → m ≡ m'
-    → Keeps t (declares code name v m) n u → Keeps t (declares k' name' v' m') n u
-keeps-declares {t} {u} {n} k k' {code} {m} {m'} {name} {name'} {v} {v'} a b c d e h =
-    subst (λ (q : Request). Keeps t q n u)
-    (ap (λ (x : ℕ). declares x name v m) a ∙ (code-declares k name v m
-    ∙ (ap (λ (x : ℕ). declares x name v m) b ∙ (ap (λ (x : List ℕ). declares k' x v m) c ∙ (ap (λ (x : Bool). declares k' name' x m) d ∙ ap (λ (x : ℕ). declares k' name' v' x) e)))))
+pub meets-declares : {t : Tree} {r : Outcome} (k k' : ℕ) {code m m' : ℕ} {name name' : List ℕ} {v v' : Bool} → code ≡ item-code k → k ≡ k' → name ≡ name' → v ≡ v' → m ≡ m'
+    → Meets t (request code name v m) r → Meets t (declares k' name' v' m') r
+meets-declares {t} {r} k k' {code} {m} {m'} {name} {name'} {v} {v'} a b c d e h =
+    subst (λ (q : Request). Meets t q r)
+    (ap (λ (x : ℕ). request x name v m) a ∙ (code-declares k name v m ∙ (λ i. declares (b i) (c i) (d i) (e i))))
     h
 
-pub keeps-enters : {t u : Tree} {n m m' : ℕ} {name name' : List ℕ} {v v' : Bool} → name ≡ name' → v ≡ v' → m ≡ m' → Keeps t (enters name v m) n u → Keeps t (enters name' v' m') n u
-keeps-enters {t} {u} {n} {m} {m'} {name} {name'} {v} {v'} c d e h =
-    subst (λ (q : Request). Keeps t q n u)
-    (ap (λ (x : List ℕ). enters x v m) c ∙ (ap (λ (x : Bool). enters name' x m) d ∙ ap (λ (x : ℕ). enters name' v' x) e))
-    h
+pub meets-enters : {t : Tree} {r : Outcome} {m m' : ℕ} {name name' : List ℕ} {v v' : Bool} → name ≡ name' → v ≡ v' → m ≡ m' → Meets t (enters name v m) r → Meets t (enters name' v' m') r
+meets-enters {t} {r} c d e h = subst (λ (q : Request). Meets t q r) (λ i. enters (c i) (d i) (e i)) h
 
-pub keeps-uses : {t u : Tree} {n : ℕ} {form form' : List ℕ} {v v' : Bool} → form ≡ form' → v ≡ v' → Keeps t (resolves-use form v) n u → Keeps t (resolves-use form' v') n u
-keeps-uses {t} {u} {n} {form} {form'} {v} {v'} c d h =
-    subst (λ (q : Request). Keeps t q n u) (ap (λ (x : List ℕ). resolves-use x v) c ∙ ap (λ (x : Bool). resolves-use form' x) d) h
+pub meets-uses : {t : Tree} {r : Outcome} {form form' : List ℕ} {v v' : Bool} → form ≡ form' → v ≡ v' → Meets t (resolves-use form v) r → Meets t (resolves-use form' v') r
+meets-uses {t} {r} c d h = subst (λ (q : Request). Meets t q r) (λ i. resolves-use (c i) (d i)) h
 
 -- what was written to the start of a buffer
 pub taken-start : (w out last : List ℕ) (n : ℕ) → n ≡ length w → last ≡ started w out → take n last ≡ w
@@ -98,48 +97,40 @@ reached r x = cond (eqb (r .number) 0) (done x) (stopped (r .number) (r .place))
 
 -- the calls l on the arrays t left u, and came to r
 pub record Walks (t : Tree) (l : List Asked) (r : Stop) (u : Tree) : Type 0 where
-  pub sized : Sized t → Sized u
-  pub good : Sized t → Good t → Good u
-  pub walked : Sized t → Good t → walkFrom flat (flat-of t) l ≡ reached r (flat-of u)
+  pub good : Good t → Good u
+  pub walked : Good t → walkFrom flat (flat-of t) l ≡ reached r (flat-of u)
 
 pub walks-as : {t u : Tree} {l k : List Asked} {r : Stop} → l ≡ k → Walks t k r u → Walks t l r u
 walks-as {t} {u} {l} {k} {r} e h = subst (λ (x : List Asked). Walks t x r u) (sym e) h
 
 pub walks-none : (t : Tree) (r : Stop) → r .number ≡ 0 → Walks t [] r t
 unfolding walkFrom
-walks-none t r e = record { sized = λ z. z; good = λ z g. g; walked = λ z g. rw (eq-eqb (r .number) 0 e) }
+walks-none t r e = record { good = λ g. g; walked = λ g. rw (eq-eqb (r .number) 0 e) }
 
-pub walks-one : (t : Tree) (q : Request) (n : ℕ) (u : Tree) → Keeps t q n u → (r : Stop) (p : ℕ) → r .number ≡ n → r .place ≡ p → Walks t (asked p q ∷ []) r u
-unfolding walkFrom ended
-walks-one t q n u k r p e f =
-    record {
-      sized = k .sized;
-      good = λ z g. good-of (eqb n 0) (k .meets z) g;
-      walked = λ z g. walked-of (eqb n 0) (k .meets z) g ∙ back;
-    }
+pub walks-one : (t : Tree) (q : Request) (a : Told) (u : Tree) → Meets t q (left a u) → (r : Stop) (p : ℕ) → r .number ≡ number-of a → r .place ≡ p → Walks t (asked p q ∷ []) r u
+unfolding walkFrom
+walks-one t q a u h r p e f = record { good = h .good; walked = λ g. come a (h .answer g) (h .tree g) (h .numbered) ∙ back }
   where
-    good-of : (b : Bool) → Meets t q (cond b (accepting u) (refusing n u)) → Good t → Good u
-    good-of true m g = m .good g
-    good-of false m g = m .good g
+    come : (x : Told) → told x ≡ step flat (flat-of t) (call-of q) .1 → flat-of u ≡ step flat (flat-of t) (call-of q) .0 → (number-of x ≡ 0 → accepted (told x) ≡ true)
+        → onwards (step flat (flat-of t) (call-of q) .0) (step flat (flat-of t) (call-of q) .1) p (λ y. done y) ≡ cond (eqb (number-of x) 0) (done (flat-of u)) (stopped (number-of x) p)
+    come Done b c d = ap (λ (z : Answer). onwards (step flat (flat-of t) (call-of q) .0) z p (λ y. done y)) (sym b) ∙ ap done (sym c)
+    come (Mark m) b c d = ap (λ (z : Answer). onwards (step flat (flat-of t) (call-of q) .0) z p (λ y. done y)) (sym b) ∙ ap done (sym c)
+    come (Refused n) b c d =
+        let z : n ≡ 0 → ⊥ = λ y. let x = d y in let o : _≡_ {A = ℕ} 0 1 = cc in omega arith in
+        ap (λ (z : Answer). onwards (step flat (flat-of t) (call-of q) .0) z p (λ y. done y)) (sym b) ∙ rw (ne-eqb n 0 z)
 
-    walked-of : (b : Bool) → Meets t q (cond b (accepting u) (refusing n u)) → Good t
-        → onwards (step flat (flat-of t) (call-of q) .0) (step flat (flat-of t) (call-of q) .1) p (λ y. done y) ≡ cond b (done (flat-of u)) (stopped n p)
-    walked-of true m g = ap (λ (a : Answer). onwards (step flat (flat-of t) (call-of q) .0) a p (λ y. done y)) (sym (m .answer g)) ∙ ap done (sym (m .tree g))
-    walked-of false m g = ap (λ (a : Answer). onwards (step flat (flat-of t) (call-of q) .0) a p (λ y. done y)) (sym (m .answer g))
-
-    back : cond (eqb n 0) (done (flat-of u)) (stopped n p) ≡ reached r (flat-of u)
+    back : cond (eqb (number-of a) 0) (done (flat-of u)) (stopped (number-of a) p) ≡ reached r (flat-of u)
     back = rw (e, f)
 
 module _ {t u : Tree} {l : List Asked} {r : Stop} (h : Walks t l r u) where
   pub walks-then : {k : List Asked} {r' : Stop} {w : Tree} → r .number ≡ 0 → Walks u k r' w → Walks t (l ++ k) r' w
   walks-then {k} {r'} {w} e i =
       record {
-        sized = λ z. i .sized (h .sized z);
-        good = λ z g. i .good (h .sized z) (h .good z g);
-        walked = λ z g.
+        good = λ g. i .good (h .good g);
+        walked = λ g.
             walk-append flat (flat-of t) l k
-            ∙ (ap (λ (x : Walked Flat). andThen x (λ y. walkFrom flat y k)) (h .walked z g ∙ on-with)
-            ∙ i .walked (h .sized z) (h .good z g));
+            ∙ (ap (λ (x : Walked Flat). andThen x (λ y. walkFrom flat y k)) (h .walked g ∙ on-with)
+            ∙ i .walked (h .good g));
       }
     where
       on-with : reached r (flat-of u) ≡ done (flat-of u)
@@ -148,11 +139,10 @@ module _ {t u : Tree} {l : List Asked} {r : Stop} (h : Walks t l r u) where
   pub walks-stop : (k : List Asked) → (r .number ≡ 0 → ⊥) → Walks t (l ++ k) r u
   walks-stop k e =
       record {
-        sized = h .sized;
         good = h .good;
-        walked = λ z g.
+        walked = λ g.
             walk-append flat (flat-of t) l k
-            ∙ (ap (λ (x : Walked Flat). andThen x (λ y. walkFrom flat y k)) (h .walked z g ∙ at-end) ∙ sym at-end);
+            ∙ (ap (λ (x : Walked Flat). andThen x (λ y. walkFrom flat y k)) (h .walked g ∙ at-end) ∙ sym at-end);
       }
     where
       at-end : reached r (flat-of u) ≡ stopped (r .number) (r .place)

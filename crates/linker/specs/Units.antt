@@ -17,7 +17,6 @@ use Rattle.bundle.specs.Theorems.{sound, accepted}
 use Rattle.scopes.specs.Form.{enters, exits}
 use Rattle.scopes.specs.Flat.{flat}
 use Rattle.scopes.specs.Runs.{first-is, first-good}
-use Rattle.scopes.specs.LentRuns.{cleared-sized}
 use Rattle.scopes.specs.Trees.{cleared, Good, flat-of}
 use Rattle.scopes.specs.declared.Tree.{Tree}
 use Rattle.assembly.specs.Assemble.{fileOf, itemsOf, localItems, assembled}
@@ -77,6 +76,6 @@ unfolding scopeWalk programCalls
 scoped-as b o x u r h e =
     subst (ScopedAs (assembled b o)) (sym e)
     (record {
-      good = h .good cleared-sized first-good;
-      walked = ap (λ y. walkFrom flat y (scopeCalls (assembled b o))) (sym first-is) ∙ h .walked cleared-sized first-good;
+      good = h .good first-good;
+      walked = ap (λ y. walkFrom flat y (scopeCalls (assembled b o))) (sym first-is) ∙ h .walked first-good;
     })

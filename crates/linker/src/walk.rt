@@ -18,19 +18,25 @@ use crate::cursor::Step;
 use crate::cursor::next;
 use crate::cursor::start;
 use resolution::Layout;
+use scopes::CELLS;
+use scopes::OPENED;
 use scopes::Tree;
 
-// Kinds of items.
-const ALIAS: u8 = 1;
+// Tree calls by their codes.
+const ENTER: u8 = 1;
 
-const FUNCTION: u8 = 2;
+const ALIAS: u8 = 3;
 
 const ENUM: u8 = 4;
+
+const FUNCTION: u8 = 5;
+
+const RESOLVE_USE: u8 = 6;
 
 // The most bytes of a use with its path rewritten.
 const USE_SIZE: usize = 2681;
 
-// The kind of a declaration, as the tree's calls take it.
+// The call of a declaration, by the kind of its item.
 fn item_code(kind: usize) -> u8
     ensures { λ r. ⌜ r ≡ item-code kind ⌝ }
 {
@@ -118,8 +124,8 @@ pub fn walk_program<'a>(s: &[u8], files: &'a [usize], ids: &'a [u16], units: usi
     ensures { λ r. ⌜ ScopedAs (assembled (decode (now (s .entry))) (take units (now (ids .entry)))) r ⌝ }
 {
     let at = resolution::layout_of(s);
-    let mut count: usize = 0;
-    let mut kinds = [0u8; 1024];
+    let mut opened = [0u16; OPENED];
+    let mut cells = [0u16; CELLS];
     let mut visible = [0u8; 1024];
     let mut scopes = [0u16; 1024];
     let mut marks = [0u16; 1024];
@@ -127,13 +133,6 @@ pub fn walk_program<'a>(s: &[u8], files: &'a [usize], ids: &'a [u16], units: usi
     let mut n1 = [0u64; 1024];
     let mut n2 = [0u64; 1024];
     let mut n3 = [0u64; 1024];
-    let mut origins = [0u16; 1024];
-    let mut targets = [0u16; 1024];
-    let mut times = [0u16; 1024];
-    let mut heads = [0u16; 1024];
-    let mut links = [0u16; 1024];
-    let mut depth: usize = 0;
-    let mut stack = [0u16; 9];
     let mut cursor = start();
     let mut number: u8 = 0;
     let mut place: usize = 0;
@@ -149,9 +148,9 @@ pub fn walk_program<'a>(s: &[u8], files: &'a [usize], ids: &'a [u16], units: usi
                 let len = name.len;
                 let public = enters_public(s, unit, p);
                 place = p;
-                number = scopes::lent::enter(
-                    &mut count,
-                    &mut kinds,
+                number = scopes::number_of(scopes::lent::call(
+                    &mut opened,
+                    &mut cells,
                     &mut visible,
                     &mut scopes,
                     &mut marks,
@@ -159,26 +158,20 @@ pub fn walk_program<'a>(s: &[u8], files: &'a [usize], ids: &'a [u16], units: usi
                     &mut n1,
                     &mut n2,
                     &mut n3,
-                    &mut origins,
-                    &mut targets,
-                    &mut times,
-                    &mut heads,
-                    &mut links,
-                    &mut depth,
-                    &mut stack,
+                    ENTER,
                     enters_name(s, &bytes[..len], unit, p),
                     public,
                     mark_of(p),
-                );
+                ));
                 going = number == 0;
                 continue;
             }
             Step::Declare(p) => {
                 let public = is_public(s, p);
                 place = p;
-                number = scopes::lent::insert(
-                    &mut count,
-                    &mut kinds,
+                number = scopes::number_of(scopes::lent::call(
+                    &mut opened,
+                    &mut cells,
                     &mut visible,
                     &mut scopes,
                     &mut marks,
@@ -186,18 +179,11 @@ pub fn walk_program<'a>(s: &[u8], files: &'a [usize], ids: &'a [u16], units: usi
                     &mut n1,
                     &mut n2,
                     &mut n3,
-                    &mut origins,
-                    &mut targets,
-                    &mut times,
-                    &mut heads,
-                    &mut links,
-                    depth,
-                    &stack,
                     code_at(s, p),
                     bundle::string(s, p + 4),
                     public,
                     mark_of(p),
-                );
+                ));
                 going = number == 0;
                 continue;
             }
@@ -206,9 +192,9 @@ pub fn walk_program<'a>(s: &[u8], files: &'a [usize], ids: &'a [u16], units: usi
                 let m = use_form(s, at, files, units, cursor.id, cursor.file, p, &mut decl);
                 let public = is_public(s, p);
                 place = p;
-                number = scopes::lent::resolve_use(
-                    &mut count,
-                    &mut kinds,
+                number = scopes::number_of(scopes::lent::call(
+                    &mut opened,
+                    &mut cells,
                     &mut visible,
                     &mut scopes,
                     &mut marks,
@@ -216,22 +202,17 @@ pub fn walk_program<'a>(s: &[u8], files: &'a [usize], ids: &'a [u16], units: usi
                     &mut n1,
                     &mut n2,
                     &mut n3,
-                    &mut origins,
-                    &mut targets,
-                    &mut times,
-                    &mut heads,
-                    &mut links,
-                    depth,
-                    &stack,
+                    RESOLVE_USE,
                     &decl[..m],
                     public,
-                );
+                    0,
+                ));
                 going = number == 0;
                 continue;
             }
             Step::Exit(p) => {
                 place = p;
-                number = scopes::lent::exit(&mut depth);
+                number = scopes::number_of(scopes::lent::exit(&mut opened));
                 going = number == 0;
                 continue;
             }
@@ -245,8 +226,8 @@ pub fn walk_program<'a>(s: &[u8], files: &'a [usize], ids: &'a [u16], units: usi
         number: number,
         place: place,
         tree: Tree {
-            count: count,
-            kinds: kinds,
+            opened: opened,
+            cells: cells,
             visible: visible,
             scopes: scopes,
             marks: marks,
@@ -254,13 +235,6 @@ pub fn walk_program<'a>(s: &[u8], files: &'a [usize], ids: &'a [u16], units: usi
             n1: n1,
             n2: n2,
             n3: n3,
-            origins: origins,
-            targets: targets,
-            times: times,
-            heads: heads,
-            links: links,
-            depth: depth,
-            stack: stack,
         },
     }
 }
