@@ -37,6 +37,7 @@ use Rattle.assembly.specs.declared.Imaged.the-variants as imaged
 use Rattle.linker.specs.Scopes.{Walked, done, stopped, scopeCalls, scopeWalk}
 use Rattle.linker.specs.Link.{Outcome, faulty, closed, ended, linked, step6, linkAfter, linkBundle}
 use Rattle.linker.specs.Call.{recordsOf, answering, imageAfter, TreeOf, TreeWith, TreeAfter, answerTo, reportTo, imageTo, TreeTo, linkAnswer, linkReport, linkImage, LinkTree}
+use Rattle.linker.specs.InForm.{walk-number}
 use Rattle.linker.specs.Theorems.{Ends, walk-stopped, LinkedBundle, linked-bundle, faults-only, ring-only, ring-always}
 
 -- image and tree are as they were
@@ -44,12 +45,13 @@ pub record Untouched (img final : List ℕ) (t u : Tree) : Type 0 where
   pub image : final ≡ img
   pub tree : u ≡ t
 
--- step 6 ends at a call of a program
+-- step 6 ends at a call of a program, with a number from 40 to 51
 pub record EndsAt (b : Bundle) (n m : ℕ) : Type 0 where
   pub ids : List ℕ
   pub items : Items
   pub program : Program b ids items
   pub ends : Ends flat first-flat (scopeCalls items) n m
+  pub numbers : (40 ≤ n) × (n ≤ 51)
 
 pub data LinkTold (s rep img : List ℕ) (t u : Tree) (rep₁ img₁ : List ℕ) (a : Answer) : Type 0 where
   -- 1 to 13: number and place
@@ -72,21 +74,18 @@ pub data LinkTold (s rep img : List ℕ) (t u : Tree) (rep₁ img₁ : List ℕ)
       → a ≡ imagedTo (length (unitFiles b)) (padded (unitFiles b)) (padded o) (imaged.Image (imageLength p)) → ImageWritten p img img₁ (a .image) → rep₁ ≡ rep → LinkTold s rep img t u rep₁ img₁ a
 
 -- WHERE STEP 6 ENDS
-ends-at : (b : Bundle) (n m : ℕ) → linkBundle b ≡ ended n m → EndsAt b n m
+ends-at : (s : List ℕ) → Bytes s → (b : Bundle) → read s ≡ value b → (n m : ℕ) → linkBundle b ≡ ended n m → EndsAt b n m
 unfolding linkBundle scopeWalk
-ends-at b n m e = go (linearizeAndAssemble b) refl e
+ends-at s B b v n m e = go (linearizeAndAssemble b) refl e
   where
     by-walk : (o : List ℕ) (p : Items) (w : Walked Flat) → linearizeAndAssemble b ≡ assembly.program o p → scopeWalk p ≡ w → step6 o p w ≡ ended n m → EndsAt b n m
     by-walk o p (done x) q r h = let z : _≡_ {A = ℕ} 0 1 = cc in absurd (omega arith)
     by-walk o p (stopped k j) q r h =
         let e1 : k ≡ n = cc in
         let e2 : j ≡ m = cc in
-        record {
-          ids = o;
-          items = p;
-          program = program-only b o p q;
-          ends = walk-stopped flat first-flat (scopeCalls p) n m (r ∙ (ap (λ (y : ℕ). stopped y j) e1 ∙ ap (stopped n) e2));
-        }
+        let x = walk-stopped flat first-flat (scopeCalls p) n m (r ∙ (ap (λ (y : ℕ). stopped y j) e1 ∙ ap (stopped n) e2)) in
+        let w = program-only b o p q in
+        record { ids = o; items = p; program = w; ends = x; numbers = walk-number s B b v o p w n m x }
 
     go : (y : assembly.Outcome) → linearizeAndAssemble b ≡ y → linkAfter y ≡ ended n m → EndsAt b n m
     go (assembly.faulty l) q h = let z : _≡_ {A = ℕ} 0 1 = cc in absurd (omega arith)
@@ -129,7 +128,7 @@ module _ (s : List ℕ) (B : Bytes s) (rep img : List ℕ) (t u : Tree) where
     by-outcome (closed r) e k =
         let n : Untouched img img t u = record { image = refl; tree = k } in
         report-told (ring r ∷ []) (ap recordsOf e) n (λ w. ring-met b r v (ring-only s b v r e) refl w n) (ring-some r)
-    by-outcome (ended n m) e k = ends b n m v (ends-at b n m e) refl (nothing-lent rep) (record { image = refl; tree = k })
+    by-outcome (ended n m) e k = ends b n m v (ends-at s B b v n m e) refl (nothing-lent rep) (record { image = refl; tree = k })
     by-outcome (linked o p x) e k = image-told o p x e k (image-ends p img)
 
   by-reading : (x : Reading) → read s ≡ x → TreeTo x (length img) t u → LinkTold s rep img t u (reportTo x rep) (imageTo x img) (answerTo x (length rep) (length img))
