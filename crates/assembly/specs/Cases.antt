@@ -31,26 +31,26 @@ use Rattle.assembly.specs.declared.Imaged.{Imaged}
 use Rattle.assembly.specs.declared.Imaged.the-variants as imaged
 
 -- what is told of bytes: the outcome, and the image of its program
-pub data Told : Type 0 where
-  told : (x : Outcome) (image : List ℕ) → Told
-  turned-back : ℕ → ℕ → Told
+pub data AssembleCase : Type 0 where
+  told : (x : Outcome) (image : List ℕ) → AssembleCase
+  turned-back : ℕ → ℕ → AssembleCase
 
 abbrev imageOf : Outcome → List ℕ
 imageOf (faulty l) = []
 imageOf (closed r) = []
 imageOf (program o p) = imageBytes p
 
-unfoldable pub telling : Outcome → Told
+unfoldable pub telling : Outcome → AssembleCase
 telling x = told x (imageOf x)
 
-unfoldable pub assembling : Reading → Told
+unfoldable pub assembling : Reading → AssembleCase
 assembling (value b) = telling (linearizeAndAssemble b)
 assembling (refused n p) = turned-back n p
 
 -- a row: a bundle, and what is told of its bytes
 pub record Row : Type 0 where
   pub bundle : Bundle
-  pub expected : Told
+  pub expected : AssembleCase
 
 abbrev at-path : String → Items → File
 at-path p is = record { path = ascii p; items = is }

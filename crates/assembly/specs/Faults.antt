@@ -2,15 +2,15 @@
 use Prim.Native.Nat.{ℕ, zero, suc}
 use native.Mathlib.Omega.{arith}
 use mathlib.Core.Bool.{Bool, true, false, cond}
-use mathlib.Core.Logic.{⊎-elim}
+use mathlib.Core.Logic.{_⊎_, inl, inr, ⊎-elim}
 use mathlib.Core.Path.{_≡_, refl, sym, ap, subst, _∙_}
 use mathlib.Core.List.{List, [], _∷_, _++_, map, append-assoc, append-nil, List·Memᴰ, List·Memᴰ·head, List·Memᴰ·tail, List·Memᴰ·not-nil, List·Memᴰ·cases-cons, List·Memᴰ·append-cases, Memᴰ·append-left, Memᴰ·append-right, Memᴰ·map, Memᴰ·of-map}
-use Rattle.bundle.specs.Bundle.{Bundle}
+use Rattle.bundle.specs.Bundle.{Items, Bundle}
 use Rattle.discovery.specs.Discovery.{Fault, discoverDependencies}
 use Rattle.graph.specs.Linearize.{Out, order, ring, andThen, each, visit, memb, linearize}
 use Rattle.graph.specs.Order as graph
 use Rattle.order.specs.Run.{walkOf, linked, outcome, ordered}
-use Rattle.assembly.specs.Assemble.{rewriteUse, fileOf, itemsOf, localItems, enumDeclarations, foreignEnum, forbidEnumDecInDeps, hasMain, noMain, mainFaults, assemblyFaults}
+use Rattle.assembly.specs.Assemble.{no-main, foreign-enum, rewriteUse, fileOf, itemsOf, localItems, enumDeclarations, foreignEnum, forbidEnumDecInDeps, hasMain, noMain, mainFaults, assemblyFaults}
 use Rattle.assembly.specs.Rewritten.{map-append, enums-rewritten, main-rewritten}
 
 -- UNIT 0 IS LINKED LAST
@@ -50,6 +50,28 @@ enumsOf b (u ∷ l) = enumDeclarations (itemsOf b u) ++ enumsOf b l
 -- 27 at place 0, or nothing
 unfoldable pub mainFault : Bundle → List Fault
 mainFault b = cond (hasMain (itemsOf b 0)) [] (noMain ∷ [])
+
+-- the numbers of step 5's faults
+pub step5-numbers : (b : Bundle) (l : List ℕ) (f : Fault) → List·Memᴰ f (assemblyFaults b l) → (f .number ≡ no-main) ⊎ (f .number ≡ foreign-enum)
+unfolding assemblyFaults mainFaults forbidEnumDecInDeps
+step5-numbers b [] f m = absurd (List·Memᴰ·not-nil m)
+step5-numbers b (u ∷ l) f m = go u (localItems b u) (step5-numbers b l f) m
+  where
+    main : (t : Bool) → List·Memᴰ f (cond t [] (noMain ∷ [])) → (f .number ≡ no-main) ⊎ (f .number ≡ foreign-enum)
+    main true h = absurd (List·Memᴰ·not-nil h)
+    main false h = ⊎-elim (λ e. inl (ap (λ (g : Fault). g .number) e)) (λ w. absurd (List·Memᴰ·not-nil w)) (List·Memᴰ·cases-cons h)
+
+    mains : (v : ℕ) (is : Items) → List·Memᴰ f (mainFaults v is) → (f .number ≡ no-main) ⊎ (f .number ≡ foreign-enum)
+    mains zero is h = main (hasMain is) h
+    mains (suc v) is h = absurd (List·Memᴰ·not-nil h)
+
+    enums : (v : ℕ) (is : Items) → List·Memᴰ f (forbidEnumDecInDeps v is) → (f .number ≡ no-main) ⊎ (f .number ≡ foreign-enum)
+    enums zero is h = absurd (List·Memᴰ·not-nil h)
+    enums (suc v) is h = let t = Memᴰ·of-map foreignEnum (enumDeclarations is) h in inr (ap (λ (g : Fault). g .number) (sym (t .2)))
+
+    go : (v : ℕ) (is : Items) → (List·Memᴰ f (assemblyFaults b l) → (f .number ≡ no-main) ⊎ (f .number ≡ foreign-enum)) → List·Memᴰ f (mainFaults v is ++ (forbidEnumDecInDeps v is ++ assemblyFaults b l))
+        → (f .number ≡ no-main) ⊎ (f .number ≡ foreign-enum)
+    go v is ih h = ⊎-elim (mains v is) (λ w. ⊎-elim (enums v is) ih (List·Memᴰ·append-cases (forbidEnumDecInDeps v is) w)) (List·Memᴰ·append-cases (mainFaults v is) h)
 
 faults-append : (b : Bundle) (l k : List ℕ) → assemblyFaults b (l ++ k) ≡ assemblyFaults b l ++ assemblyFaults b k
 unfolding assemblyFaults

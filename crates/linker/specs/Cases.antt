@@ -47,31 +47,31 @@ pub record Shown : Type 0 where
   pub name : Name
   pub mark : ℕ
 
-pub data Told : Type 0 where
-  turned-back : ℕ → ℕ → Told
-  faults : List Fault → Told
-  ring : List ℕ → Told
-  refusal : ℕ → ℕ → Told
+pub data LinkCase : Type 0 where
+  turned-back : ℕ → ℕ → LinkCase
+  faults : List Fault → LinkCase
+  ring : List ℕ → LinkCase
+  refusal : ℕ → ℕ → LinkCase
   -- the order, the entries in the order made, and the image
-  links : List ℕ → List Shown → List ℕ → Told
+  links : List ℕ → List Shown → List ℕ → LinkCase
 
 abbrev showing : Entry → Shown
 showing e = record { scope = e .scope; kind = e .shows .kind; name = e .shows .name; mark = e .shows .mark }
 
-unfoldable pub telling : Outcome → Told
+unfoldable pub telling : Outcome → LinkCase
 telling (faulty l) = faults l
 telling (closed r) = ring r
 telling (ended n p) = refusal n p
 telling (linked o p x) = links o (map showing (x .entries)) (imageBytes p)
 
-unfoldable pub linking : Reading → Told
+unfoldable pub linking : Reading → LinkCase
 linking (value b) = telling (linkBundle b)
 linking (refused n p) = turned-back n p
 
 -- a row: a bundle, and what is told of its bytes
 pub record Row : Type 0 where
   pub bundle : Bundle
-  pub expected : Told
+  pub expected : LinkCase
 
 abbrev at-path : String → Items → File
 at-path p is = record { path = ascii p; items = is }

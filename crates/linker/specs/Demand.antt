@@ -1,17 +1,22 @@
 -- DEMAND 3 of what the operation answers: whatever bytes, buffers and tree are handed over, the answer, both buffers and the tree
 -- afterwards are one of seven kinds. Assumes nothing.
-use Prim.Native.Nat.{ℕ, _<_}
+use Prim.Native.Nat.{ℕ, _<_, _≤_}
 use native.Mathlib.Omega.{arith}
 use mathlib.Core.Path.{_≡_, refl, sym, ap, subst, _∙_}
-use mathlib.Core.List.{List, [], _∷_, map}
-use lib.ListN.{length}
+use mathlib.Core.Logic.{⊎-elim}
+use mathlib.Core.List.{List, [], _∷_, map, List·Memᴰ, List·Memᴰ·head}
+use lib.ListN.{length, getD}
+use lib.Seq.{getD-take}
 use Rattle.bundle.specs.Bundle.{Items, Bundle}
+use Rattle.bundle.specs.Encode.{joined}
 use Rattle.bundle.specs.Stand.{Bytes}
 use Rattle.bundle.specs.Read.{Reading, value, refused, read}
 use Rattle.discovery.specs.Discovery.{Fault}
 use Rattle.order.specs.Files.{LinkedFiles, ImportEachOther}
 use Rattle.order.specs.Theorems.{faultsOf, RingMet, first-half-read}
-use Rattle.order.specs.Report.{Record, fault, ring, reportLength, lentReport, reporting, nothing-lent}
+use Rattle.order.specs.Report.{Record, fault, ring, reportBytes, reportLength, lentReport, reporting, fits, nothing-lent}
+use Rattle.order.specs.Report as report
+use Rattle.order.specs.Exact.{fault-numbers}
 use Rattle.order.specs.Call.{padded, unitFiles, pathsOfIds, Wrote}
 use Rattle.order.specs.Demand.{ReportEnds, too-small, whole, report-ends, wrote, fault-some, ring-some, files-linked}
 use Rattle.order.specs.declared.Reported.{Reported}
@@ -24,13 +29,15 @@ use Rattle.assembly.specs.Assemble as assembly
 use Rattle.assembly.specs.Image.{small-buffer, imageLength, imaging, lentImage}
 use Rattle.assembly.specs.Call.{telling, refusing, reportedTo, imagedTo, ImageWritten, NoImage}
 use Rattle.assembly.specs.Demand.{ImageEnds, none, some, image-ends, image-written}
-use Rattle.assembly.specs.Theorems.{Program, program-only, FaultsMet}
+use Rattle.assembly.specs.Faults.{step5-numbers}
+use Rattle.assembly.specs.Theorems.{Program, program-only, FaultsFrom, of-discovery, of-step5, FaultsMet}
 use Rattle.assembly.specs.declared.Answer.{Answer}
 use Rattle.assembly.specs.declared.Imaged.{Imaged}
 use Rattle.assembly.specs.declared.Imaged.the-variants as imaged
 use Rattle.linker.specs.Scopes.{Walked, done, stopped, scopeCalls, scopeWalk}
 use Rattle.linker.specs.Link.{Outcome, faulty, closed, ended, linked, step6, linkAfter, linkBundle}
 use Rattle.linker.specs.Call.{recordsOf, answering, imageAfter, TreeOf, TreeWith, TreeAfter, answerTo, reportTo, imageTo, TreeTo, linkAnswer, linkReport, linkImage, LinkTree}
+use Rattle.linker.specs.InForm.{walk-number}
 use Rattle.linker.specs.Theorems.{Ends, walk-stopped, LinkedBundle, linked-bundle, faults-only, ring-only, ring-always}
 
 -- image and tree are as they were
@@ -38,12 +45,13 @@ pub record Untouched (img final : List ℕ) (t u : Tree) : Type 0 where
   pub image : final ≡ img
   pub tree : u ≡ t
 
--- step 6 ends at a call of a program
+-- step 6 ends at a call of a program, with a number from 40 to 51
 pub record EndsAt (b : Bundle) (n m : ℕ) : Type 0 where
   pub ids : List ℕ
   pub items : Items
   pub program : Program b ids items
   pub ends : Ends flat first-flat (scopeCalls items) n m
+  pub numbers : (40 ≤ n) × (n ≤ 51)
 
 pub data LinkTold (s rep img : List ℕ) (t u : Tree) (rep₁ img₁ : List ℕ) (a : Answer) : Type 0 where
   -- 1 to 13: number and place
@@ -66,21 +74,18 @@ pub data LinkTold (s rep img : List ℕ) (t u : Tree) (rep₁ img₁ : List ℕ)
       → a ≡ imagedTo (length (unitFiles b)) (padded (unitFiles b)) (padded o) (imaged.Image (imageLength p)) → ImageWritten p img img₁ (a .image) → rep₁ ≡ rep → LinkTold s rep img t u rep₁ img₁ a
 
 -- WHERE STEP 6 ENDS
-ends-at : (b : Bundle) (n m : ℕ) → linkBundle b ≡ ended n m → EndsAt b n m
+ends-at : (s : List ℕ) → Bytes s → (b : Bundle) → read s ≡ value b → (n m : ℕ) → linkBundle b ≡ ended n m → EndsAt b n m
 unfolding linkBundle scopeWalk
-ends-at b n m e = go (linearizeAndAssemble b) refl e
+ends-at s B b v n m e = go (linearizeAndAssemble b) refl e
   where
     by-walk : (o : List ℕ) (p : Items) (w : Walked Flat) → linearizeAndAssemble b ≡ assembly.program o p → scopeWalk p ≡ w → step6 o p w ≡ ended n m → EndsAt b n m
     by-walk o p (done x) q r h = let z : _≡_ {A = ℕ} 0 1 = cc in absurd (omega arith)
     by-walk o p (stopped k j) q r h =
         let e1 : k ≡ n = cc in
         let e2 : j ≡ m = cc in
-        record {
-          ids = o;
-          items = p;
-          program = program-only b o p q;
-          ends = walk-stopped flat first-flat (scopeCalls p) n m (r ∙ (ap (λ (y : ℕ). stopped y j) e1 ∙ ap (stopped n) e2));
-        }
+        let x = walk-stopped flat first-flat (scopeCalls p) n m (r ∙ (ap (λ (y : ℕ). stopped y j) e1 ∙ ap (stopped n) e2)) in
+        let w = program-only b o p q in
+        record { ids = o; items = p; program = w; ends = x; numbers = walk-number s B b v o p w n m x }
 
     go : (y : assembly.Outcome) → linearizeAndAssemble b ≡ y → linkAfter y ≡ ended n m → EndsAt b n m
     go (assembly.faulty l) q h = let z : _≡_ {A = ℕ} 0 1 = cc in absurd (omega arith)
@@ -123,7 +128,7 @@ module _ (s : List ℕ) (B : Bytes s) (rep img : List ℕ) (t u : Tree) where
     by-outcome (closed r) e k =
         let n : Untouched img img t u = record { image = refl; tree = k } in
         report-told (ring r ∷ []) (ap recordsOf e) n (λ w. ring-met b r v (ring-only s b v r e) refl w n) (ring-some r)
-    by-outcome (ended n m) e k = ends b n m v (ends-at b n m e) refl (nothing-lent rep) (record { image = refl; tree = k })
+    by-outcome (ended n m) e k = ends b n m v (ends-at s B b v n m e) refl (nothing-lent rep) (record { image = refl; tree = k })
     by-outcome (linked o p x) e k = image-told o p x e k (image-ends p img)
 
   by-reading : (x : Reading) → read s ≡ x → TreeTo x (length img) t u → LinkTold s rep img t u (reportTo x rep) (imageTo x img) (answerTo x (length rep) (length img))
@@ -134,9 +139,58 @@ module _ (s : List ℕ) (B : Bytes s) (rep img : List ℕ) (t u : Tree) where
   unfolding LinkTree linkReport linkImage linkAnswer
   told k = by-reading (read s) refl k
 
--- "A RING IS REFUSED EXACTLY WHEN ..", of what the operation answers: `ring-met` above is the one direction. The other: where
--- discovery tells no fault and two or more different reached files import each other, the report is the one record of a ring of them
-pub ring-answered : (s rep img : List ℕ) (b : Bundle) → read s ≡ value b → faultsOf b ≡ [] → ImportEachOther b
-    → (r : List ℕ) × (RingMet b r × ((linkAnswer s rep img ≡ reportedTo (reporting (ring r ∷ []) (length rep))) × (linkReport s rep ≡ lentReport (ring r ∷ []) rep)))
-unfolding linkAnswer linkReport
-ring-answered s rep img b v c x = let q = ring-always s b v c x in (q .0, (q .1 .1, rw (v, q .1 .0) (refl, refl)))
+-- THE RING CLAUSE OF THE ANSWER
+-- a ring is told: there is a report, and its first byte is 26
+abbrev pub TellsRing : List ℕ → Answer → Type 0
+TellsRing rep a = (0 < a .report) × (getD rep 0 0 ≡ report.ring-met)
+
+-- the first byte of a written report
+first-byte : {rs : List Record} {out final : List ℕ} {n k : ℕ} → Wrote rs out final n k → getD final 0 0 ≡ getD (reportBytes rs) 0 0
+first-byte {rs} {out} {final} {n} {k} w = sym (getD-take k final 0 0 (w .some)) ∙ ap (λ (l : List ℕ). getD l 0 0) (w .bytes)
+
+module _ (s rep img : List ℕ) (b : Bundle) (v : read s ≡ value b) where
+  -- no fault is 26
+  faults-other : (l : List Fault) → FaultsMet b l → {n k : ℕ} → Wrote (map fault l) rep (lentReport (map fault l) rep) n k → getD (lentReport (map fault l) rep) 0 0 ≡ report.ring-met → ⊥
+  unfolding reportBytes joined report.recordBytes
+  faults-other [] m w e = m .some refl
+  faults-other (f ∷ fs) m w e =
+      let q : f .number ≡ 26 = sym (first-byte w) ∙ e in
+      go (m .from) q
+    where
+      go : FaultsFrom b (f ∷ fs) → f .number ≡ 26 → ⊥
+      go (of-discovery h) q = let r = fault-numbers b f (subst (λ (l : List Fault). List·Memᴰ f l) h (List·Memᴰ·head refl)) in omega (arith, q, r .1)
+      go (of-step5 o h i) q = ⊎-elim (λ r. omega (arith, q, r)) (λ r. omega (arith, q, r)) (step5-numbers b o f (subst (λ (l : List Fault). List·Memᴰ f l) i (List·Memᴰ·head refl)))
+
+  -- "a ring is refused exactly when two or more different reached files import each other in one, and such a ring is named": only then
+  pub ring-told-only : TellsRing (linkReport s rep) (linkAnswer s rep img) → (r : List ℕ) × ((linkBundle b ≡ closed r) × RingMet b r)
+  unfolding linkAnswer linkReport
+  ring-told-only h = go (linkBundle b) refl (rw v at h)
+    where
+      silent : (o : List ℕ) (y : Imaged) → 0 < imagedTo (length (unitFiles b)) (padded (unitFiles b)) (padded o) y .report → ⊥
+      silent o (imaged.Image n) k = omega arith
+      silent o (imaged.Refused n p) k = omega arith
+
+      by-faults : (l : List Fault) → linkBundle b ≡ faulty l → ReportEnds (map fault l) rep → TellsRing (lentReport (map fault l) rep) (reportedTo (reporting (map fault l) (length rep))) → (r : List ℕ) × ((linkBundle b ≡ closed r) × RingMet b r)
+      by-faults [] e x k = absurd (faults-only s b v [] e .some refl)
+      by-faults (f ∷ fs) e (too-small l x) k = let q = ap (λ (y : Reported). reportedTo y .report) (x .answered) in absurd (omega (arith, k .0, q))
+      by-faults (f ∷ fs) e (whole x) k = absurd (faults-other (f ∷ fs) (faults-only s b v (f ∷ fs) e) (wrote x (fault-some f fs)) (k .1))
+
+      go : (y : Outcome) → linkBundle b ≡ y → TellsRing (lentReport (recordsOf y) rep) (answering (unitFiles b) (length rep) (length img) y) → (r : List ℕ) × ((linkBundle b ≡ closed r) × RingMet b r)
+      go (faulty l) e k = by-faults l e (report-ends (map fault l) rep) k
+      go (closed r) e k = (r, (e, ring-only s b v r e))
+      go (ended n p) e k = absurd (omega (arith, k .0))
+      go (linked o p x) e k = absurd (silent o (imaging p (length img)) (k .0))
+
+  -- and always then, where discovery has no fault and the buffer holds the report: it is the one record of a ring of them
+  pub ring-answered : faultsOf b ≡ [] → ImportEachOther b
+      → (r : List ℕ) × (RingMet b r × ((linkAnswer s rep img ≡ reportedTo (reporting (ring r ∷ []) (length rep))) × (linkReport s rep ≡ lentReport (ring r ∷ []) rep)))
+  unfolding linkAnswer linkReport
+  ring-answered c x = let q = ring-always s b v c x in (q .0, (q .1 .1, rw (v, q .1 .0) (refl, refl)))
+
+  pub ring-told-always : faultsOf b ≡ [] → ImportEachOther b → reportLength (recordsOf (linkBundle b)) ≤ length rep → TellsRing (linkReport s rep) (linkAnswer s rep img)
+  unfolding linkAnswer linkReport reportBytes joined report.recordBytes
+  ring-told-always c x room =
+      let q = ring-always s b v c x in
+      let f = fits (ring (q .0) ∷ []) rep (rw (q .1 .0) at room) in
+      let w = wrote f (ring-some (q .0)) in
+      rw (v, q .1 .0, f .answered) (ring-some (q .0), first-byte w)

@@ -67,7 +67,7 @@ pub data TurnsBack (a : answers.Answer) : Type 0 where
   no-unit : a .units ≡ 0 → TurnsBack a
 
 -- an answer with units: how many, and which paths they are
-record Units (b : Bundle) (a : answers.Answer) : Type 0 where
+record ListsUnits (b : Bundle) (a : answers.Answer) : Type 0 where
   files : LinkedFiles b (pathsOfIds b (a .files) (a .ids) (a .units))
   count : a .units ≡ length (unitsOf b)
 
@@ -93,13 +93,13 @@ module _ (s : List ℕ) (B : Bytes s) (rep img : List ℕ) (t : Tree) (r : LinkR
   met = rw (m .answer, m .report, m .image) (told s B rep img t (r .tree) (m .tree))
 
   module _ (b : Bundle) (v : read s ≡ value b) where
-    units-are : (r .answer .units ≡ 0 → ⊥) → Units b (r .answer)
+    units-are : (r .answer .units ≡ 0 → ⊥) → ListsUnits b (r .answer)
     units-are h = go met
       where
         none : {a : answers.Answer} → r .answer ≡ a → a .units ≡ 0 → ⊥
         none q z = h (ap (λ (y : answers.Answer). y .units) q ∙ z)
 
-        go : LinkTold s rep img t (r .tree) (r .report) (r .image) (r .answer) → Units b (r .answer)
+        go : LinkTold s rep img t (r .tree) (r .report) (r .image) (r .answer) → ListsUnits b (r .answer)
         go (turned-back n p e q k w) = absurd (none q refl)
         go (small-report c e l q k w) = absurd (none q refl)
         go (faults c l e f q k w) = absurd (none q refl)
@@ -108,7 +108,7 @@ module _ (s : List ℕ) (B : Bytes s) (rep img : List ℕ) (t : Tree) (r : LinkR
         go (no-image c o p x n e f y q k w) = absurd (none q refl)
         go (links c o p e f L g q i k) =
             let z = two-values s e v in
-            subst (λ (d : Bundle). Units d (r .answer)) z
+            subst (λ (d : Bundle). ListsUnits d (r .answer)) z
             (record { files = f; count = ap (λ (y : answers.Answer). y .units) q ∙ length-map (unitsOf c) (λ (x : Text). position x (pathsOf c)) })
 
     -- (2) A LINKER THAT TURNS BACK a bundle that links and whose image has room

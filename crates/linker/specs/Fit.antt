@@ -2,38 +2,18 @@
 -- nothing.
 use Prim.Native.Nat.{ℕ, _+_, _-_, _≤_, _<_}
 use native.Mathlib.Omega.{arith}
-use mathlib.Core.Path.{_≡_, ap}
-use mathlib.Core.List.{List, [], _∷_, _++_}
-use lib.ListN.{length, length-append, length-drop}
-use Rattle.names.specs.Bytes.{same}
-use Rattle.bundle.specs.Bundle.{Text, Items, none, named, use-of, module-of, ignored, File, Bundle}
+use mathlib.Core.List.{_∷_, _++_}
+use lib.ListN.{length}
+use Rattle.bundle.specs.Bundle.{Items, none, named, use-of, module-of, ignored, Bundle}
 use Rattle.bundle.specs.Limits.{depth-limit, use-kind, module-kind}
-use Rattle.bundle.specs.Encode.{two, string, counted, sized, element, items, fields, encode}
+use Rattle.bundle.specs.Encode.{string, counted, element, items, encode}
 use Rattle.bundle.specs.Form.{Formed, WellFormed}
-use Rattle.bundle.specs.Marks.{Begins, Found, FoundFiles}
+use Rattle.bundle.specs.Marks.{Found}
 use Rattle.bundle.specs.Theorems.{marks-are-offsets}
-use Rattle.discovery.specs.Discovery.{programOf}
-use Rattle.discovery.specs.Facts.{cond-elim}
+use Rattle.order.specs.Exact.{begins-before, program-found, encode-length}
 use Rattle.assembly.specs.Assemble.{fileOf, itemsOf}
 use Rattle.assembly.specs.Paths.{program-formed}
 use Rattle.linker.specs.Steps.{Plain}
-
--- MARKS
-begins-before : (s : List ℕ) (at : ℕ) (body : List ℕ) → Begins s at (sized body) → 2 ≤ length body → at + 4 ≤ length s
-unfolding sized two
-begins-before s at body x h =
-    let e = ap length (x .bytes) in
-    let z : length (sized body) ≡ 2 + length body = omega arith in
-    omega (arith, length-drop at s, length-append (sized body) (x .rest))
-
-program-found : (s : List ℕ) (fs : List File) (p : Text) → FoundFiles s fs → Found s (programOf fs p)
-unfolding FoundFiles programOf Found
-program-found s [] p h = tt
-program-found s (f ∷ fs) p h = cond-elim (Found s) (same p (f .path)) (λ e. h .0) (λ e. program-found s fs p (h .1))
-
-encode-length : (b : Bundle) → length (encode b) ≡ 3 + length (fields b)
-unfolding encode sized two
-encode-length b = omega arith
 
 -- A UNIT'S ITEMS
 module _ (b : Bundle) (w : WellFormed b) where
@@ -44,13 +24,13 @@ module _ (b : Bundle) (w : WellFormed b) where
   unfolding Formed Found Plain
   formed-plain none d f m = tt
   formed-plain (named k at v name rest) d f m =
-      (small-mark at (begins-before (encode b) at (k ∷ v ∷ string name) (m .0) (omega arith)), formed-plain rest d (f .1 .1 .1) (m .1))
+      (small-mark at (let far = begins-before (encode b) at (k ∷ v ∷ string name) (m .0) (omega arith) in omega arith), formed-plain rest d (f .1 .1 .1) (m .1))
   formed-plain (use-of at v segments elements rest) d f m = (
-    (small-mark at (begins-before (encode b) at (use-kind ∷ v ∷ (counted string segments ++ counted element elements)) (m .0) (omega arith)), (f .1 .0, f .1 .1 .0)),
+    (small-mark at (let far = begins-before (encode b) at (use-kind ∷ v ∷ (counted string segments ++ counted element elements)) (m .0) (omega arith) in omega arith), (f .1 .0, f .1 .1 .0)),
     formed-plain rest d (f .1 .1 .1) (m .1),
   )
   formed-plain (module-of at v name inner rest) d f m = (
-    small-mark at (begins-before (encode b) at (module-kind ∷ v ∷ (string name ++ items inner)) (m .0) (omega arith)),
+    small-mark at (let far = begins-before (encode b) at (module-kind ∷ v ∷ (string name ++ items inner)) (m .0) (omega arith) in omega arith),
     (formed-plain inner (d - 1) (f .1 .1 .0 .1) (m .1 .0), formed-plain rest d (f .1 .1 .1) (m .1 .1)),
   )
   formed-plain (ignored at v rest) d f m = formed-plain rest d (f .1) (m .1)

@@ -9,6 +9,7 @@ pub mod Evidence
 pub mod Cases
 -- LAWS for code and proofs
 pub mod Refusals
+pub mod InForm
 pub mod Steps
 pub mod Fit
 pub mod Units
