@@ -10,19 +10,15 @@ use Rattle.bundle.specs.Limits.{header}
 use Rattle.bundle.specs.Encode.{string, joined, sized, remapping, file, fields, encode}
 use Rattle.bundle.specs.Encode.{counted as count-list}
 use Rattle.bundle.specs.Decode.{decode}
-use Rattle.bundle.specs.Conflicts.{orElse, conflicts}
 use Rattle.bundle.specs.Form.{Unconflicted, WellFormed, firstFile}
 use Rattle.bundle.specs.Stand.{Bytes, at-append}
-use Rattle.bundle.specs.SoundBundle.{form-sound}
+use Rattle.bundle.specs.SoundBundle.{form-sound, both-pass}
 use Rattle.bundle.specs.CompleteBundle.{form-complete}
 use Rattle.bundle.specs.Free.{conflicts-free, free-conflicts}
 use Rattle.bundle.specs.Marks.{fileMarks, rising-less, files-rising, FoundFiles, files-found, behind-length}
 use Rattle.bundle.specs.Read.{form, verdict, value, refused, reading, read}
 use Rattle.bundle.specs.declared.Checked.{Checked}
 use Rattle.bundle.specs.declared.Checked.the-variants.{Ok, Refused}
-
-refused-ok : {n p : ℕ} → Refused n p ≡ Ok → ⊥
-refused-ok e = let z : _≡_ {A = ℕ} 0 1 = cc in omega arith
 
 -- REFUSAL AND ACCEPTANCE
 pub exclusive : (s : List ℕ) (b : Bundle) (n p : ℕ) → read s ≡ value b → read s ≡ refused n p → ⊥
@@ -44,16 +40,12 @@ value-ok (Refused n p) d b h = absurd (no h)
     no : refused n p ≡ value b → ⊥
     no e = let z : _≡_ {A = ℕ} 0 1 = cc in omega arith
 
-both-ok : (a c : Checked) → orElse a c ≡ Ok → (a ≡ Ok) × (c ≡ Ok)
-both-ok Ok c h = (refl, h)
-both-ok (Refused n p) c h = absurd (refused-ok h)
-
 -- ACCEPTED BYTES are the encoding of their value, which is well-formed
 pub sound : (s : List ℕ) → Bytes s → (b : Bundle) → read s ≡ value b → (s ≡ encode b) × WellFormed b
-unfolding read verdict
+unfolding read
 sound s B b h =
-    let v = value-ok (orElse (form s) (conflicts s)) (decode s) b h in
-    let w = both-ok (form s) (conflicts s) (v .0) in
+    let v = value-ok (verdict s) (decode s) b h in
+    let w = both-pass s (v .0) in
     let f = form-sound s B (w .0) in
     let c = conflicts-free s (w .1) in
     let w' : WellFormed (decode s) = record { form = f .formed; free = c } in
