@@ -10,11 +10,10 @@ use Rattle.bundle.specs.Limits.{header}
 use Rattle.bundle.specs.Encode.{string, joined, sized, remapping, file, fields, encode}
 use Rattle.bundle.specs.Encode.{counted as count-list}
 use Rattle.bundle.specs.Decode.{decode}
-use Rattle.bundle.specs.Conflicts.{orElse, conflicts}
-use Rattle.bundle.specs.Answers.{both-ok, value-ok}
+use Rattle.bundle.specs.Answers.{value-ok}
 use Rattle.bundle.specs.Form.{Unconflicted, WellFormed, firstFile}
 use Rattle.bundle.specs.Stand.{Bytes, at-append}
-use Rattle.bundle.specs.SoundBundle.{form-sound}
+use Rattle.bundle.specs.SoundBundle.{form-sound, both-pass}
 use Rattle.bundle.specs.CompleteBundle.{form-complete}
 use Rattle.bundle.specs.Free.{conflicts-free, free-conflicts}
 use Rattle.bundle.specs.Marks.{fileMarks, rising-less, files-rising, FoundFiles, files-found, behind-length}
@@ -36,10 +35,10 @@ told s n p h = rw h
 
 -- ACCEPTED BYTES are the encoding of their value, which is well-formed
 pub sound : (s : List ℕ) → Bytes s → (b : Bundle) → read s ≡ value b → (s ≡ encode b) × WellFormed b
-unfolding read verdict
+unfolding read
 sound s B b h =
-    let v = value-ok (orElse (form s) (conflicts s)) (decode s) b h in
-    let w = both-ok (form s) (conflicts s) (v .0) in
+    let v = value-ok (verdict s) (decode s) b h in
+    let w = both-pass s (v .0) in
     let f = form-sound s B (w .0) in
     let c = conflicts-free s (w .1) in
     let w' : WellFormed (decode s) = record { form = f .formed; free = c } in

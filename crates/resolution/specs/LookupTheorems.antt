@@ -16,7 +16,9 @@ use Rattle.names.specs.Keywords.{isCrate}
 use Rattle.bundle.specs.Bundle.{Text, Remapping}
 use Rattle.resolution.specs.Lists.{Lists}
 use Rattle.resolution.specs.LongestLaws.{none-some}
-use Rattle.resolution.specs.Resolution.{packageRoots, getPackageRoot, remappingFor, Missing, inFolder, noPath, Lookup, found, missing, buildAndVerifyPath, Fault, emptyUse, unknownLibrary, noLibraryFile, noFile, ownFile, noRoot, Resolved, to, fails, orItself, resolveBelow, resolveCratePath, sameRoot, checkLocalFileImportedAsExternal, external, resolveExternalPath, resolvePathInternal}
+use Rattle.resolution.specs.Call.{position, answer, resolveIn}
+use Rattle.resolution.specs.declared.Resolution.the-variants.{File, Folder, Refused}
+use Rattle.resolution.specs.Resolution.{packageRoots, getPackageRoot, remappingFor, Missing, inFolder, noPath, Lookup, found, missing, buildAndVerifyPath, Fault, emptyUse, unknownLibrary, noLibraryFile, noFile, ownFile, noRoot, number, Resolved, to, fails, orItself, resolveBelow, resolveCratePath, sameRoot, checkLocalFileImportedAsExternal, external, resolveExternalPath, resolvePathInternal}
 use Rattle.resolution.specs.Theorems.{taken, none-taken, rooted, none-rooted, isListed}
 
 -- THE LOOKUP, IN WORDS
@@ -374,3 +376,25 @@ module _ (b : Lists) (file name : Text) (parts : List Text) where
       → buildAndVerifyPath b (r .target) parts ≡ found p rest → resolvePathInternal b file (name ∷ parts) ≡ to p rest
   outside-found u c r t p rest f =
       resolved p rest .1 (inr (inr (record { word = c; remapping = r; takes = t; lookup = f; not-own = λ root e i. none-some (sym (under-no-root b file .1 u) ∙ e) })))
+
+-- THE CALL, where bundle and arguments are in form
+answer-below : (b : Lists) (r : Resolved) → answer b r ≡ Refused 29 0 → ⊥
+answer-below b (to p rest) h = no (member p (b .files)) h
+  where
+    no : (t : Bool) → cond t (File (position p (b .files)) (length rest)) (Folder (position p (b .folders)) (length rest)) ≡ Refused 29 0 → ⊥
+    no true h = let z : _≡_ {A = ℕ} 0 1 = cc in omega arith
+    no false h = let z : _≡_ {A = ℕ} 0 1 = cc in omega arith
+answer-below b (fails e) h = let z : number e ≡ 29 = cc in no e z
+  where
+    no : (e : Fault) → number e ≡ 29 → ⊥
+    no emptyUse z = omega arith
+    no unknownLibrary z = omega arith
+    no (noLibraryFile m) z = omega arith
+    no (noFile m) z = omega arith
+    no ownFile z = omega arith
+    no noRoot z = omega arith
+
+-- 29 exactly where the importer isn't a listed file
+pub unknown-importer : (b : Lists) (file : Text) (segments : List Text) → (resolveIn b file segments ≡ Refused 29 0) ↔ (member file (b .files) ≡ false)
+unfolding resolveIn
+unknown-importer b file segments = (λ h. not-true (member file (b .files)) (λ m. answer-below b (resolvePathInternal b file segments) (rw m at h)), λ m. rw m)

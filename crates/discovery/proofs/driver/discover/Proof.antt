@@ -6,7 +6,7 @@ use Rattle.bundle.specs.Limits.{file-limit}
 use Rattle.bundle.specs.Decode.{decode}
 use Rattle.resolution.specs.Lists.{listsOf}
 use Rattle.discovery.specs.Known.{Table}
-use Rattle.discovery.specs.Room.{checked-roomy}
+use Rattle.discovery.specs.Room.{bytes-roomy}
 use Rattle.discovery.specs.Turns.{Invariant, unit-small, entry-only, all-units}
 use Rattle.discovery.proofs.driver.discover.Statement.{statement}
 use Rattle.discovery.proofs.driver.discover.Tie as tie
@@ -21,19 +21,19 @@ layout-of-requires : tie.Need-layout-of-requires Inv-loop μ-loop
 layout-of-requires c κs = search needs
 
 loop-holds : tie.Need-loop-holds Inv-loop μ-loop
-loop-holds c = (entry-only (decode (c .before .before .args .s .now)) (checked-roomy (c .before .before .args .s .now) (c .before .before .pre .0)), c .before .before .pre .1)
+loop-holds c = (entry-only (decode (c .before .before .args .s .now)) (bytes-roomy (c .before .before .args .s .now) (λ i. omega (arith, c .before .shared-slice-known .given i)) (c .before .before .pre .0)), c .before .before .pre .1)
 
 turn-requires : tie.Need-turn-requires Inv-loop μ-loop
 turn-requires c κs = (c .before .before .before .before .before .before .pre .0, (c .before .before .before .before .layout-of .ensures .0, c .before .before .before .before .layout-of .ensures .1), (c .before .before .before .loop .inv .0, c .before .if1 .taken), c .before .before .before .loop .inv .1)
 
 add-unit : tie.Need-add-unit Inv-loop μ-loop
 add-unit c =
-    let w = unit-small (decode (c .before .before .before .before .before .before .before .args .s .now)) (checked-roomy (c .before .before .before .before .before .before .before .args .s .now) (c .before .before .before .before .before .before .before .pre .0)) (c .before .before .before .before .loop .unit) (c .before .before .before .before .loop .g) (c .before .before .before .before .loop .inv .0) (c .before .before .if1 .taken) in
+    let w = unit-small (decode (c .before .before .before .before .before .before .before .args .s .now)) (bytes-roomy (c .before .before .before .before .before .before .before .args .s .now) (λ i. omega (arith, c .before .before .before .before .before .before .shared-slice-known .given i)) (c .before .before .before .before .before .before .before .pre .0)) (c .before .before .before .before .loop .unit) (c .before .before .before .before .loop .g) (c .before .before .before .before .loop .inv .0) (c .before .before .if1 .taken) in
     search needs
 
 loop-less : tie.Need-loop-less Inv-loop μ-loop
 loop-less c =
-    let w = unit-small (decode (c .before .before .before .before .before .before .before .args .s .now)) (checked-roomy (c .before .before .before .before .before .before .before .args .s .now) (c .before .before .before .before .before .before .before .pre .0)) (c .before .before .before .before .loop .unit) (c .before .before .before .before .loop .g) (c .before .before .before .before .loop .inv .0) (c .before .before .if1 .taken) in
+    let w = unit-small (decode (c .before .before .before .before .before .before .before .args .s .now)) (bytes-roomy (c .before .before .before .before .before .before .before .args .s .now) (λ i. omega (arith, c .before .before .before .before .before .before .shared-slice-known .given i)) (c .before .before .before .before .before .before .before .pre .0)) (c .before .before .before .before .loop .unit) (c .before .before .before .before .loop .g) (c .before .before .before .before .loop .inv .0) (c .before .before .if1 .taken) in
     search needs
 
 loop-again : tie.Need-loop-again Inv-loop μ-loop
@@ -42,7 +42,7 @@ loop-again c = (c .turn .ensures .0, c .turn .ensures .1)
 returns : tie.Need-returns Inv-loop μ-loop
 returns c =
     let h = c .before .before .loop .inv .0 .handled in
-    (all-units (decode (c .before .before .before .before .before .args .s .now)) (c .before .before .loop .unit) (c .before .before .loop .g) (c .before .before .loop .inv .0) (omega (arith, c .if1 .left)) (checked-roomy (c .before .before .before .before .before .args .s .now) (c .before .before .before .before .before .pre .0)), c .before .before .loop .inv .1)
+    (all-units (decode (c .before .before .before .before .before .args .s .now)) (c .before .before .loop .unit) (c .before .before .loop .g) (c .before .before .loop .inv .0) (omega (arith, c .if1 .left)) (bytes-roomy (c .before .before .before .before .before .args .s .now) (λ i. omega (arith, c .before .before .before .before .shared-slice-known .given i)) (c .before .before .before .before .before .pre .0)), c .before .before .loop .inv .1)
 
 pub discover-spec : {M : Type 1} → statement M
 discover-spec =
