@@ -1,5 +1,5 @@
 -- Document 01's printed case, the cases of its header and cuts, and a case of each number, computed. Assumes nothing.
-use Prim.Native.Nat.{ℕ, zero, suc}
+use Prim.Native.Nat.{ℕ, zero, suc, _≤_}
 use native.Mathlib.Omega.{arith}
 use mathlib.Core.Path.{_≡_, refl, _∙_}
 use mathlib.Core.Bool.{Bool, true, false}
@@ -19,6 +19,7 @@ use Rattle.bundle.specs.Conflicts.{orElse, placedAt, placedRemappingAt, 
 use Rattle.bundle.specs.Conflicts as conflict
 use Rattle.bundle.specs.Read.{Reading, value, refused, after, afterWalk, form, lists, files, verdict, read}
 use Rattle.bundle.specs.CaseLaws.{many, ignored-item, use-item, many-ignored, many-uses}
+use Rattle.bundle.specs.declared.Walk.{Walk}
 use Rattle.bundle.specs.declared.Walk.the-variants.{Past, Fault}
 use Rattle.bundle.specs.declared.Checked.{Checked}
 use Rattle.bundle.specs.declared.Checked.the-variants.{Ok, Refused}
@@ -37,6 +38,19 @@ printed = record {
             (named 2 44 0 (ascii "main") none);
       } ∷ record { path = ascii "/r/a.simf"; items = named 2 65 1 (ascii "f") none } ∷ [];
 }
+
+-- its bytes: a use at 27, functions at 44 and 65
+unfoldable printed-bytes : List ℕ
+printed-bytes =
+    (1 ∷ 0 ∷ 68 ∷ []) ++ (2 ∷ ascii "/r") ++ (1 ∷ 2 ∷ ascii "/r") ++ (0 ∷ [])
+    ++ (2 ∷ 12 ∷ ascii "/r/main.simf") ++ (0 ∷ 26 ∷ [])
+    ++ (0 ∷ 15 ∷ 3 ∷ 0 ∷ 2 ∷ 5 ∷ ascii "crate") ++ (1 ∷ ascii "a") ++ (1 ∷ 1 ∷ ascii "f") ++ (0 ∷ [])
+    ++ (0 ∷ 7 ∷ 2 ∷ 0 ∷ 4 ∷ ascii "main")
+    ++ (9 ∷ ascii "/r/a.simf") ++ (0 ∷ 6 ∷ []) ++ (0 ∷ 4 ∷ 2 ∷ 1 ∷ 1 ∷ ascii "f")
+
+printed-written : encode printed ≡ printed-bytes
+unfolding printed printed-bytes ascii encode fields sized two string counted joined remapping file items element
+printed-written = refl
 
 printed-length : length (encode printed) ≡ 71
 unfolding printed ascii encode fields sized two string counted joined remapping file items element
@@ -76,6 +90,10 @@ bytes-rows =
     ∷ row (raw (0 ∷ 3 ∷ 3 ∷ 0 ∷ 17 ∷ [])) 3 17 ∷ row (raw (0 ∷ 4 ∷ 3 ∷ 0 ∷ 0 ∷ 33 ∷ [])) 3 18
     -- a name's form; an alias's
     ∷ row (raw (0 ∷ 4 ∷ 2 ∷ 0 ∷ 1 ∷ 49 ∷ [])) 5 17 ∷ row (raw (0 ∷ 8 ∷ 3 ∷ 0 ∷ 0 ∷ 1 ∷ 1 ∷ 102 ∷ 1 ∷ 32 ∷ [])) 5 21
+    -- a segment's form, an element's
+    ∷ row (raw (0 ∷ 6 ∷ 3 ∷ 0 ∷ 1 ∷ 1 ∷ 49 ∷ 0 ∷ [])) 5 18 ∷ row (raw (0 ∷ 7 ∷ 3 ∷ 0 ∷ 0 ∷ 1 ∷ 1 ∷ 49 ∷ 0 ∷ [])) 5 19
+    -- a file's item length past the end; bytes left over after the last file
+    ∷ row (1 ∷ sized (1 ∷ 47 ∷ 0 ∷ 0 ∷ 1 ∷ 2 ∷ 47 ∷ 109 ∷ 0 ∷ 1 ∷ [])) 1 11 ∷ row (1 ∷ sized (1 ∷ 47 ∷ 0 ∷ 0 ∷ 1 ∷ 2 ∷ 47 ∷ 109 ∷ 0 ∷ 0 ∷ 9 ∷ [])) 1 13
     -- a folder's length past the end
     ∷ row (1 ∷ sized (1 ∷ 47 ∷ 1 ∷ 5 ∷ 47 ∷ 97 ∷ [])) 1 6
     -- a place past 65,535
@@ -95,10 +113,10 @@ main = empty (ascii "/m")
 abbrev remap : Text → Text → Text → Remapping
 remap c n t = record { context = c; name = n; target = t }
 
--- n modules `a`, each in the one before
-unfoldable nested : ℕ → Items
-nested zero = none
-nested (suc n) = module-of 0 0 (ascii "a") (nested n) none
+-- n modules `a`, each in the one before, and what the last holds
+unfoldable nested : ℕ → Items → Items
+nested zero inner = inner
+nested (suc n) inner = module-of 0 0 (ascii "a") (nested n inner) none
 
 abbrev holding : Items → List ℕ
 holding is = at-root [] [] (record { path = ascii "/m"; items = is } ∷ [])
@@ -109,7 +127,11 @@ value-rows =
     row (at-root (replicate 65 (ascii "/a")) [] (main ∷ [])) 3 5 ∷ row (at-root [] [] []) 3 7
     ∷ row (at-root [] [] (replicate 65 main)) 3 7
     ∷ row (at-root [] (replicate 33 (remap [] [] [])) []) 3 6
-    ∷ row (holding (nested 9)) 3 61
+    -- as many as may be: 64 folders, 64 files, 32 remappings
+    ∷ row (at-root (replicate 64 (ascii "/a")) [] (main ∷ [])) 7 9 ∷ row (at-root [] [] (replicate 64 main)) 7 13
+    ∷ row (at-root [] (replicate 32 (remap (ascii "/") (ascii "l") (ascii "/"))) (main ∷ [])) 13 13
+    -- depth 9 comes before the name
+    ∷ row (holding (nested 9 none)) 3 61 ∷ row (holding (nested 8 (module-of 0 0 (ascii "1") none none))) 3 61
     -- forms
     ∷ row (at-root (ascii "/a/" ∷ []) [] (main ∷ [])) 4 6 ∷ row (at-root [] [] (empty (ascii "m") ∷ [])) 4 8
     ∷ row (holding (named 1 0 0 (ascii "a-b") none)) 5 17
@@ -167,126 +189,104 @@ unfoldable above : ℕ → ℕ → List Text
 above k zero = []
 above k (suc n) = long k (suc n) ∷ above k n
 
--- depth 8; a path of 16 components and 255 bytes; a folder after its child
+-- depth 8; 16 segments and 32 elements; a path of 16 components and 255 bytes; a folder after its child
 taken-rows : List (List ℕ)
 taken-rows =
-    holding (nested 8)
+    holding (nested 8 none)
+    ∷ holding (use-of 0 0 (replicate 16 (ascii "a")) (replicate 32 (record { name = ascii "a"; alias = ascii "b" })) none)
     ∷ at-root (above 15 15) [] (empty (long 15 15 ++ long 14 1) ∷ [])
     ∷ at-root (ascii "/a/b" ∷ ascii "/a" ∷ []) [] (main ∷ [])
     ∷ []
 
-taken : map (λ s. accepted (read s)) taken-rows ≡ true ∷ true ∷ true ∷ []
+taken : map (λ s. accepted (read s)) taken-rows ≡ true ∷ true ∷ true ∷ true ∷ []
 unfolding nested long above taken-rows accepted ascii encode fields sized two string counted joined remapping file items element read verdict form lists files scanHeader scanString scanFormed scanCount scanList times scanField scanFiles scanFile scanLength siblings scanItemWith scanModule scanHead scanMark scanBody scanUse scanAlias scanEnd isPath isIdentifier class letter digit all same components split onto wellFormed isComponent conflicts listed located conflict.named remapped sameRemapping placedAt placedRemappingAt each far any member directlyIn startsWith begins isCrate isKeyword keywords decode fileAt itemsAt itemsBy itemAt elementAt remappingAt
 taken = refl
 
--- THE LIMITS ON ITEMS AND USES, at the first that is too many
-over-items : List ℕ
-over-items = raw (many ignored-item 1025)
+-- THE LIMITS ON ITEMS AND USES: what follows 1,024 items, and 256 uses
+unfoldable after-items : List ℕ → List ℕ
+after-items last = raw (many ignored-item 1024 ++ last)
 
-over-uses : List ℕ
-over-uses = raw (many use-item 257)
+unfoldable after-uses : List ℕ → List ℕ
+after-uses last = raw (many use-item 256 ++ last)
+
+-- one more item of visibility 2, and one of a bad name
+abbrev bad-visibility : List ℕ
+bad-visibility = 0 ∷ 2 ∷ 6 ∷ 2 ∷ []
+
+abbrev bad-name : List ℕ
+bad-name = 0 ∷ 4 ∷ 2 ∷ 0 ∷ 1 ∷ 49 ∷ []
 
 limit-rows : List Row
-limit-rows = row over-items 3 4109 ∷ row over-uses 3 1549 ∷ []
+limit-rows =
+    -- the 1,025th item, and the 257th use, at its start; after its visibility and before its name
+    row (after-items ignored-item) 3 4109 ∷ row (after-uses use-item) 3 1549
+    ∷ row (after-items bad-visibility) 6 4112 ∷ row (after-items bad-name) 3 4109
+    ∷ []
+
+-- no more of them are let through
+full-rows : List (List ℕ)
+full-rows = after-items [] ∷ after-uses [] ∷ []
 
 -- the bytes are read up to the items, which end at `end`
 abbrev with-items : List ℕ → ℕ → Checked
 with-items s end =
     orElse (afterWalk (walkThen (scanItems depth-limit s end 13 0 0) (scanFiles 0 s end)) (λ last. after (scanEnd end last) (λ _. Ok))) (conflicts s)
 
-items-read : verdict over-items ≡ with-items over-items 4113
-unfolding over-items raw many sized two verdict form lists files scanHeader scanString scanFormed scanCount scanList times scanField scanFiles scanFile scanLength scanEnd isPath all same components split onto wellFormed isComponent ascii
-items-read = refl
+before-items : (verdict (after-items ignored-item) ≡ with-items (after-items ignored-item) 4113)
+    × (verdict (after-uses use-item) ≡ with-items (after-uses use-item) 1555)
+    × (verdict (after-items bad-visibility) ≡ with-items (after-items bad-visibility) 4113)
+    × (verdict (after-items bad-name) ≡ with-items (after-items bad-name) 4115)
+    × (verdict (after-items []) ≡ with-items (after-items []) 4109)
+    × (verdict (after-uses []) ≡ with-items (after-uses []) 1549)
+unfolding after-items after-uses raw many sized two string counted joined element verdict form lists files scanHeader scanString scanFormed scanCount scanList times scanField scanFiles scanFile scanLength scanEnd isPath all same components split onto wellFormed isComponent ascii
+before-items = (refl, refl, refl, refl, refl, refl)
 
-uses-read : verdict over-uses ≡ with-items over-uses 1555
-unfolding over-uses raw many sized two string counted joined element verdict form lists files scanHeader scanString scanFormed scanCount scanList times scanField scanFiles scanFile scanLength scanEnd isPath all same components split onto wellFormed isComponent ascii
-uses-read = refl
+-- the last item
+last-item : (scanItems depth-limit (after-items ignored-item) 4113 4109 1024 0 ≡ Fault 3 4109)
+    × (scanItems depth-limit (after-uses use-item) 1555 1549 256 256 ≡ Fault 3 1549)
+    × (scanItems depth-limit (after-items bad-visibility) 4113 4109 1024 0 ≡ Fault 6 4112)
+    × (scanItems depth-limit (after-items bad-name) 4115 4109 1024 0 ≡ Fault 3 4109)
+    × (scanItems depth-limit (after-items []) 4109 4109 1024 0 ≡ Past 4109 1024 0)
+    × (scanItems depth-limit (after-uses []) 1549 1549 256 256 ≡ Past 1549 256 256)
+unfolding after-items after-uses raw many sized two string counted joined element siblings scanItemWith scanModule scanHead scanLength scanMark scanBody scanUse scanList scanCount times scanField scanString scanFormed scanAlias scanEnd
+last-item = (refl, refl, refl, refl, refl, refl)
 
-items-last : scanItems depth-limit over-items 4113 4109 1024 0 ≡ Fault 3 4109
-unfolding over-items raw many sized two siblings scanItemWith scanModule scanHead scanLength scanMark scanBody scanUse scanList scanCount times scanField scanString scanFormed scanAlias scanEnd
-items-last = refl
+-- and those before it
+items-stand : (last : List ℕ) → drop 13 (after-items last) ≡ many ignored-item 1024 ++ last
+unfolding after-items raw sized two
+items-stand last = refl
 
-uses-last : scanItems depth-limit over-uses 1555 1549 256 256 ≡ Fault 3 1549
-unfolding over-uses raw many sized two string counted joined element siblings scanItemWith scanModule scanHead scanLength scanMark scanBody scanUse scanList scanCount times scanField scanString scanFormed scanAlias scanEnd
-uses-last = refl
+uses-stand : (last : List ℕ) → drop 13 (after-uses last) ≡ many use-item 256 ++ last
+unfolding after-uses raw sized two
+uses-stand last = refl
 
-items-stand : drop 13 over-items ≡ many ignored-item 1024 ++ ignored-item
-unfolding over-items raw many sized two
-items-stand = refl
+walked-items : (last : List ℕ) (end : ℕ) (w : Walk) → 4109 ≤ end → scanItems depth-limit (after-items last) end 4109 1024 0 ≡ w → scanItems depth-limit (after-items last) end 13 0 0 ≡ w
+walked-items last end w h e = many-ignored (after-items last) depth-limit end 1024 13 0 0 last (items-stand last) (omega arith) (omega arith) (omega arith) ∙ e
 
-uses-stand : drop 13 over-uses ≡ many use-item 256 ++ use-item
-unfolding over-uses raw many sized two string counted joined element
-uses-stand = refl
-
-items-told : verdict over-items ≡ Refused 3 4109
-items-told =
-    let w : scanItems depth-limit over-items 4113 13 0 0 ≡ scanItems depth-limit over-items 4113 4109 1024 0 =
-    many-ignored over-items depth-limit 4113 1024 13 0 0 ignored-item items-stand (omega arith) (omega arith) (omega arith) in
-    items-read ∙ rw (w ∙ items-last)
-
-uses-told : verdict over-uses ≡ Refused 3 1549
-uses-told =
-    let w : scanItems depth-limit over-uses 1555 13 0 0 ≡ scanItems depth-limit over-uses 1555 1549 256 256 =
-    many-uses over-uses depth-limit 1555 256 13 0 0 use-item uses-stand (omega arith) (omega arith) (omega arith) in
-    uses-read ∙ rw (w ∙ uses-last)
+walked-uses : (last : List ℕ) (end : ℕ) (w : Walk) → 1549 ≤ end → scanItems depth-limit (after-uses last) end 1549 256 256 ≡ w → scanItems depth-limit (after-uses last) end 13 0 0 ≡ w
+walked-uses last end w h e = many-uses (after-uses last) depth-limit end 256 13 0 0 last (uses-stand last) (omega arith) (omega arith) (omega arith) ∙ e
 
 limits-told : answers limit-rows ≡ told limit-rows
 unfolding answers told limit-rows read
-limits-told = rw (items-told, uses-told)
+limits-told =
+    let b = before-items in
+    let l = last-item in
+    let w : verdict (after-items ignored-item) ≡ Refused 3 4109 = b .0 ∙ rw (walked-items ignored-item 4113 _ (omega arith) (l .0)) in
+    let x : verdict (after-uses use-item) ≡ Refused 3 1549 = b .1 ∙ rw (walked-uses use-item 1555 _ (omega arith) (l .1)) in
+    let y : verdict (after-items bad-visibility) ≡ Refused 6 4112 = b .2 ∙ rw (walked-items bad-visibility 4113 _ (omega arith) (l .2)) in
+    let z : verdict (after-items bad-name) ≡ Refused 3 4109 = b .3 ∙ rw (walked-items bad-name 4115 _ (omega arith) (l .3)) in
+    rw (w, x, y, z)
 
--- and 1,024 items, and 256 uses, are let through
-full-items : List ℕ
-full-items = raw (many ignored-item 1024)
+full-free : (conflicts (after-items []) ≡ Ok) × (conflicts (after-uses []) ≡ Ok)
+unfolding after-items after-uses raw many sized two string counted joined element conflicts listed located conflict.named remapped sameRemapping placedAt placedRemappingAt each far any member directlyIn startsWith begins isCrate isKeyword keywords same components split onto
+full-free = (refl, refl)
 
-full-uses : List ℕ
-full-uses = raw (many use-item 256)
-
-full-items-read : verdict full-items ≡ with-items full-items 4109
-unfolding full-items raw many sized two verdict form lists files scanHeader scanString scanFormed scanCount scanList times scanField scanFiles scanFile scanLength scanEnd isPath all same components split onto wellFormed isComponent ascii
-full-items-read = refl
-
-full-uses-read : verdict full-uses ≡ with-items full-uses 1549
-unfolding full-uses raw many sized two string counted joined element verdict form lists files scanHeader scanString scanFormed scanCount scanList times scanField scanFiles scanFile scanLength scanEnd isPath all same components split onto wellFormed isComponent ascii
-full-uses-read = refl
-
-full-items-stand : drop 13 full-items ≡ many ignored-item 1024 ++ []
-unfolding full-items raw many sized two
-full-items-stand = refl
-
-full-uses-stand : drop 13 full-uses ≡ many use-item 256 ++ []
-unfolding full-uses raw many sized two string counted joined element
-full-uses-stand = refl
-
-full-items-end : scanItems depth-limit full-items 4109 4109 1024 0 ≡ Past 4109 1024 0
-unfolding siblings
-full-items-end = refl
-
-full-uses-end : scanItems depth-limit full-uses 1549 1549 256 256 ≡ Past 1549 256 256
-unfolding siblings
-full-uses-end = refl
-
-full-items-free : conflicts full-items ≡ Ok
-unfolding full-items raw many sized two conflicts listed located conflict.named remapped sameRemapping placedAt placedRemappingAt each far any member directlyIn startsWith begins isCrate isKeyword keywords same components split onto
-full-items-free = refl
-
-full-uses-free : conflicts full-uses ≡ Ok
-unfolding full-uses raw many sized two string counted joined element conflicts listed located conflict.named remapped sameRemapping placedAt placedRemappingAt each far any member directlyIn startsWith begins isCrate isKeyword keywords same components split onto
-full-uses-free = refl
-
-items-taken : verdict full-items ≡ Ok
-unfolding scanFiles scanEnd
-items-taken =
-    let w : scanItems depth-limit full-items 4109 13 0 0 ≡ scanItems depth-limit full-items 4109 4109 1024 0 =
-    many-ignored full-items depth-limit 4109 1024 13 0 0 [] full-items-stand (omega arith) (omega arith) (omega arith) in
-    full-items-read ∙ rw (w ∙ full-items-end, full-items-free)
-
-uses-taken : verdict full-uses ≡ Ok
-unfolding scanFiles scanEnd
-uses-taken =
-    let w : scanItems depth-limit full-uses 1549 13 0 0 ≡ scanItems depth-limit full-uses 1549 1549 256 256 =
-    many-uses full-uses depth-limit 1549 256 13 0 0 [] full-uses-stand (omega arith) (omega arith) (omega arith) in
-    full-uses-read ∙ rw (w ∙ full-uses-end, full-uses-free)
-
-full-taken : map (λ s. accepted (read s)) (full-items ∷ full-uses ∷ []) ≡ true ∷ true ∷ []
-unfolding accepted read
-full-taken = rw (items-taken, uses-taken)
+full-taken : map (λ s. accepted (read s)) full-rows ≡ true ∷ true ∷ []
+unfolding full-rows accepted read scanFiles scanEnd
+full-taken =
+    let b = before-items in
+    let l = last-item in
+    let f = full-free in
+    let x : verdict (after-items []) ≡ Ok = b .4 ∙ rw (walked-items [] 4109 _ (omega arith) (l .4), f .0) in
+    let y : verdict (after-uses []) ≡ Ok = b .5 ∙ rw (walked-uses [] 1549 _ (omega arith) (l .5), f .1) in
+    rw (x, y)

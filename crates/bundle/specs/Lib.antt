@@ -8,13 +8,14 @@ pub mod Conflicts
 pub mod Lists
 pub mod Read
 pub mod Form
+pub mod Parts
+pub mod MarkWords
 pub mod Refusals
 -- THEOREMS to cite: what holds of every bundle, the refusals said a second way, cases computed
 pub mod Theorems
 pub mod RefusalTheorems
 pub mod AcceptedTheorems
 pub mod Numbers
-pub mod Marks
 pub mod Cases
 -- LAWS, for the code's proofs and for those theorems
 pub mod Answers
@@ -25,6 +26,7 @@ pub mod Walks
 pub mod ListLaws
 pub mod Access
 pub mod Stand
+pub mod Marks
 pub mod Sound
 pub mod SoundItems
 pub mod SoundBundle

@@ -1,4 +1,4 @@
--- Every mark is the offset of its item in the bundle, and marks are different. Assumes nothing.
+-- Laws of marks: every mark is the offset of its item in the bundle, and marks are different. Assumes nothing.
 use Prim.Native.Nat.{ℕ, zero, suc, _+_, _≤_, _<_}
 use native.Mathlib.Omega.{arith}
 use mathlib.Core.Path.{_≡_, _∙_}
@@ -9,19 +9,9 @@ use Rattle.bundle.specs.Limits.{use-kind, module-kind, ignored-kind}
 use Rattle.bundle.specs.Encode.{two, string, joined, sized, element, items, file}
 use Rattle.bundle.specs.Encode.{counted as count-list}
 use Rattle.bundle.specs.Form.{Marked, MarkedFiles}
+pub use Rattle.bundle.specs.MarkWords.{Begins}
+unfoldable pub use Rattle.bundle.specs.MarkWords.{marksOf, fileMarks, Found, FoundFiles}
 use Rattle.bundle.specs.Stand.{at-append, sized-length}
-
--- the marks of items, each before those inside it
-unfoldable pub marksOf : Items → List ℕ
-marksOf none = []
-marksOf (named k m v name rest) = m ∷ marksOf rest
-marksOf (use-of m v segments elements rest) = m ∷ marksOf rest
-marksOf (module-of m v name inner rest) = m ∷ (marksOf inner ++ marksOf rest)
-marksOf (ignored m v rest) = m ∷ marksOf rest
-
-unfoldable pub fileMarks : List File → List ℕ
-fileMarks [] = []
-fileMarks (f ∷ l) = marksOf (f .items) ++ fileMarks l
 
 -- rising numbers, from low on and below high
 unfoldable pub Rising : ℕ → ℕ → List ℕ → Type 0
@@ -127,18 +117,6 @@ files-rising s (f ∷ l) at p =
     rising-append (marksOf (f .items)) (fileMarks l) at (at + length (X ++ sized Y)) (at + length ((X ++ sized Y) ++ joined file l)) (rw z1 at a) (rw z2 at b)
 
 -- THE BYTES AT A MARK
-pub record Begins (s : List ℕ) (at : ℕ) (x : List ℕ) : Type 0 where
-  pub rest : List ℕ
-  pub bytes : drop at s ≡ x ++ rest
-
--- at each mark the item's bytes stand
-unfoldable pub Found : List ℕ → Items → Type 0
-Found s none = Unit {0}
-Found s (named k m v name rest) = Begins s m (sized (k ∷ v ∷ string name)) × Found s rest
-Found s (use-of m v segments elements rest) = Begins s m (sized (use-kind ∷ v ∷ (count-list string segments ++ count-list element elements))) × Found s rest
-Found s (module-of m v name inner rest) = Begins s m (sized (module-kind ∷ v ∷ (string name ++ items inner))) × (Found s inner × Found s rest)
-Found s (ignored m v rest) = Begins s m (sized (ignored-kind ∷ v ∷ [])) × Found s rest
-
 begins : (s : List ℕ) (m at : ℕ) (x y : List ℕ) → m ≡ at → drop at s ≡ x ++ y → Begins s m x
 begins s m at x y e h = record { rest = y; bytes = rw e h }
 
@@ -162,10 +140,6 @@ items-found s (module-of m v name inner r) at rest p e =
     let e1 = e ∙ append-assoc S (items r) rest in
     let i : drop (at + 4 + length (string name)) s ≡ items inner ++ (items r ++ rest) = inner-at s at v name (items inner) (items r ++ rest) e1 in
     (begins s m at S (items r ++ rest) (p .0) e1, (items-found s inner (at + 4 + length (string name)) (items r ++ rest) (p .1 .0) i, items-found s r (at + length S) rest (p .1 .1) (at-append s at S (items r ++ rest) e1)))
-
-unfoldable pub FoundFiles : List ℕ → List File → Type 0
-FoundFiles s [] = Unit {0}
-FoundFiles s (f ∷ l) = Found s (f .items) × FoundFiles s l
 
 pub files-found : (s : List ℕ) (l : List File) (at : ℕ) (rest : List ℕ) → MarkedFiles l at → drop at s ≡ joined file l ++ rest → FoundFiles s l
 unfolding MarkedFiles joined FoundFiles file

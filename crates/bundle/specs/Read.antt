@@ -1,5 +1,5 @@
 -- What document 01 says of any bytes: the bundle that they are, or a number from 1 to 13 and a place. Assumes nothing.
-use Prim.Native.Nat.{ℕ}
+use Prim.Native.Nat.{ℕ, _<_}
 use mathlib.Core.List.{List}
 use lib.ListN.{length}
 use Rattle.bundle.specs.Bundle.{Bundle}
@@ -14,6 +14,10 @@ use Rattle.bundle.specs.declared.Walk.the-variants.{Past, Fault}
 use Rattle.bundle.specs.declared.Field.the-variants.{Path, Remapping}
 use Rattle.bundle.specs.declared.Checked.{Checked}
 use Rattle.bundle.specs.declared.Checked.the-variants.{Ok, Refused}
+
+-- numbers that are bytes
+abbrev pub Bytes : List ℕ → Type 0
+Bytes s = (i : ℕ) → byte s i < 256
 
 abbrev pub after : Scan → (ℕ → Checked) → Checked
 after (Next at) f = f at

@@ -28,7 +28,7 @@ use Rattle.bundle.specs.Free.{paths-each}
 use Rattle.bundle.specs.Answers.{refused-ok, refused-number, refused-place, both-ok, refused-told}
 use Rattle.bundle.specs.First.{firstTold, First, first-only, first-all, ok-only, ok-all}
 use Rattle.bundle.specs.Numbers.{RightForm, form-right, Late, conflicts-right}
-use Rattle.bundle.specs.Refusals.{BytesInForm, IsFolder, IsFile, paths, none, pathAt, ListedBefore, as-root, as-earlier, HasParent, GoodPath, GoodPaths, remappingOf, Repeated, Reserved, OddName, GoodRemapping, GoodRemappings, rootOf, FirstPath, FirstRemapping, Misplaced, Refusal, twice, orphan, bad-context, bad-target, reserved, odd-name, same-remapping, bad-root, Faultless}
+use Rattle.bundle.specs.Refusals.{BytesInForm, IsFolder, IsFile, paths, none, pathAt, ListedBefore, as-root, as-earlier, HasParent, GoodPath, GoodPaths, remappingOf, Repeated, Reserved, OddName, GoodRemapping, GoodRemappings, rootOf, FirstPath, FirstRemapping, Misplaced, nowhere, a-file, Refusal, twice, orphan, bad-context, bad-target, reserved, odd-name, same-remapping, bad-root, Faultless}
 use Rattle.bundle.specs.RefusalLaws.{or-told, pathTold, listed-first, remapTold, remapped-first, before-only, before-all, parent-only, parent-all, located-in, located-ok, located-only, located-all, name-ok, name-in, name-only, name-11, name-12, repeated-only, repeated-all, folders-path, listed-path, path-inside, root-inside, remapping-inside}
 use Rattle.bundle.specs.declared.Checked.{Checked}
 use Rattle.bundle.specs.declared.Checked.the-variants.{Ok, Refused}
@@ -397,3 +397,48 @@ files-are s = paths-each s (byte s (filesAt s)) (filesAt s + 1)
 
 pub listed-are : (s : List ℕ) (f : BytesInForm s) → (texts (folders s) ≡ f .bundle .folders) × (texts (files s) ≡ map (λ (g : File). g .path) (f .bundle .files))
 listed-are s f = (folders-are s ∙ ap (λ (b : Bundle). b .folders) (decoded s f), files-are s ∙ ap (λ (b : Bundle). map (λ (g : File). g .path) (b .files)) (decoded s f))
+
+-- ONE NUMBER AT A TIME
+misplaced-number : {s : List ℕ} {t : Text} {n : ℕ} → Misplaced s t n → (9 ≤ n) × (n ≤ 10)
+misplaced-number (nowhere a b) = (omega arith, omega arith)
+misplaced-number (a-file a b) = (omega arith, omega arith)
+
+-- 7 at p: the first path that is not good stands there, and is listed before
+abbrev pub Twice : List ℕ → ℕ → Type 0
+Twice s p = (i : ℕ) × (FirstPath s i × ListedBefore s i × (pathAt s i .place ≡ p))
+
+seven : {s : List ℕ} {n p : ℕ} → Refusal s n p → n ≡ 7 → Twice s p
+seven (twice i F l) e = (i, (F, l, refl))
+seven (orphan i F l k) e = absurd (omega arith)
+seven (bad-context i F m) e = let x = misplaced-number m in absurd (omega arith)
+seven (bad-target i F c m) e = let x = misplaced-number m in absurd (omega arith)
+seven (reserved i F c t r) e = absurd (omega arith)
+seven (odd-name i F c t r o) e = absurd (omega arith)
+seven (same-remapping i F c t r o k) e = absurd (omega arith)
+seven (bad-root f g k m) e = let x = misplaced-number m in absurd (omega arith)
+
+pub twice-only : (s : List ℕ) → Bytes s → (p : ℕ) → verdict s ≡ Refused 7 p → Twice s p
+twice-only s B p e = seven (refusal-only s B 7 p (omega arith) e) refl
+
+pub twice-all : (s : List ℕ) (p : ℕ) → Twice s p → verdict s ≡ Refused 7 p
+twice-all s p t = refusal-all s (twice (t .0) (t .1 .0) (t .1 .1)) ∙ ap (Refused 7) (t .1 .2)
+
+-- 8 at p: the first path that is not good stands there, is not listed before, and its parent isn't `/` or a listed folder
+abbrev pub Orphan : List ℕ → ℕ → Type 0
+Orphan s p = (i : ℕ) × (FirstPath s i × (ListedBefore s i → ⊥) × (HasParent s i → ⊥) × (pathAt s i .place ≡ p))
+
+eight : {s : List ℕ} {n p : ℕ} → Refusal s n p → n ≡ 8 → Orphan s p
+eight (twice i F l) e = absurd (omega arith)
+eight (orphan i F l k) e = (i, (F, l, k, refl))
+eight (bad-context i F m) e = let x = misplaced-number m in absurd (omega arith)
+eight (bad-target i F c m) e = let x = misplaced-number m in absurd (omega arith)
+eight (reserved i F c t r) e = absurd (omega arith)
+eight (odd-name i F c t r o) e = absurd (omega arith)
+eight (same-remapping i F c t r o k) e = absurd (omega arith)
+eight (bad-root f g k m) e = let x = misplaced-number m in absurd (omega arith)
+
+pub orphan-only : (s : List ℕ) → Bytes s → (p : ℕ) → verdict s ≡ Refused 8 p → Orphan s p
+orphan-only s B p e = eight (refusal-only s B 8 p (omega arith) e) refl
+
+pub orphan-all : (s : List ℕ) (p : ℕ) → Orphan s p → verdict s ≡ Refused 8 p
+orphan-all s p t = refusal-all s (orphan (t .0) (t .1 .0) (t .1 .1) (t .1 .2)) ∙ ap (Refused 8) (t .1 .3)

@@ -9,9 +9,7 @@ use lib.Seq.{drop-cons, drop-drop, drop-at, getD-drop, length-take-le}
 use Rattle.bundle.specs.Scan.{byte, word, text}
 use Rattle.bundle.specs.Decode.{after, afterLength}
 use Rattle.bundle.specs.Encode.{two, string, sized}
-
-abbrev pub Bytes : List ℕ → Type 0
-Bytes s = (i : ℕ) → byte s i < 256
+pub use Rattle.bundle.specs.Read.{Bytes}
 
 -- x stands from a to b
 abbrev pub Stands : List ℕ → ℕ → List ℕ → ℕ → Type 0

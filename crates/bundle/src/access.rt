@@ -7,7 +7,7 @@ ghost use Rattle.bundle.specs.Bundle.{Text, Remapping, File};
 ghost use Rattle.bundle.specs.Limits.{depth-limit, use-kind, module-kind, ignored-kind};
 ghost use Rattle.bundle.specs.Scan.{text};
 ghost use Rattle.bundle.specs.Decode.{each, after, afterElement, afterRemapping, afterFile, elementAt, remappingAt, fileAt, itemsAt, decode, foldersAt, remappingsAt, filesAt};
-ghost use Rattle.bundle.specs.Access.{kindOf, markOf, visibilityOf, nameOf, segmentsOf, elementsOf, innerOf, restOf};
+ghost use Rattle.bundle.specs.Parts.{kindOf, markOf, visibilityOf, nameOf, segmentsOf, elementsOf, innerOf, restOf};
 use crate::bytes::after_length;
 use crate::bytes::after_string;
 use crate::bytes::byte_at;

@@ -4,7 +4,8 @@ use Prim.Native.String.{String}
 use mathlib.Core.Bool.{Bool, true, not}
 use mathlib.Core.Path.{_≡_, refl}
 use mathlib.Core.List.{List, [], _∷_, _++_}
-use lib.ListN.{replicate}
+use lib.Dec.{eqb}
+use lib.ListN.{length, replicate}
 use Rattle.names.specs.Bytes.{ascii, same, member, all}
 use Rattle.names.specs.Keywords.{keywords, isKeyword}
 use Rattle.names.specs.Identifier.{letter, digit, class, isIdentifier}
@@ -26,6 +27,11 @@ unfoldable pub repeated : ℕ → List ℕ
 repeated Prim.Native.Nat.zero = []
 repeated (Prim.Native.Nat.suc n) = ascii "/a" ++ repeated n
 
+-- a path of n components of k bytes
+unfoldable pub wide : ℕ → ℕ → List ℕ
+wide k Prim.Native.Nat.zero = []
+wide k (Prim.Native.Nat.suc n) = root ++ (replicate k 97 ++ wide k n)
+
 -- each row is a test that has to hold
 unfoldable pub rows : List Bool
 rows =
@@ -36,6 +42,8 @@ rows =
     ∷ path "/" ∷ path "/r/a.simf" ∷ not (path "") ∷ not (path "r") ∷ not (path "/r/") ∷ not (path "//r") ∷ not (path "/.")
     ∷ not (path "/r/..") ∷ path "/..." ∷ not (path "/a b") ∷ path "/~!" ∷ isPath (repeated 16) ∷ not (isPath (repeated 17))
     ∷ isPath (root ++ replicate 32 97) ∷ not (isPath (root ++ replicate 33 97))
+    -- 16 components and 255 bytes, and 256
+    ∷ eqb (length (wide 15 15 ++ wide 14 1)) 255 ∷ isPath (wide 15 15 ++ wide 14 1) ∷ eqb (length (wide 15 16)) 256 ∷ not (isPath (wide 15 16))
     -- the identifier form
     ∷ identifier "_" ∷ identifier "a9" ∷ not (identifier "9a") ∷ not (identifier "") ∷ not (identifier "a-b")
     ∷ isIdentifier (replicate 32 97) ∷ not (isIdentifier (replicate 33 97))
@@ -49,5 +57,5 @@ rows =
     ∷ same (unitName 0) (ascii "unit_0") ∷ same (unitName 63) (ascii "unit_63") ∷ same (unitName 512) (ascii "unit_512") ∷ []
 
 pub cases : all (λ (t : Bool). t) rows ≡ true
-unfolding all rows repeated ascii same member keywords isKeyword letter digit class isIdentifier digits decimal unitName onto split components led render isComponent wellFormed isPath begins startsWith directlyIn init parent stemOf child childFile
+unfolding all rows repeated wide ascii same member keywords isKeyword letter digit class isIdentifier digits decimal unitName onto split components led render isComponent wellFormed isPath begins startsWith directlyIn init parent stemOf child childFile
 cases = refl
