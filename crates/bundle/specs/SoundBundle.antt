@@ -22,7 +22,7 @@ use Rattle.bundle.specs.Stand.{Bytes, Stands, stands-then, stands-length
 use Rattle.bundle.specs.Sound.{Read, CountRead, formed-read, remapping-read, count-read}
 use Rattle.bundle.specs.SoundItems.{ItemsAre, items-are-read}
 use Rattle.bundle.specs.Read.{form, lists, files, verdict, afterWalk}
-use Rattle.bundle.specs.Answers.{refused-ok}
+use Rattle.bundle.specs.Answers.{refused-ok, both-ok}
 use Rattle.bundle.specs.Read.{after as thenOk}
 use Rattle.bundle.specs.declared.Scan.{Scan}
 use Rattle.bundle.specs.declared.Scan.the-variants.{Next, Bad}
