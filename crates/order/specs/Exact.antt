@@ -63,12 +63,12 @@ use-before s (module-of mark v name inner rest) h u m =
     ⊎-elim (λ w. use-before s inner (h .1 .0) u w) (λ w. use-before s rest (h .1 .1) u w) (List·Memᴰ·append-cases (uses inner) m)
 use-before s (ignored mark v rest) h u m = use-before s rest (h .1) u m
 
-program-found : (s : List ℕ) (fs : List File) (p : Text) → FoundFiles s fs → Found s (programOf fs p)
+pub program-found : (s : List ℕ) (fs : List File) (p : Text) → FoundFiles s fs → Found s (programOf fs p)
 unfolding FoundFiles programOf Found
 program-found s [] p h = tt
 program-found s (f ∷ fs) p h = cond-elim (Found s) (same p (f .path)) (λ e. h .0) (λ e. program-found s fs p (h .1))
 
-encode-length : (b : Bundle) → length (encode b) ≡ 3 + length (fields b)
+pub encode-length : (b : Bundle) → length (encode b) ≡ 3 + length (fields b)
 unfolding encode sized two
 encode-length b = omega arith
 
