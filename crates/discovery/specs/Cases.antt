@@ -47,13 +47,13 @@ use-path path rest = use-of 0 0 (map ascii path) [] rest
 abbrev within : String → Items → Items → Items
 within name inner rest = module-of 0 0 (ascii name) inner rest
 
-abbrev at-path : String → Items → File
+abbrev pub at-path : String → Items → File
 at-path p is = record { path = ascii p; items = is }
 
-abbrev below-r : List String → List File → Bundle
+abbrev pub below-r : List String → List File → Bundle
 below-r folders fs = record { root = ascii "/r"; folders = ascii "/r" ∷ map ascii folders; remappings = []; files = fs }
 
-abbrev printed-entry : File
+abbrev pub printed-entry : File
 printed-entry = at-path "/r/main.simf" (use-of 0 0 (ascii "crate" ∷ ascii "a" ∷ []) (record { name = ascii "f"; alias = [] } ∷ []) (named 2 0 0 (ascii "main") none))
 
 unfoldable pub rows : List Row

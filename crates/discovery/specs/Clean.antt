@@ -29,12 +29,12 @@ no-left (x ∷ l) k e = let z : _≡_ {A = ℕ} 0 1 = cc in absurd (omega arith)
 
 module _ (files : List Text) where
   -- units are files, and what could not be read was told
-  record Told (s : Loading) : Type 0 where
+  record AllTold (s : Loading) : Type 0 where
     known : (p : Text) → List·Memᴰ p (s .sources) → member p files ≡ true
     told : s .faults ≡ [] → s .invalid ≡ []
 
   record CleanLoad (s s' : Loading) (is : List Import) : Type 0 where
-    ok : Told s'
+    ok : AllTold s'
     new : List Text
     grown : s' .sources ≡ s .sources ++ new
     clean : s' .faults ≡ [] → (s .faults ≡ []) × ((i : Import) → List·Memᴰ i is → member (i .path) files ≡ true)
@@ -42,7 +42,7 @@ module _ (files : List Text) where
   only : (i : Import) → member (i .path) files ≡ true → (j : Import) → List·Memᴰ j (i ∷ []) → member (j .path) files ≡ true
   only i e j m = ⊎-elim (λ q. ap (λ (k : Import). member (k .path) files) q ∙ e) (λ w. absurd (List·Memᴰ·not-nil w)) (List·Memᴰ·cases-cons m)
 
-  load-clean : (i : Import) (s : Loading) → Told s → CleanLoad s (load files i s) (i ∷ [])
+  load-clean : (i : Import) (s : Loading) → AllTold s → CleanLoad s (load files i s) (i ∷ [])
   unfolding load member
   load-clean i s o =
       cond-elim (λ s'. CleanLoad s s' (i ∷ [])) (member (i .path) (s .invalid))
@@ -84,7 +84,7 @@ module _ (files : List Text) where
     );
   }
 
-  all-clean : (is : List Import) (s : Loading) → Told s → CleanLoad s (loadAll files is s) is
+  all-clean : (is : List Import) (s : Loading) → AllTold s → CleanLoad s (loadAll files is s) is
   unfolding loadAll
   all-clean [] s o = record { ok = o; new = []; grown = sym (append-nil (s .sources)); clean = λ q. (q, λ i m. absurd (List·Memᴰ·not-nil m)) }
   all-clean (i ∷ is) s o =

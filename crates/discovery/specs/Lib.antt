@@ -11,6 +11,7 @@ pub mod InTurnTheorems
 pub mod Cases
 -- laws, for the code and for proofs
 pub mod Facts
+pub mod InTurnFacts
 pub mod Walk
 pub mod Room
 pub mod Weight

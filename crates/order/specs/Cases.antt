@@ -10,7 +10,7 @@ use Rattle.names.specs.Path.{isPath, isComponent, wellFormed, split, onto, comp
 use Rattle.names.specs.Prefix.{directlyIn, startsWith, begins, child, childFile, stemOf}
 use Rattle.names.specs.Identifier.{isIdentifier, class, letter, digit}
 use Rattle.names.specs.Keywords.{isCrate, isKeyword, keywords}
-use Rattle.bundle.specs.Bundle.{Text, Items, none, named, use-of, File, Bundle}
+use Rattle.bundle.specs.Bundle.{Text, Items, none, named, use-of, Bundle}
 use Rattle.bundle.specs.Encode.{two, string, joined, counted, sized, element, items, remapping, file, fields, encode}
 use Rattle.bundle.specs.Scan.{times, scanString, scanFormed, scanAlias, scanField, scanCount, scanList, scanUse, scanLength, scanMark, scanHead, scanBody, scanEnd, scanItemWith, siblings, scanModule, scanFile, scanFiles, scanHeader}
 use Rattle.bundle.specs.Decode.{each, far, elementAt, remappingAt, itemAt, itemsBy, itemsAt, fileAt, decode}
@@ -22,6 +22,7 @@ use Rattle.resolution.specs.Resolution.{getPackageRoot, applies, remappingFor, 
 use Rattle.resolution.specs.Call.{position}
 use Rattle.discovery.specs.Discovery.{Fault, uses, programOf, useCache, lookupFaults, validImports, holds, addOnce, load, loadAll, turn, turns, discoverDependencies}
 use Rattle.discovery.specs.Facts.{pathsAt}
+use Rattle.discovery.specs.Cases.{at-path, below-r, printed-entry}
 use Rattle.graph.specs.Linearize.{linearize, visit, memb, from}
 use Rattle.graph.specs.Linearize as graph
 use Rattle.order.specs.Run.{Outcome, faulty, closed, linked, ordered, filesOf}
@@ -57,15 +58,6 @@ fault-at n p = record { number = n; place = p }
 -- a use of a file of the root, with no elements, and items after it
 abbrev imports : String → Items → Items
 imports name rest = use-of 0 0 (ascii "crate" ∷ ascii name ∷ []) [] rest
-
-abbrev at-path : String → Items → File
-at-path p is = record { path = ascii p; items = is }
-
-abbrev below-r : List String → List File → Bundle
-below-r folders fs = record { root = ascii "/r"; folders = ascii "/r" ∷ map ascii folders; remappings = []; files = fs }
-
-abbrev printed-entry : File
-printed-entry = at-path "/r/main.simf" (use-of 0 0 (ascii "crate" ∷ ascii "a" ∷ []) (record { name = ascii "f"; alias = [] } ∷ []) (named 2 0 0 (ascii "main") none))
 
 unfoldable pub rows : List Row
 rows =
