@@ -203,11 +203,6 @@ module _ (s : List ℕ) (B : Bytes s) (rep img : List ℕ) (t : Tree) (r : LinkR
         other : {a : answers.Answer} → r .answer ≡ a → a .number ≡ 14
         other q = sym (ap (λ (y : answers.Answer). y .number) q) ∙ e
 
-        by-call : (x : Flat) (q : Request) (n : ℕ) → RefusedBy x (call-of q) n → n ≡ 14 → ⊥
-        by-call x q n (by-form f) h = let l = bad-small q n f in omega arith
-        by-call x q n (by-rule l u) h = omega arith
-        by-call x q n (by-limit l u) h = omega arith
-
         imageless : (p : Items) (n : ℕ) → imageLength p ≤ length img → NoImage p (length img) n → n ≡ 14 → ⊥
         imageless p n l (too-long h) k = let z : _≡_ {A = ℕ} 15 14 = k in omega arith
         imageless p n l (too-small h i) k = omega arith
@@ -217,8 +212,7 @@ module _ (s : List ℕ) (B : Bytes s) (rep img : List ℕ) (t : Tree) (r : LinkR
         go (small-report c w l q k j) = let z = two-values s w v in let n = subst (λ (d : Bundle). length rep < reportLength (recordsOf (linkBundle d))) z l in omega arith
         go (faults c l w f q k j) = let z = other q in omega arith
         go (ring-met c l w f q k j) = let z = other q in omega arith
-        go (ends c n p w f q k j) =
-            by-call (f .ends .tree) (f .ends .call .request) n (refused-by (f .ends .tree) n (call-of (f .ends .call .request)) (f .ends .number)) (other q)
+        go (ends c n p w f q k j) = let z = other q in let l = f .numbers .0 in omega arith
         go (no-image c o p x n w f y q k j) = imageless p n (fits o p (subst (λ (d : Bundle). Program d o p) (two-values s w v) (f .program))) y (other q)
         go (links c o p w f L g q i k) = let z = other q in omega arith
 
