@@ -138,10 +138,6 @@ form-parts s h =
       files-pass = ap (files s) (sym z) ∙ g .second;
     }
 
-both-ok : (a c : Checked) → orElse a c ≡ Ok → (a ≡ Ok) × (c ≡ Ok)
-both-ok Ok c h = (refl, h)
-both-ok (Refused n p) c h = absurd (refused-ok h)
-
 -- neither 1 to 6 nor 7 to 13
 pub both-pass : (s : List ℕ) → verdict s ≡ Ok → (form s ≡ Ok) × (conflicts s ≡ Ok)
 unfolding verdict
