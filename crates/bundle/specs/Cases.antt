@@ -10,7 +10,7 @@ use Rattle.names.specs.Path.{isPath, isComponent, wellFormed, split, onto, comp
 use Rattle.names.specs.Prefix.{directlyIn, startsWith, begins}
 use Rattle.names.specs.Identifier.{isIdentifier, class, letter, digit}
 use Rattle.names.specs.Keywords.{isCrate, isKeyword, keywords}
-use Rattle.bundle.specs.Bundle.{Text, Items, none, named, use-of, module-of, Remapping, File, Bundle}
+use Rattle.bundle.specs.Bundle.{Text, Items, none, named, use-of, module-of, ignored, Remapping, File, Bundle}
 use Rattle.bundle.specs.Encode.{two, string, joined, counted, sized, element, items, remapping, file, fields, encode}
 use Rattle.bundle.specs.Limits.{depth-limit}
 use Rattle.bundle.specs.Scan.{walkThen, scanItems, times, scanString, scanFormed, scanAlias, scanField, scanCount, scanList, scanUse, scanLength, scanMark, scanHead, scanBody, scanEnd, scanItemWith, siblings, scanModule, scanFile, scanFiles, scanHeader}
@@ -60,6 +60,37 @@ printed-read : read (encode printed) ≡ value printed
 unfolding printed ascii encode fields sized two string counted joined remapping file items element read verdict form lists files scanHeader scanString scanFormed scanCount scanList times scanField scanFiles scanFile scanLength siblings scanItemWith scanModule scanHead scanMark scanBody scanUse scanAlias scanEnd isPath isIdentifier class letter digit all same components split onto wellFormed isComponent conflicts listed located conflict.named remapped sameRemapping placedAt placedRemappingAt each far any member directlyIn startsWith begins isCrate isKeyword keywords decode fileAt itemsAt itemsBy itemAt elementAt remappingAt
 printed-read = refl
 
+-- EVERY FIELD AND EVERY KIND, as bytes and as data
+unfoldable kinds-bytes : List ℕ
+kinds-bytes =
+    -- version and length; the root `/`; a folder `/a`; in `/` the name l for `/a`; a file `/m` with 43 bytes of items
+    (1 ∷ 0 ∷ 63 ∷ []) ++ (1 ∷ 47 ∷ []) ++ (1 ∷ 2 ∷ 47 ∷ 97 ∷ []) ++ (1 ∷ 1 ∷ 47 ∷ 1 ∷ 108 ∷ 2 ∷ 47 ∷ 97 ∷ []) ++ (1 ∷ 2 ∷ 47 ∷ 109 ∷ 0 ∷ 43 ∷ [])
+    -- a type alias T, a public enum E, a module m with a public function f
+    ++ (0 ∷ 4 ∷ 1 ∷ 0 ∷ 1 ∷ 84 ∷ []) ++ (0 ∷ 4 ∷ 4 ∷ 1 ∷ 1 ∷ 69 ∷ []) ++ (0 ∷ 10 ∷ 5 ∷ 0 ∷ 1 ∷ 109 ∷ []) ++ (0 ∷ 4 ∷ 2 ∷ 1 ∷ 1 ∷ 102 ∷ [])
+    -- a public use of a with f and g as h; an ignored item
+    ++ (0 ∷ 13 ∷ 3 ∷ 1 ∷ 1 ∷ 1 ∷ 97 ∷ 2 ∷ 1 ∷ 102 ∷ 0 ∷ 1 ∷ 103 ∷ 1 ∷ 104 ∷ []) ++ (0 ∷ 2 ∷ 6 ∷ 0 ∷ [])
+
+unfoldable kinds : Bundle
+kinds = record {
+  root = ascii "/";
+  folders = ascii "/a" ∷ [];
+  remappings = record { context = ascii "/"; name = ascii "l"; target = ascii "/a" } ∷ [];
+  files =
+      record {
+        path = ascii "/m";
+        items =
+            named 1 23 0 (ascii "T")
+            (named 4 29 1 (ascii "E")
+            (module-of 35 0 (ascii "m") (named 2 41 1 (ascii "f") none)
+            (use-of 47 1 (ascii "a" ∷ []) (record { name = ascii "f"; alias = [] } ∷ record { name = ascii "g"; alias = ascii "h" } ∷ [])
+            (ignored 62 0 none))));
+      } ∷ [];
+}
+
+kinds-read : read kinds-bytes ≡ value kinds
+unfolding kinds kinds-bytes ascii encode fields sized two string counted joined remapping file items element read verdict form lists files scanHeader scanString scanFormed scanCount scanList times scanField scanFiles scanFile scanLength siblings scanItemWith scanModule scanHead scanMark scanBody scanUse scanAlias scanEnd isPath isIdentifier class letter digit all same components split onto wellFormed isComponent conflicts listed located conflict.named remapped sameRemapping placedAt placedRemappingAt each far any member directlyIn startsWith begins isCrate isKeyword keywords decode fileAt itemsAt itemsBy itemAt elementAt remappingAt
+kinds-read = refl
+
 -- BYTES AS THEY STAND
 -- a bundle with the root `/` and one file `/m` that has these item bytes; they start at 13
 unfoldable raw : List ℕ → List ℕ
@@ -90,9 +121,10 @@ bytes-rows =
     ∷ row (raw (0 ∷ 3 ∷ 3 ∷ 0 ∷ 17 ∷ [])) 3 17 ∷ row (raw (0 ∷ 4 ∷ 3 ∷ 0 ∷ 0 ∷ 33 ∷ [])) 3 18
     -- a name's form; an alias's
     ∷ row (raw (0 ∷ 4 ∷ 2 ∷ 0 ∷ 1 ∷ 49 ∷ [])) 5 17 ∷ row (raw (0 ∷ 8 ∷ 3 ∷ 0 ∷ 0 ∷ 1 ∷ 1 ∷ 102 ∷ 1 ∷ 32 ∷ [])) 5 21
-    -- a segment's form, an element's
-    ∷ row (raw (0 ∷ 6 ∷ 3 ∷ 0 ∷ 1 ∷ 1 ∷ 49 ∷ 0 ∷ [])) 5 18 ∷ row (raw (0 ∷ 7 ∷ 3 ∷ 0 ∷ 0 ∷ 1 ∷ 1 ∷ 49 ∷ 0 ∷ [])) 5 19
-    -- a file's item length past the end; bytes left over after the last file
+    -- a segment's form, before the element count; an element's
+    ∷ row (raw (0 ∷ 6 ∷ 3 ∷ 0 ∷ 1 ∷ 1 ∷ 49 ∷ 33 ∷ [])) 5 18 ∷ row (raw (0 ∷ 7 ∷ 3 ∷ 0 ∷ 0 ∷ 1 ∷ 1 ∷ 49 ∷ 0 ∷ [])) 5 19
+    -- a file's path, before its item length; a file's item length past the end; bytes left over after the last file
+    ∷ row (1 ∷ sized (1 ∷ 47 ∷ 0 ∷ 0 ∷ 1 ∷ 1 ∷ 109 ∷ 0 ∷ 9 ∷ [])) 4 8
     ∷ row (1 ∷ sized (1 ∷ 47 ∷ 0 ∷ 0 ∷ 1 ∷ 2 ∷ 47 ∷ 109 ∷ 0 ∷ 1 ∷ [])) 1 11 ∷ row (1 ∷ sized (1 ∷ 47 ∷ 0 ∷ 0 ∷ 1 ∷ 2 ∷ 47 ∷ 109 ∷ 0 ∷ 0 ∷ 9 ∷ [])) 1 13
     -- a folder's length past the end
     ∷ row (1 ∷ sized (1 ∷ 47 ∷ 1 ∷ 5 ∷ 47 ∷ 97 ∷ [])) 1 6

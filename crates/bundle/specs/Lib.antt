@@ -35,4 +35,5 @@ pub mod Complete
 pub mod CompleteItems
 pub mod CompleteBundle
 pub mod RefusalLaws
+pub mod RefusalProofs
 pub mod CaseLaws

@@ -125,6 +125,14 @@ pub data Refusal (s : List ℕ) : ℕ → ℕ → Type 0 where
   -- the root, where all of these are good
   bad-root : {n : ℕ} → BytesInForm s → GoodPaths s → GoodRemappings s → Misplaced s (rootOf s) n → Refusal s n header
 
+-- 7 at p: the first path that is not good stands there, and is listed before
+abbrev pub Twice : List ℕ → ℕ → Type 0
+Twice s p = (i : ℕ) × (FirstPath s i × ListedBefore s i × (pathAt s i .place ≡ p))
+
+-- 8 at p: the first path that is not good stands there, is not listed before, and its parent isn't `/` or a listed folder
+abbrev pub Orphan : List ℕ → ℕ → Type 0
+Orphan s p = (i : ℕ) × (FirstPath s i × (ListedBefore s i → ⊥) × (HasParent s i → ⊥) × (pathAt s i .place ≡ p))
+
 -- NONE OF THESE
 pub record Faultless (s : List ℕ) : Type 0 where
   pub formed : BytesInForm s
