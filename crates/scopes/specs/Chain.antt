@@ -73,7 +73,7 @@ module _ (l : List Entry) (sd : Sound l) where
 known-more : {l : List Entry} {i : ℕ} {h : Head} (ys : List Entry) → Known l i h → Known (l ++ ys) i h
 known-more ys k = record { entry = k .entry; has = has-more ys (k .has); shows = k .shows }
 
-in-end : {t : ℕ} {h : Head} (c : Scope) → c ≡ end → In t h c → ⊥
+pub in-end : {t : ℕ} {h : Head} (c : Scope) → c ≡ end → In t h c → ⊥
 in-end c q here = let z : _≡_ {A = ℕ} 0 1 = cc in omega arith
 in-end c q (inside m) = let z : _≡_ {A = ℕ} 0 1 = cc in omega arith
 in-end c q (later m) = let z : _≡_ {A = ℕ} 0 1 = cc in omega arith
@@ -148,6 +148,14 @@ chains cs i j h m u =
     let sd = alike cs .sound in
     subst (λ (T : Scope). In i h T → (g : Head) × (g .kind ≡ h .kind) × (g .mark ≡ h .mark) × Chain T j g) (same-tree cs)
     (λ m'. chain-of l sd i j h (known (suc (length l)) l (omega arith) (sd .times) i h 0 m') u) m
+
+-- a public entry of the tree has its chain
+pub chain-from : (cs : List Call) (i : ℕ) (h : Head) → In i h (tree-of (registered cs .0)) → h .vis ≡ true → Chain (tree-of (registered cs .0)) i h
+chain-from cs i h m v =
+    let l = flattened cs .0 .entries in
+    let sd = alike cs .sound in
+    subst (λ (T : Scope). In i h T → Chain T i h) (same-tree cs)
+    (λ m'. chain l sd (suc i) i h (omega arith) (known (suc (length l)) l (omega arith) (sd .times) i h 0 m') v) m
 
 -- a number is one entry's, wherever the tree shows it
 has-same : {l : List Entry} {i : ℕ} {e e' : Entry} → Has l i e → Has l i e' → e ≡ e'

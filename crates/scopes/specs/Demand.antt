@@ -1,13 +1,16 @@
 -- Demand 3 as one statement. Assumes nothing.
 use Prim.Native.Nat.{ℕ}
-use mathlib.Core.Path.{_≡_, sym, subst}
+use mathlib.Core.Path.{_≡_, sym, subst, _∙_}
+use mathlib.Core.Bool.{true}
 use mathlib.Core.List.{List}
 use Rattle.scopes.specs.Step.{Head, used, Call, Answer}
-use Rattle.scopes.specs.Register.{Scope, registered, tree-of}
+use Rattle.scopes.specs.Register.{Scope, Register, registered, tree-of}
 use Rattle.scopes.specs.Flat.{Flat, flattened, write}
 use Rattle.scopes.specs.Same.{same-answers, same-tree}
-use Rattle.scopes.specs.Chain.{In, Chain, chains, one-entry}
+use Rattle.scopes.specs.Chain.{In, Chain, chains, chain-from, one-entry}
 use Rattle.scopes.specs.Note.{register-of, written}
+use Rattle.scopes.specs.Named.{Added}
+use Rattle.scopes.specs.Imports.{Use, Imported, was, became, module-of, imported}
 use Rattle.scopes.specs.Once.{Once, once}
 
 -- f, the answers as′: what the calls cs left of the empty flat tree, and told
@@ -22,6 +25,10 @@ pub record Demand (cs : List Call) (f : Flat) (as′ : List Answer) : Type 0 whe
   -- what a use imported has its chain
   pub chain : (i j : ℕ) (h : Head) → In i h (write (f .entries) 0) → h .came ≡ used j
       → (g : Head) × (g .kind ≡ h .kind) × (g .mark ≡ h .mark) × Chain (write (f .entries) 0) j g
+  -- "from the one its element names": whatever an accepted use of the list added, at its place, is a public entry that an element of it
+  -- names in the module of its path, under the local name, with its mark and the use's visibility; the tree holds it, and a chain starts
+  -- at the entry named
+  pub imports : (u : Use cs as′) → Added (Imported (write (f .entries) 0) (module-of u) (u .visible) (u .elems)) (was u) (became u)
 
 pub demand : (cs : List Call) → Demand cs (flattened cs .0) (flattened cs .1)
 demand cs =
@@ -33,4 +40,9 @@ demand cs =
       names = subst Once e (once cs);
       chain = λ i j h a u.
           subst (λ (T : Scope). (g : Head) × (g .kind ≡ h .kind) × (g .mark ≡ h .mark) × Chain T j g) e (chains cs i j h (subst (In i h) (same-tree cs) a) u);
+      imports = λ u.
+          let as′ = flattened cs .1 in
+          let w : tree-of (register-of cs as′) ≡ write (flattened cs .0 .entries) 0 = sym (written cs) in
+          subst (λ (T : Scope). Added (Imported T (module-of u) (u .visible) (u .elems)) (was u) (became u)) w
+          (imported u (subst (λ (T : Scope). (i : ℕ) (h : Head) → In i h T → h .vis ≡ true → Chain T i h) (e ∙ written cs) (chain-from cs)));
     }

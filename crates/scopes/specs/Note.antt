@@ -62,7 +62,7 @@ module _ {X C : Type 0} (M : Model X C) where
   notes x (c ∷ cs) (a ∷ as′) = notes (note x c (accepted a)) cs as′
 
   -- STEP IS THAT
-  nav-along : (sh ind : ℕ) (p : List Name) (c d : C) → nav M sh ind p c ≡ done d → d ≡ along p c
+  pub nav-along : (sh ind : ℕ) (p : List Name) (c d : C) → nav M sh ind p c ≡ done d → d ≡ along p c
   unfolding nav along
   nav-along sh ind [] c d e = cc
   nav-along sh ind (n ∷ p) c d e = go (M .find c 3 n) refl e (λ c'. nav-along sh (suc ind) p c' d)
@@ -91,7 +91,7 @@ module _ {X C : Type 0} (M : Model X C) where
       go true q = cc
       go false q = let z : _≡_ {A = ℕ} 0 1 = cc in absurd (omega arith)
 
-  element-bring : (c : C) (v : Bool) (e : Elem) (x x' : X) → element M c v e x ≡ done x'
+  pub element-bring : (c : C) (v : Bool) (e : Elem) (x x' : X) → element M c v e x ≡ done x'
       → x' ≡ bring v (e .local) (M .find c 3 (e .name)) (bring v (e .local) (M .find c 2 (e .name)) (bring v (e .local) (M .find c 1 (e .name)) x))
   unfolding element
   element-bring c v e x x' q =
@@ -104,7 +104,7 @@ module _ {X C : Type 0} (M : Model X C) where
       sym (judge-done (import M v l x f₁) (import M v l x₁ f₂) (import M v l x₂ f₃) _ x' q)
       ∙ bring-after v l f₃ x₂ ∙ ap (bring v l f₃) (bring-after v l f₂ x₁ ∙ ap (bring v l f₂) (bring-after v l f₁ x))
 
-  stage-bring : (c : C) (v : Bool) (es : List Elem) (x x' : X) → stage M c v es x ≡ done x' → x' ≡ bring-all c v es x
+  pub stage-bring : (c : C) (v : Bool) (es : List Elem) (x x' : X) → stage M c v es x ≡ done x' → x' ≡ bring-all c v es x
   unfolding stage bring-all
   stage-bring c v [] x x' q = cc
   stage-bring c v (e ∷ es) x x' q = go (element M c v e x) refl q (λ x₁. stage-bring c v es x₁ x')
@@ -113,7 +113,7 @@ module _ {X C : Type 0} (M : Model X C) where
       go (fail n) p q k = let z : _≡_ {A = ℕ} 0 1 = cc in absurd (omega arith)
       go (done x₁) p q k = rw (← element-bring c v e x x₁ p) (k x₁ q)
 
-  use-bring : (x x' : X) (led : Bool) (p : List Name) (v : Bool) (es : List Elem) → use-of M x led p v es ≡ done x' → x' ≡ bring-all (along p (M .root x)) v es x
+  pub use-bring : (x x' : X) (led : Bool) (p : List Name) (v : Bool) (es : List Elem) → use-of M x led p v es ≡ done x' → x' ≡ bring-all (along p (M .root x)) v es x
   use-bring x x' false p v es q = let z : _≡_ {A = ℕ} 0 1 = cc in absurd (omega arith)
   use-bring x x' true p v es q = go (nav M (shared (M .names x) p) 0 p (M .root x)) refl q
     where
@@ -133,7 +133,7 @@ module _ {X C : Type 0} (M : Model X C) where
       go true = refl
       go false = h y refl
 
-  fresh-done : (x y x' : X) (k : ℕ) (n : Name) (num : ℕ) → fresh M x k n num y ≡ done x' → x' ≡ y
+  pub fresh-done : (x y x' : X) (k : ℕ) (n : Name) (num : ℕ) → fresh M x k n num y ≡ done x' → x' ≡ y
   fresh-done x y x' k n num q = go (held M x k n) q
     where
       go : (b : Bool) → cond b (fail num) (done y) ≡ done x' → x' ≡ y
@@ -171,7 +171,7 @@ module _ {X C : Type 0} (M : Model X C) where
   run-notes (c ∷ cs) x = run-notes cs (step M x c .0) ∙ ap (λ (y : X). notes y cs (run M (step M x c .0) cs .1)) (step-note x c)
 
 -- THE THEOREM in 01's words: the flat list, written out, is the register that took the calls and the flat list's own answers
-pub register-of : List Call → List Answer → Register
+unfoldable pub register-of : List Call → List Answer → Register
 register-of cs as′ = notes register first-register cs as′
 
 pub written : (cs : List Call) → write (flattened cs .0 .entries) 0 ≡ tree-of (register-of cs (flattened cs .1))
