@@ -13,4 +13,5 @@ pub mod Meaning
 pub mod Readings
 pub mod Turns
 pub mod Known
+pub mod Complete
 pub mod Cases
