@@ -16,7 +16,7 @@ use Rattle.resolution.specs.Layouts.{listsAt, Small}
 use Rattle.resolution.specs.Call.{position}
 use Rattle.resolution.specs.declared.Layout.{Layout}
 use Rattle.discovery.specs.Discovery.{pathsOf}
-use Rattle.discovery.specs.Known.{Sound}
+use Rattle.discovery.specs.Complete.{Known}
 use Rattle.order.specs.Run.{linked, ordered, unitsOf}
 use Rattle.order.specs.Call.{unitFiles}
 use Rattle.assembly.specs.Assemble.{fileOf, localItems, assembled}
@@ -26,8 +26,8 @@ pub record UnitsGiven (s files : List ℕ) (units : ℕ) : Type 0 where
   pub checked : verdict s ≡ Ok
   pub files-are : take units files ≡ unitFiles (decode s)
   pub fits : units ≤ length files
-  -- what stands behind them is right of the uses
-  pub table : Sound (listsOf (decode s)) s files
+  -- behind them stands what every use of a unit resolves to
+  pub known : Known (decode s) files
 
 -- and their linked order
 pub record OrderGiven (s files ids : List ℕ) (units : ℕ) : Type 0 where

@@ -11,7 +11,7 @@ use lib.Seq.{length-take-le, getD-take, drop-cons}
 use borrow.Author.Tests.{eq-eqb, ne-eqb}
 use Rattle.names.specs.Bytes.{same, same-eq, same-differs, different}
 use Rattle.names.specs.Decimal.{unitName}
-use Rattle.bundle.specs.Bundle.{Text, File, Bundle}
+use Rattle.bundle.specs.Bundle.{Text, Items, File, Bundle}
 use Rattle.bundle.specs.Limits.{file-limit, depth-limit, module-kind}
 use Rattle.bundle.specs.Encode.{string, items}
 use Rattle.bundle.specs.Stand.{Bytes}
@@ -28,7 +28,8 @@ use Rattle.discovery.specs.Facts.{mem-member, member-true, member-false, getD-m
 use Rattle.discovery.specs.Right.{discovered}
 use Rattle.discovery.specs.Room.{checked-roomy}
 use Rattle.discovery.specs.Search.{indexIn}
-use Rattle.discovery.specs.Known.{Table, FilesPut, sound-put, files-put}
+use Rattle.discovery.specs.Known.{Row, FilesPut, row-put, files-put}
+use Rattle.discovery.specs.Complete.{Carries}
 use Rattle.discovery.specs.Weight.{reached-file}
 use Rattle.order.specs.Run.{unitsOf}
 use Rattle.order.specs.Call.{unitFiles}
@@ -36,7 +37,7 @@ use Rattle.order.specs.Theorems.{LinkedIds, first-half}
 use Rattle.assembly.specs.Assemble.{fileOf, itemsOf, localItems, assembled}
 use Rattle.assembly.specs.Parts.{headBytes}
 use Rattle.assembly.specs.Paths.{program-formed}
-use Rattle.assembly.specs.Targets.{UnitOf}
+use Rattle.assembly.specs.Targets.{UnitOf, fileUses}
 use Rattle.assembly.specs.Walk.{itemsBytes, item-form, Brief, formed-brief}
 use Rattle.assembly.specs.Given.{Lies, OneUnit, OrderGiven, OrderedFilesGiven, UnitsGiven, programBytes, unitBytes}
 
@@ -112,7 +113,7 @@ module _ (s files : List ℕ) (units : ℕ) (checked : verdict s ≡ Ok) (are : 
       omega (arith, length-map (decode s .files) (λ (f : File). f .path))
 
 -- THE FILES IN FRONT OF A TABLE
-pub known-linked : {s files ids t known : List ℕ} {units : ℕ} → OrderedFilesGiven s files ids units → Table (listsOf (decode s)) s t → FilesPut t files known → OrderGiven s known ids units
+pub known-linked : {s files ids t known : List ℕ} {units : ℕ} → OrderedFilesGiven s files ids units → Carries s t → FilesPut t files known → OrderGiven s known ids units
 known-linked {s} {files} {ids} {t} {known} {units} x y p =
     let u = x .of-units in
     let n = counted-few s files units (u .checked) (u .files-are) (u .fits) in
@@ -120,7 +121,13 @@ known-linked {s} {files} {ids} {t} {known} {units} x y p =
     let w = p .wide in
     let fit : units ≤ length known = omega arith in
     record {
-      of-units = record { checked = u .checked; files-are = files-put t files known p units n (u .fits) fit ∙ u .files-are; fits = fit; table = sound-put t files known p (listsOf (decode s)) s (y .sound) };
+      of-units = record {
+        checked = u .checked;
+        files-are = files-put t files known p units n (u .fits) fit ∙ u .files-are;
+        fits = fit;
+        known = let k = y .known (u .checked) in
+            record { complete = record { long = w ∙ l; rows = λ q m. row-put t files known p _ _ _ _ (k .complete .rows q m) }; rise = k .rise };
+      };
       order = x .order;
       ids-fit = x .ids-fit;
     }
@@ -163,12 +170,16 @@ module _ (s files : List ℕ) (units : ℕ) (x : UnitsGiven s files units) where
         fits = x .fits;
         few = few-units;
         ids = λ p k. index-units p (pathsOf c) (unitsOf c) (member-true p (pathsOf c) k) (unit-listed c) ∙ ap (indexIn (position p (pathsOf c))) (sym (x .files-are));
-        table = x .table;
+        long = x .known .complete .long;
+        place = let p = index-below s files u one in let r = checked-roomy s (x .checked) .files in omega arith;
+        table = subst (λ (p : Text). Row files (getD files u 0) (listsOf c) p (fileUses s p)) (sym e) (subst (λ (k : ℕ). Row files k (listsOf c) (fileOf c u) (fileUses s (fileOf c u))) (sym (one .index)) (x .known .complete .rows (fileOf c u) (getD-mem (unitsOf c) u [] (one .is-unit))));
+        rise = x .known .rise file;
         others = λ p k. no-unit p (unitsOf c) (λ w. member-false k (unit-listed c p w)) ∙ unit-count;
       }
 
-  pub unit-brief : Bytes s → (u : ℕ) → Brief (itemsOf c u)
-  unit-brief B u = formed-brief (itemsOf c u) depth-limit (program-formed (c .files) (fileOf c u) (sound s B c (accepted s (x .checked)) .1 .form .files))
+  pub unit-brief : Bytes s → (u : ℕ) (file : Text) (y : Items) → file ≡ fileOf c u → y ≡ itemsOf c u → Brief (fileUses s file) y
+  unit-brief B u file y e q =
+      rw (e, q) (formed-brief (fileUses s (fileOf c u)) (itemsOf c u) depth-limit (program-formed (c .files) (fileOf c u) (sound s B c (accepted s (x .checked)) .1 .form .files)) (λ v m. m))
 
 -- A UNIT IN THE IMAGE
 -- by the items that the code reads

@@ -4,7 +4,7 @@ use Prim.Native.Nat.{ℕ, suc, _+_, _-_, _≤_, _<_}
 use native.Mathlib.Omega.{arith}
 use mathlib.Core.Bool.{Bool, true, false, cond}
 use mathlib.Core.Path.{_≡_, refl, sym, ap, subst, _∙_}
-use mathlib.Core.List.{List, [], _∷_, _++_}
+use mathlib.Core.List.{List, [], _∷_, _++_, List·Memᴰ}
 use lib.ListN.{length, take, drop, length-append}
 use lib.Seq.{drop-at}
 use Rattle.names.specs.Bytes.{ascii, member}
@@ -19,10 +19,10 @@ use Rattle.resolution.specs.Call.{answer, position}
 use Rattle.resolution.specs.declared.Layout.{Layout}
 use Rattle.resolution.specs.declared.Resolution.{Resolution}
 use Rattle.resolution.specs.declared.Resolution.the-variants.{File, Folder, Refused}
-use Rattle.discovery.specs.Discovery.{pathsOf}
+use Rattle.discovery.specs.Discovery.{Use, uses, programOf, pathsOf}
 use Rattle.discovery.specs.Search.{indexIn, index-small}
 use Rattle.discovery.specs.Walk.{useAt}
-use Rattle.discovery.specs.Known.{Sound, FindsUse, markOf, fileOf, leftOf}
+use Rattle.discovery.specs.Known.{codeOf, fileOf, leftOf, codeIn, fileIn, leftIn, EntryOf, Row, Held, Finds, Rises, held, found as entry-found}
 use Rattle.order.specs.Run.{unitsOf}
 use Rattle.assembly.specs.Assemble.{newPath, rewriteUse}
 use Rattle.assembly.specs.Paths.{LeftOf, left-of}
@@ -38,6 +38,13 @@ abbrev pub Within : List Text → Target → Type 0
 Within segments (Unit id left) = (left ≤ length segments) × (id ≤ file-limit)
 Within segments Nothing = Prim.Unit {0}
 
+-- the uses of a file, and a mark that is one of theirs
+abbrev pub fileUses : List ℕ → Text → List Use
+fileUses s file = uses (programOf (decode s .files) file)
+
+abbrev pub InFile : List ℕ → Text → ℕ → Type 0
+InFile s file mark = List·Memᴰ (useAt s mark) (fileUses s file)
+
 -- what the functions over the items of a unit are handed: where the lists stand, the unit's file and its index, and the files
 -- of all units
 pub record UnitOf (s : List ℕ) (at : Layout) (file : Text) (index : ℕ) (files : List ℕ) (units : ℕ) : Type 0 where
@@ -48,8 +55,11 @@ pub record UnitOf (s : List ℕ) (at : Layout) (file : Text) (index : ℕ) (file
   pub few : units ≤ file-limit
   -- a unit's id is the place of its file among the units' files
   pub ids : (p : Text) → member p (pathsOf (decode s)) ≡ true → position p (unitsOf (decode s)) ≡ indexIn (position p (pathsOf (decode s))) (take units files)
-  -- what is known of the uses
-  pub table : Sound (listsOf (decode s)) s files
+  -- each use of the file has its entry
+  pub long : length files ≡ 1280
+  pub place : index < file-limit
+  pub table : Row files index (listsOf (decode s)) file (fileUses s file)
+  pub rise : Rises (fileUses s file)
   pub others : (p : Text) → member p (pathsOf (decode s)) ≡ false → position p (unitsOf (decode s)) ≡ units
 
 -- the segments that are left are the last ones
@@ -92,34 +102,54 @@ module _ (s : List ℕ) (at : Layout) (file : Text) (index : ℕ) (files : List 
   resolved (to p rest) e = found p rest e (member p (pathsOf b)) refl
   resolved (fails f) e = (ap (newPath (unitsOf b)) e, Prim.tt)
 
-  answered : (r : Resolution) → r ≡ answer (listsAt s at) (resolvePathInternal (listsAt s at) file segments) → Right (targetBy files units r)
-  answered r e =
-      subst (λ (x : Resolution). Right (targetBy files units x))
-      (sym (e ∙ ap (λ (l : Lists). answer l (resolvePathInternal l file segments)) (u .lists)))
-      (resolved (resolvePathInternal (listsOf b) file segments) refl)
-
   -- there is a target
   pub some-target : (t : Target) × Right t
   some-target = (targetBy files units (answer (listsOf b) (resolvePathInternal (listsOf b) file segments)), resolved (resolvePathInternal (listsOf b) file segments) refl)
 
-  pub to-file : (r : Resolution) (f left id : ℕ) → r ≡ answer (listsAt s at) (resolvePathInternal (listsAt s at) file segments) → r ≡ File f left → id ≡ indexIn f (take units files) → Right (Unit id left)
-  to-file r f left id e k h = subst (λ (n : ℕ). Right (Unit n left)) (sym h) (subst (λ (x : Resolution). Right (targetBy files units x)) k (answered r e))
+  -- by the parts of an entry
+  told-file : (r : Resolution) (k f left : ℕ) → Right (targetBy files units r) → k ≡ codeIn r → f ≡ fileIn r → left ≡ leftIn r → k ≡ 1 → Right (Unit (indexIn f (take units files)) left)
+  told-file (File g n) k f left x ek ef el e = rw (ef, el) x
+  told-file (Folder g n) k f left x ek ef el e = absurd (omega arith)
+  told-file (Refused n p) k f left x ek ef el e = absurd (omega arith)
 
-  pub to-folder : (r : Resolution) (f left : ℕ) → r ≡ answer (listsAt s at) (resolvePathInternal (listsAt s at) file segments) → r ≡ Folder f left → Right (Unit units left)
-  to-folder r f left e k = subst (λ (x : Resolution). Right (targetBy files units x)) k (answered r e)
+  told-folder : (r : Resolution) (k left : ℕ) → Right (targetBy files units r) → k ≡ codeIn r → left ≡ leftIn r → k ≡ 2 → Right (Unit units left)
+  told-folder (File g n) k left x ek el e = absurd (omega arith)
+  told-folder (Folder g n) k left x ek el e = rw el x
+  told-folder (Refused n p) k left x ek el e = absurd (omega arith)
 
-  pub to-nothing : (r : Resolution) (n p : ℕ) → r ≡ answer (listsAt s at) (resolvePathInternal (listsAt s at) file segments) → r ≡ Refused n p → Right Nothing
-  to-nothing r n p e k = subst (λ (x : Resolution). Right (targetBy files units x)) k (answered r e)
+  told-nothing : (r : Resolution) (k : ℕ) → Right (targetBy files units r) → k ≡ codeIn r → (k ≡ 1 → ⊥) → (k ≡ 2 → ⊥) → Right Nothing
+  told-nothing (File g n) k x ek a c = absurd (a ek)
+  told-nothing (Folder g n) k x ek a c = absurd (c ek)
+  told-nothing (Refused n p) k x ek a c = x
 
--- a use that was found in the table
-module _ (s : List ℕ) (at : Layout) (file : Text) (index : ℕ) (files : List ℕ) (units : ℕ) (u : UnitOf s at file index files units) (mark : ℕ) where
-  pub to-known : (i id : ℕ) → FindsUse files index mark i → i < 256 → id ≡ indexIn (fileOf files i) (take units files)
-      → (rewriteUse (decode s) file (useAt s mark .segments) ≡ pathBy (useAt s mark .segments) (Unit id (leftOf files i))) × Within (useAt s mark .segments) (Unit id (leftOf files i))
-  to-known i id w lt h =
-      let k = w .found lt in
-      let imp : Importer (listsOf (decode s)) file index = subst (λ (l : Lists). Importer l file index) (u .lists) (u .importer) in
-      let says = u .table .says (k .0) i file index lt imp (k .1 .1) in
-      let q : answer (listsAt s at) (resolvePathInternal (listsAt s at) file (useAt s mark .segments)) ≡ File (fileOf files i) (leftOf files i) =
-      ap (λ (l : Lists). answer l (resolvePathInternal l file (useAt s mark .segments))) (u .lists)
-      ∙ (ap (λ (m : ℕ). answer (listsOf (decode s)) (resolvePathInternal (listsOf (decode s)) file (useAt s m .segments))) (sym (k .1 .0)) ∙ says) in
-      to-file s at file index files units u (useAt s mark .segments) (answer (listsAt s at) (resolvePathInternal (listsAt s at) file (useAt s mark .segments))) (fileOf files i) (leftOf files i) id refl q h
+-- THE ENTRY OF A USE of the file: it is there, and says the target
+module _ (s : List ℕ) (at : Layout) (file : Text) (index : ℕ) (files : List ℕ) (units : ℕ) (u : UnitOf s at file index files units) (mark : ℕ) (m : InFile s file mark) where
+  pub is-held : Held files index mark
+  is-held = held (u .long) (u .place) (u .table) (u .rise) (useAt s mark) m
+
+  abbrev its-answer : Resolution
+  its-answer = answer (listsOf (decode s)) (resolvePathInternal (listsOf (decode s)) file (useAt s mark .segments))
+
+  abbrev Tells : Target → Type 0
+  Tells t = (rewriteUse (decode s) file (useAt s mark .segments) ≡ pathBy (useAt s mark .segments) t) × Within (useAt s mark .segments) t
+
+  module _ (i : ℕ) (w : Finds files index mark i) where
+    pub entry-small : i < 256
+    entry-small = let f = u .table .fits in omega (arith, w .to)
+
+    entry : EntryOf (listsOf (decode s)) file files i (useAt s mark)
+    entry = entry-found (u .long) (u .place) (u .table) (u .rise) (useAt s mark) m i w
+
+    right : Right s at file index files units u (useAt s mark .segments) (targetBy files units its-answer)
+    right = resolved s at file index files units u (useAt s mark .segments) (resolvePathInternal (listsOf (decode s)) file (useAt s mark .segments)) refl
+
+    pub to-file : (id : ℕ) → codeOf files i ≡ 1 → id ≡ indexIn (fileOf files i) (take units files) → Tells (Unit id (leftOf files i))
+    to-file id k h =
+        subst (λ (n : ℕ). Tells (Unit n (leftOf files i))) (sym h)
+        (told-file s at file index files units u (useAt s mark .segments) its-answer (codeOf files i) (fileOf files i) (leftOf files i) right (entry .code) (entry .file) (entry .left) k)
+
+    pub to-folder : codeOf files i ≡ 2 → Tells (Unit units (leftOf files i))
+    to-folder k = told-folder s at file index files units u (useAt s mark .segments) its-answer (codeOf files i) (leftOf files i) right (entry .code) (entry .left) k
+
+    pub to-nothing : (codeOf files i ≡ 1 → ⊥) → (codeOf files i ≡ 2 → ⊥) → Tells Nothing
+    to-nothing a c = told-nothing s at file index files units u (useAt s mark .segments) its-answer (codeOf files i) right (entry .code) a c

@@ -5,7 +5,7 @@ use Prim.Native.Nat.{ℕ, zero, suc, _+_, _-_, _≤_, _<_}
 use native.Mathlib.Omega.{arith}
 use mathlib.Core.Bool.{Bool, true, false, cond, _&&_, _||_}
 use mathlib.Core.Path.{_≡_, refl, sym, ap, subst, _∙_}
-use mathlib.Core.List.{List, [], _∷_, _++_, append-nil}
+use mathlib.Core.List.{List, [], _∷_, _++_, append-nil, List·Memᴰ, List·Memᴰ·head, List·Memᴰ·tail, Memᴰ·append-left, Memᴰ·append-right}
 use lib.Dec.{eqb}
 use lib.ListN.{length, length-append}
 use borrow.Author.Tests.{eq-eqb, ne-eqb, eqb-true, eqb-false}
@@ -18,6 +18,8 @@ use Rattle.bundle.specs.Scan.{byte, text}
 use Rattle.bundle.specs.Decode.{each, after, afterElement, afterLength, afterList, elementAt, itemAt, itemsAt, decode}
 use Rattle.bundle.specs.Decode as decoded
 use Rattle.bundle.specs.Access.{insideOf, items-end, items-step, item-module, item-use, item-ignored, item-named, by-kind, kindOf, restOf, innerOf, visibilityOf, nameOf, segmentsOf, elementsOf, first-kind, first-rest, first-inner, first-visibility, first-name, first-segments, first-elements}
+use Rattle.discovery.specs.Discovery.{Use, uses}
+use Rattle.discovery.specs.Walk.{useAt}
 use Rattle.assembly.specs.Assemble.{rewriteUse, rewriteItems, function-kind, enum-kind, enumDeclarations, hasMain}
 use Rattle.assembly.specs.Parts.{headBytes}
 
@@ -222,55 +224,65 @@ module _ (s : List ℕ) (at k : ℕ) (kind : (d e : ℕ) → at < e → k ≡ ki
         (λ q. absurd (n5 (sym kind-byte ∙ q))) (λ q. refl) (λ q. refl)
         (λ a b c. rw (ne-eqb (byte s (at + 2)) enum-kind (λ q. n4 (sym kind-byte ∙ q))))
 
--- NO USE HAS MORE SEGMENTS than a bundle may have, so that a count in the image is a byte
-unfoldable pub Brief : Items → Type 0
-Brief none = Unit {0}
-Brief (named k m v name rest) = Brief rest
-Brief (use-of m v segments elements rest) = (length segments ≤ segment-limit) × Brief rest
-Brief (module-of m v name inner rest) = Brief inner × Brief rest
-Brief (ignored m v rest) = Brief rest
+-- NO USE HAS MORE SEGMENTS than a bundle may have, so that a count in the image is a byte; and each is one of the given uses
+unfoldable pub Brief : List Use → Items → Type 0
+Brief us none = Unit {0}
+Brief us (named k m v name rest) = Brief us rest
+Brief us (use-of m v segments elements rest) = ((length segments ≤ segment-limit) × List·Memᴰ (record { mark = m; segments = segments }) us) × Brief us rest
+Brief us (module-of m v name inner rest) = Brief us inner × Brief us rest
+Brief us (ignored m v rest) = Brief us rest
 
-pub formed-brief : (x : Items) (d : ℕ) → Formed x d → Brief x
-unfolding Formed Brief
-formed-brief none d f = tt
-formed-brief (named k m v name rest) d f = formed-brief rest d (f .1 .1 .1)
-formed-brief (use-of m v segments elements rest) d f = (f .1 .0 .0, formed-brief rest d (f .1 .1 .1))
-formed-brief (module-of m v name inner rest) d f = (formed-brief inner (d - 1) (f .1 .1 .0 .1), formed-brief rest d (f .1 .1 .1))
-formed-brief (ignored m v rest) d f = formed-brief rest d (f .1)
+pub formed-brief : (us : List Use) (x : Items) (d : ℕ) → Formed x d → ((u : Use) → List·Memᴰ u (uses x) → List·Memᴰ u us) → Brief us x
+unfolding Formed Brief uses
+formed-brief us none d f h = tt
+formed-brief us (named k m v name rest) d f h = formed-brief us rest d (f .1 .1 .1) h
+formed-brief us (use-of m v segments elements rest) d f h = ((f .1 .0 .0, h (record { mark = m; segments = segments }) (List·Memᴰ·head refl)), formed-brief us rest d (f .1 .1 .1) (λ u w. h u (List·Memᴰ·tail w)))
+formed-brief us (module-of m v name inner rest) d f h = (
+  formed-brief us inner (d - 1) (f .1 .1 .0 .1) (λ u w. h u (Memᴰ·append-left (uses rest) w)),
+  formed-brief us rest d (f .1 .1 .1) (λ u w. h u (Memᴰ·append-right (uses inner) w)),
+)
+formed-brief us (ignored m v rest) d f h = formed-brief us rest d (f .1) h
 
-brief-item : (inside : ℕ → ℕ → Items) (s : List ℕ) (at : ℕ) (rest : Items) → Brief (itemAt inside s at rest) → Brief (itemAt inside s at none) × Brief rest
+brief-item : (us : List Use) (inside : ℕ → ℕ → Items) (s : List ℕ) (at : ℕ) (rest : Items) → Brief us (itemAt inside s at rest) → Brief us (itemAt inside s at none) × Brief us rest
 unfolding Brief
-brief-item inside s at rest =
-    by-kind inside s at rest (λ i. Brief i → Brief (itemAt inside s at none) × Brief rest)
+brief-item us inside s at rest =
+    by-kind inside s at rest (λ i. Brief us i → Brief us (itemAt inside s at none) × Brief us rest)
     (λ k f. (rw (item-module inside s at none k) (f .0, tt), f .1))
     (λ k f. (rw (item-use inside s at none (λ (e : byte s (at + 2) ≡ module-kind). omega arith) k) (f .0, tt), f .1))
     (λ k f. (rw (item-ignored inside s at none (λ (e : byte s (at + 2) ≡ module-kind). omega arith) (λ (e : byte s (at + 2) ≡ use-kind). omega arith) k) tt, f))
     (λ n m l f. (rw (item-named inside s at none n m l) tt, f))
 
-pub brief-next : (s : List ℕ) (depth end at next : ℕ) → at < end → ((d e : ℕ) → at < e → itemsAt d s e next ≡ restOf (itemsAt d s e at))
-    → Brief (itemsAt depth s end at) → Brief (oneAt depth s at) × Brief (itemsAt depth s end next)
-brief-next s depth end at next h f b =
-    let t = brief-item (insideOf depth s) s at (itemsAt depth s end (afterLength s at)) (subst Brief (items-step depth s end at h) b) in
-    (t .0, subst Brief (sym (next-is s depth end at next h f)) (t .1))
+pub brief-next : (us : List Use) (s : List ℕ) (depth end at next : ℕ) → at < end → ((d e : ℕ) → at < e → itemsAt d s e next ≡ restOf (itemsAt d s e at))
+    → Brief us (itemsAt depth s end at) → Brief us (oneAt depth s at) × Brief us (itemsAt depth s end next)
+brief-next us s depth end at next h f b =
+    let t = brief-item us (insideOf depth s) s at (itemsAt depth s end (afterLength s at)) (subst (Brief us) (items-step depth s end at h) b) in
+    (t .0, subst (Brief us) (sym (next-is s depth end at next h f)) (t .1))
 
-pub brief-here : (s : List ℕ) (depth end at : ℕ) → at < end → Brief (itemsAt depth s end at) → Brief (oneAt depth s at)
-brief-here s depth end at h b = brief-item (insideOf depth s) s at (itemsAt depth s end (afterLength s at)) (subst Brief (items-step depth s end at h) b) .0
+pub brief-here : (us : List Use) (s : List ℕ) (depth end at : ℕ) → at < end → Brief us (itemsAt depth s end at) → Brief us (oneAt depth s at)
+brief-here us s depth end at h b = brief-item us (insideOf depth s) s at (itemsAt depth s end (afterLength s at)) (subst (Brief us) (items-step depth s end at h) b) .0
 
-module _ (s : List ℕ) (at k : ℕ) (kind : (d e : ℕ) → at < e → k ≡ kindOf (itemsAt d s e at)) (depth : ℕ) (b : Brief (oneAt depth s at)) where
+module _ (us : List Use) (s : List ℕ) (at k : ℕ) (kind : (d e : ℕ) → at < e → k ≡ kindOf (itemsAt d s e at)) (depth : ℕ) (b : Brief us (oneAt depth s at)) where
   pub brief-use : k ≡ use-kind → length (segmentsAt s at) ≤ segment-limit
   unfolding Brief
   brief-use e =
       let q : byte s (at + 2) ≡ use-kind = kind-byte s at k kind ∙ e in
       let i = item-use (insideOf depth s) s at none (λ (x : byte s (at + 2) ≡ module-kind). omega arith) q in
-      subst Brief i b .0
+      subst (Brief us) i b .0 .0
+
+  pub brief-known : k ≡ use-kind → List·Memᴰ (useAt s at) us
+  unfolding Brief
+  brief-known e =
+      let q : byte s (at + 2) ≡ use-kind = kind-byte s at k kind ∙ e in
+      let i = item-use (insideOf depth s) s at none (λ (x : byte s (at + 2) ≡ module-kind). omega arith) q in
+      subst (Brief us) i b .0 .1
 
   pub brief-inside : (end' at' : ℕ) → k ≡ module-kind → (depth ≡ 0 → ⊥)
       → ((d e : ℕ) → at < e → kindOf (itemsAt (suc d) s e at) ≡ module-kind → itemsAt d s end' at' ≡ innerOf (itemsAt (suc d) s e at))
-      → Brief (itemsAt (depth - 1) s end' at')
+      → Brief us (itemsAt (depth - 1) s end' at')
   unfolding Brief
   brief-inside end' at' e z inner =
       let q : byte s (at + 2) ≡ module-kind = kind-byte s at k kind ∙ e in
-      subst Brief (inside-is s at k kind depth end' at' e z inner) (subst Brief (item-module (insideOf depth s) s at none q) b .0)
+      subst (Brief us) (inside-is s at k kind depth end' at' e z inner) (subst (Brief us) (item-module (insideOf depth s) s at none q) b .0)
 
 -- A USE AS THE CODE READS IT
 module _ (s : List ℕ) (at : ℕ) (use-there : byte s (at + 2) ≡ use-kind) where

@@ -4,11 +4,11 @@ ghost use Prim.Native.Nat.{_+_, _<_, _≤_, _^_, min};
 ghost use lib.ListN.{length};
 ghost use Rattle.bundle.specs.Encode.{string, counted, element};
 ghost use Rattle.discovery.specs.Walk.{UseMark, Small};
-ghost use Rattle.bundle.specs.Decode.{decode};
+ghost use Rattle.bundle.specs.Decode.{decode, itemsAt};
 ghost use lib.ListN.{take};
 ghost use Rattle.assembly.specs.Given.{Lies, UnitsGiven, OrderGiven, unitBytes, programBytes};
-ghost use Rattle.assembly.specs.Targets.{UnitOf, pathBy, Within};
-ghost use Rattle.assembly.specs.Walk.{segmentsAt, elementsAt, itemBytes, itemsBytes};
+ghost use Rattle.assembly.specs.Targets.{UnitOf, fileUses, pathBy, Within};
+ghost use Rattle.assembly.specs.Walk.{segmentsAt, elementsAt, oneAt, itemBytes, itemsBytes, Brief};
 use crate::Target;
 use crate::bytes::strings_end;
 use crate::bytes::strings_length;
@@ -76,7 +76,7 @@ fn item_length(
     place: usize,
     depth: usize,
 ) -> usize
-    requires { ⌜ UnitOf (now s) at (now file) index (now files) units × Small place depth ⌝ }
+    requires { ⌜ UnitOf (now s) at (now file) index (now files) units × Small place depth × Brief (fileUses (now s) (now file)) (oneAt depth (now s) place) ⌝ }
     ensures { λ r. ⌜ r ≡ min (length (itemBytes (now (s .entry)) (now (file .entry)) depth place)) 65536 ⌝ }
 {
     let kind = bundle::item_kind(s, place);
@@ -121,7 +121,7 @@ fn items_length(
     end: usize,
     depth: usize,
 ) -> usize
-    requires { ⌜ UnitOf (now s) at (now file) index (now files) units × Small end depth ⌝ }
+    requires { ⌜ UnitOf (now s) at (now file) index (now files) units × Small end depth × Brief (fileUses (now s) (now file)) (itemsAt depth (now s) end from) ⌝ }
     ensures { λ r. ⌜ r ≡ min (length (itemsBytes (now (s .entry)) (now (file .entry)) depth end from)) 65536 ⌝ }
 {
     let mut sum = 0;

@@ -14,7 +14,7 @@ ghost use Rattle.order.specs.Writing.{started};
 ghost use Rattle.assembly.specs.Given.{Lies, UnitsGiven, OrderGiven, unitBytes, programBytes};
 ghost use Rattle.assembly.specs.Parts.{headBytes};
 ghost use Rattle.assembly.specs.Strings.{stringBytes};
-ghost use Rattle.assembly.specs.Targets.{UnitOf, pathBy, Within};
+ghost use Rattle.assembly.specs.Targets.{UnitOf, InFile, fileUses, pathBy, Within};
 ghost use Rattle.assembly.specs.Walk.{segmentsAt, elementsAt, useBytes, oneAt, itemBytes, itemsBytes, Brief};
 use crate::Target;
 use crate::bytes::put;
@@ -112,7 +112,7 @@ pub fn rewrite_use(
     mark: usize,
     out: &mut [u8],
 ) -> usize
-    requires { ⌜ (UnitOf (now s) at (now file) index (now files) units × UseMark (now s) mark) × ((length (segmentsAt (now s) mark) ≤ segment-limit) × (length (useBytes (now s) (now file) mark) ≤ length (now out))) ⌝ }
+    requires { ⌜ (UnitOf (now s) at (now file) index (now files) units × UseMark (now s) mark × InFile (now s) (now file) mark) × ((length (segmentsAt (now s) mark) ≤ segment-limit) × (length (useBytes (now s) (now file) mark) ≤ length (now out))) ⌝ }
     ensures { λ r. ⌜ (r ≡ length (useBytes (now (s .entry)) (now (file .entry)) mark)) × (now (out .exit) ≡ started (useBytes (now (s .entry)) (now (file .entry)) mark) (now (out .entry))) ⌝ }
 {
     let target = target_of(s, at, file, index, files, units, mark);
@@ -141,7 +141,7 @@ fn write_use(
     place: usize,
     out: &mut [u8],
 ) -> usize
-    requires { ⌜ (UnitOf (now s) at (now file) index (now files) units × UseMark (now s) place) × ((length (segmentsAt (now s) place) ≤ segment-limit) × ((4 + length (useBytes (now s) (now file) place) ≤ length (now out)) × (4 + length (useBytes (now s) (now file) place) < 65536))) ⌝ }
+    requires { ⌜ (UnitOf (now s) at (now file) index (now files) units × UseMark (now s) place × InFile (now s) (now file) place) × ((length (segmentsAt (now s) place) ≤ segment-limit) × ((4 + length (useBytes (now s) (now file) place) ≤ length (now out)) × (4 + length (useBytes (now s) (now file) place) < 65536))) ⌝ }
     ensures { λ r. ⌜ (r ≡ 4 + length (useBytes (now (s .entry)) (now (file .entry)) place)) × (now (out .exit) ≡ started (headBytes (2 + length (useBytes (now (s .entry)) (now (file .entry)) place)) use-kind (byte (now (s .entry)) (place + 3)) ++ useBytes (now (s .entry)) (now (file .entry)) place) (now (out .entry))) ⌝ }
 {
     let n = rewrite_use(s, at, file, index, files, units, place, &mut out[4..]);
@@ -161,7 +161,7 @@ fn write_item(
     depth: usize,
     out: &mut [u8],
 ) -> usize
-    requires { ⌜ (UnitOf (now s) at (now file) index (now files) units × Small place depth) × (Brief (oneAt depth (now s) place) × ((length (itemBytes (now s) (now file) depth place) ≤ length (now out)) × (length (itemBytes (now s) (now file) depth place) < 65536))) ⌝ }
+    requires { ⌜ (UnitOf (now s) at (now file) index (now files) units × Small place depth) × (Brief (fileUses (now s) (now file)) (oneAt depth (now s) place) × ((length (itemBytes (now s) (now file) depth place) ≤ length (now out)) × (length (itemBytes (now s) (now file) depth place) < 65536))) ⌝ }
     ensures { λ r. ⌜ (r ≡ length (itemBytes (now (s .entry)) (now (file .entry)) depth place)) × (now (out .exit) ≡ started (itemBytes (now (s .entry)) (now (file .entry)) depth place) (now (out .entry))) ⌝ }
 {
     let kind = bundle::item_kind(s, place);
@@ -211,7 +211,7 @@ fn write_items(
     depth: usize,
     out: &mut [u8],
 ) -> usize
-    requires { ⌜ (UnitOf (now s) at (now file) index (now files) units × Small end depth) × (Brief (itemsAt depth (now s) end from) × ((length (itemsBytes (now s) (now file) depth end from) ≤ length (now out)) × (length (itemsBytes (now s) (now file) depth end from) < 65536))) ⌝ }
+    requires { ⌜ (UnitOf (now s) at (now file) index (now files) units × Small end depth) × (Brief (fileUses (now s) (now file)) (itemsAt depth (now s) end from) × ((length (itemsBytes (now s) (now file) depth end from) ≤ length (now out)) × (length (itemsBytes (now s) (now file) depth end from) < 65536))) ⌝ }
     ensures { λ r. ⌜ (r ≡ length (itemsBytes (now (s .entry)) (now (file .entry)) depth end from)) × (now (out .exit) ≡ started (itemsBytes (now (s .entry)) (now (file .entry)) depth end from) (now (out .entry))) ⌝ }
 {
     let mut sum = 0;

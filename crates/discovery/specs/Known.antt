@@ -1,30 +1,43 @@
--- What is kept of the lookups: entry i of the table in the places from 256 on. Assumes nothing.
-use Prim.Native.Nat.{ℕ, _+_, _≤_, _<_}
+-- What is kept of the lookups, in a lent array: for a file by its index where its entries begin and end, and the entries, one for each
+-- use. Assumes nothing.
+use Prim.Native.Nat.{ℕ, zero, suc, _+_, _-_, _≤_, _<_}
 use native.Mathlib.Omega.{arith}
 use mathlib.Core.Bool.{Bool, true, false}
 use lib.Dec.{eqb}
 use borrow.Author.Tests.{eqb-true, eqb-false}
-use mathlib.Core.Logic.{_⊎_, inl, inr, ⊎-elim}
 use mathlib.Core.Path.{_≡_, refl, sym, ap, subst, _∙_}
-use mathlib.Core.List.{List, []}
-use lib.ListN.{length, getD, set, take, replicate, getD-replicate, length-set, length-replicate}
+use mathlib.Core.List.{List, [], _∷_, _++_, map, map-append, List·Memᴰ}
+use lib.ListN.{length, getD, set, take, length-set, length-map, List·getD-map}
 use lib.Seq.{getD-set-same, getD-set-other, getD-take, length-take-le, ext-getD}
-use Rattle.bundle.specs.Bundle.{Text}
+use Rattle.names.specs.Bytes.{same}
+use Rattle.bundle.specs.Bundle.{Text, Items, none, named, use-of, module-of, ignored, File, Bundle}
+use Rattle.bundle.specs.Form.{WellFormed, firstFile}
+use Rattle.bundle.specs.Marks.{marksOf, fileMarks, Rising, rising-less, files-rising}
+use Rattle.bundle.specs.Encode.{encode}
 use Rattle.resolution.specs.Lists.{Lists}
-use Rattle.resolution.specs.Layouts.{Importer}
-use Rattle.resolution.specs.Call.{answer, position}
+use Rattle.resolution.specs.Call.{answer}
 use Rattle.resolution.specs.Resolution.{resolvePathInternal}
 use Rattle.resolution.specs.declared.Resolution.{Resolution}
-use Rattle.resolution.specs.declared.Resolution.the-variants.{File, Folder, Refused}
-use Rattle.discovery.specs.Walk.{useAt}
-use Rattle.discovery.specs.Facts.{member-true, id-found}
+use Rattle.resolution.specs.declared.Resolution.the-variants as resolution
+use Rattle.discovery.specs.Discovery.{Use, uses, programOf}
+use Rattle.discovery.specs.Facts.{cond-elim, mem-getD, getD-any}
 
--- the parts of entry i: its mark, the index of its file and 1, the file that it resolved to, and the segments left
+-- where the entries of the file of an index begin and end, and where the next ones begin
+abbrev pub fromOf : List ℕ → ℕ → ℕ
+fromOf t index = getD t (64 + index) 0
+
+abbrev pub toOf : List ℕ → ℕ → ℕ
+toOf t index = getD t (128 + index) 0
+
+abbrev pub nextOf : List ℕ → ℕ
+nextOf t = getD t 192 0
+
+-- the parts of entry i: the mark of the use; whether it resolved to a file, a folder or nothing; the index of that; the segments left
 abbrev pub markOf : List ℕ → ℕ → ℕ
 markOf t i = getD t (256 + i) 0
 
-abbrev pub ownerOf : List ℕ → ℕ → ℕ
-ownerOf t i = getD t (512 + i) 0
+abbrev pub codeOf : List ℕ → ℕ → ℕ
+codeOf t i = getD t (512 + i) 0
 
 abbrev pub fileOf : List ℕ → ℕ → ℕ
 fileOf t i = getD t (768 + i) 0
@@ -32,144 +45,345 @@ fileOf t i = getD t (768 + i) 0
 abbrev pub leftOf : List ℕ → ℕ → ℕ
 leftOf t i = getD t (1024 + i) 0
 
--- THE TABLE IS SOUND: every entry of a file says what the use at its mark, in that file, resolves to
-pub record Sound (l : Lists) (s t : List ℕ) : Type 0 where
-  pub says : length t ≡ 1280 → (i : ℕ) (file : Text) (index : ℕ) → i < 256 → Importer l file index → ownerOf t i ≡ index + 1
-      → answer l (resolvePathInternal l file (useAt s (markOf t i) .segments)) ≡ File (fileOf t i) (leftOf t i)
+abbrev pub codeIn : Resolution → ℕ
+codeIn (resolution.File f left) = 1
+codeIn (resolution.Folder f left) = 2
+codeIn (resolution.Refused n p) = 0
+
+abbrev pub fileIn : Resolution → ℕ
+fileIn (resolution.File f left) = f
+fileIn (resolution.Folder f left) = f
+fileIn (resolution.Refused n p) = 0
+
+abbrev pub leftIn : Resolution → ℕ
+leftIn (resolution.File f left) = left
+leftIn (resolution.Folder f left) = left
+leftIn (resolution.Refused n p) = 0
+
+pub record Entry (t : List ℕ) (i m : ℕ) (x : Resolution) : Type 0 where
+  pub mark : markOf t i ≡ m
+  pub code : codeOf t i ≡ codeIn x
+  pub file : fileOf t i ≡ fileIn x
+  pub left : leftOf t i ≡ leftIn x
+
+-- the entry of a use of a file: its mark, and what it resolves to
+abbrev pub EntryOf : Lists → Text → List ℕ → ℕ → Use → Type 0
+EntryOf l file t i u = Entry t i (u .mark) (answer l (resolvePathInternal l file (u .segments)))
+
+abbrev pub noUse : Use
+noUse = record { mark = 0; segments = [] }
+
+-- THE ENTRIES OF A FILE are those of its uses, in their order
+pub record Row (t : List ℕ) (index : ℕ) (l : Lists) (file : Text) (us : List Use) : Type 0 where
+  pub ends : toOf t index ≡ fromOf t index + length us
+  pub fits : toOf t index ≤ 256
+  pub entries : (j : ℕ) → j < length us → EntryOf l file t (fromOf t index + j) (getD us j noUse)
+
+-- ROOM FOR MORE
+abbrev pub begun : List ℕ → ℕ → ℕ → List ℕ
+begun t index n = set (set (set t (64 + index) (nextOf t)) (128 + index) (nextOf t + n)) 192 (nextOf t + n)
+
+module _ (t : List ℕ) (wide : length t ≡ 1280) (index n : ℕ) (small : index < 64) where
+  abbrev b1 : List ℕ
+  b1 = set t (64 + index) (nextOf t)
+
+  abbrev b2 : List ℕ
+  b2 = set b1 (128 + index) (nextOf t + n)
+
+  wide1 : length b1 ≡ 1280
+  wide1 = length-set t (64 + index) (nextOf t) ∙ wide
+
+  wide2 : length b2 ≡ 1280
+  wide2 = length-set b1 (128 + index) (nextOf t + n) ∙ wide1
+
+  pub begun-wide : length (begun t index n) ≡ 1280
+  begun-wide = length-set b2 192 (nextOf t + n) ∙ wide2
+
+  pub begun-from : fromOf (begun t index n) index ≡ nextOf t
+  begun-from =
+      getD-set-other b2 192 (64 + index) (nextOf t + n) 0 (λ e. omega arith)
+      ∙ (getD-set-other b1 (128 + index) (64 + index) (nextOf t + n) 0 (λ e. omega arith) ∙ getD-set-same t (64 + index) (nextOf t) 0 (omega arith))
+
+  pub begun-to : toOf (begun t index n) index ≡ nextOf t + n
+  begun-to = let w = wide1 in getD-set-other b2 192 (128 + index) (nextOf t + n) 0 (λ e. omega arith) ∙ getD-set-same b1 (128 + index) (nextOf t + n) 0 (omega arith)
+
+  pub begun-next : nextOf (begun t index n) ≡ nextOf t + n
+  begun-next = let w = wide2 in getD-set-same b2 192 (nextOf t + n) 0 (omega arith)
+
+  pub begun-other : (j : ℕ) → (j ≡ 64 + index → ⊥) → (j ≡ 128 + index → ⊥) → (j ≡ 192 → ⊥) → getD (begun t index n) j 0 ≡ getD t j 0
+  begun-other j a b c =
+      getD-set-other b2 192 j (nextOf t + n) 0 c ∙ (getD-set-other b1 (128 + index) j (nextOf t + n) 0 b ∙ getD-set-other t (64 + index) j (nextOf t) 0 a)
+
+  pub begun-entry : (i m : ℕ) (x : Resolution) → Entry t i m x → Entry (begun t index n) i m x
+  begun-entry i m x e = record {
+    mark = begun-other (256 + i) (λ q. omega arith) (λ q. omega arith) (λ q. omega arith) ∙ e .mark;
+    code = begun-other (512 + i) (λ q. omega arith) (λ q. omega arith) (λ q. omega arith) ∙ e .code;
+    file = begun-other (768 + i) (λ q. omega arith) (λ q. omega arith) (λ q. omega arith) ∙ e .file;
+    left = begun-other (1024 + i) (λ q. omega arith) (λ q. omega arith) (λ q. omega arith) ∙ e .left;
+  }
 
 -- ONE MORE ENTRY
-abbrev pub SameEntry : List ℕ → List ℕ → ℕ → Type 0
-SameEntry t r i = ((markOf r i ≡ markOf t i) × (ownerOf r i ≡ ownerOf t i)) × ((fileOf r i ≡ fileOf t i) × (leftOf r i ≡ leftOf t i))
-
-abbrev pub NewEntry : List ℕ → ℕ → ℕ → ℕ → Resolution → Type 0
-NewEntry r i index mark found = ((markOf r i ≡ mark) × (ownerOf r i ≡ index + 1)) × (found ≡ File (fileOf r i) (leftOf r i))
-
-pub record Keeps (t r : List ℕ) (index mark : ℕ) (found : Resolution) : Type 0 where
+pub record Keeps (t r : List ℕ) (i m : ℕ) (x : Resolution) : Type 0 where
   pub wide : length r ≡ length t
-  pub entries : (i : ℕ) → i < 256 → SameEntry t r i ⊎ NewEntry r i index mark found
+  pub front : (j : ℕ) → j < 256 → getD r j 0 ≡ getD t j 0
+  pub entry : Entry r i m x
+  pub others : (j : ℕ) → j < 256 → (j ≡ i → ⊥) → (n : ℕ) (y : Resolution) → Entry t j n y → Entry r j n y
 
-pub keeps-none : (t : List ℕ) (index mark : ℕ) (found : Resolution) → Keeps t t index mark found
-keeps-none t index mark found = record { wide = refl; entries = λ i h. inl ((refl, refl), (refl, refl)) }
-
-module _ (t : List ℕ) (wide : length t ≡ 1280) (a b c x y z n index mark f left : ℕ) (found : Resolution) (is : found ≡ File f left) (ha : a < 256) (hb : b < 256) (hc : c < 256) (hn : n < 256) where
-  abbrev front : List ℕ
-  front = set (set (set t a x) b y) c z
-
-  abbrev stored : List ℕ
-  stored = set (set (set (set front (256 + n) mark) (512 + n) (index + 1)) (768 + n) f) (1024 + n) left
-
-  front-wide : length front ≡ 1280
-  front-wide = length-set (set (set t a x) b y) c z ∙ (length-set (set t a x) b y ∙ (length-set t a x ∙ wide))
-
-  front-keeps : (j : ℕ) → 256 ≤ j → getD front j 0 ≡ getD t j 0
-  front-keeps j h =
-      getD-set-other (set (set t a x) b y) c j z 0 (λ e. omega arith) ∙ (getD-set-other (set t a x) b j y 0 (λ e. omega arith) ∙ getD-set-other t a j x 0 (λ e. omega arith))
-
-  -- the four stores behind it
+module _ (t : List ℕ) (wide : length t ≡ 1280) (i m : ℕ) (h : i < 256) (x : Resolution) (k f l : ℕ) (ek : k ≡ codeIn x) (ef : f ≡ fileIn x) (el : l ≡ leftIn x) where
   abbrev s1 : List ℕ
-  s1 = set front (256 + n) mark
+  s1 = set t (256 + i) m
 
   abbrev s2 : List ℕ
-  s2 = set s1 (512 + n) (index + 1)
+  s2 = set s1 (512 + i) k
 
   abbrev s3 : List ℕ
-  s3 = set s2 (768 + n) f
+  s3 = set s2 (768 + i) f
+
+  abbrev s4 : List ℕ
+  s4 = set s3 (1024 + i) l
 
   w1 : length s1 ≡ 1280
-  w1 = length-set front (256 + n) mark ∙ front-wide
+  w1 = length-set t (256 + i) m ∙ wide
 
   w2 : length s2 ≡ 1280
-  w2 = length-set s1 (512 + n) (index + 1) ∙ w1
+  w2 = length-set s1 (512 + i) k ∙ w1
 
   w3 : length s3 ≡ 1280
-  w3 = length-set s2 (768 + n) f ∙ w2
+  w3 = length-set s2 (768 + i) f ∙ w2
 
-  at-mark : (i : ℕ) → i < 256 → markOf stored i ≡ markOf s1 i
-  at-mark i h = getD-set-other s3 (1024 + n) (256 + i) left 0 (λ e. omega arith) ∙ (getD-set-other s2 (768 + n) (256 + i) f 0 (λ e. omega arith) ∙ getD-set-other s1 (512 + n) (256 + i) (index + 1) 0 (λ e. omega arith))
+  elsewhere : (j : ℕ) → (j ≡ 256 + i → ⊥) → (j ≡ 512 + i → ⊥) → (j ≡ 768 + i → ⊥) → (j ≡ 1024 + i → ⊥) → getD s4 j 0 ≡ getD t j 0
+  elsewhere j a b c d =
+      getD-set-other s3 (1024 + i) j l 0 d ∙ (getD-set-other s2 (768 + i) j f 0 c ∙ (getD-set-other s1 (512 + i) j k 0 b ∙ getD-set-other t (256 + i) j m 0 a))
 
-  at-owner : (i : ℕ) → i < 256 → ownerOf stored i ≡ ownerOf s2 i
-  at-owner i h = getD-set-other s3 (1024 + n) (512 + i) left 0 (λ e. omega arith) ∙ getD-set-other s2 (768 + n) (512 + i) f 0 (λ e. omega arith)
+  pub keeps-one : Keeps t s4 i m x
+  keeps-one = record {
+    wide = length-set s3 (1024 + i) l ∙ (w3 ∙ sym wide);
+    front = λ j lt. elsewhere j (λ e. omega arith) (λ e. omega arith) (λ e. omega arith) (λ e. omega arith);
+    entry = record {
+      mark = getD-set-other s3 (1024 + i) (256 + i) l 0 (λ e. omega arith) ∙ (getD-set-other s2 (768 + i) (256 + i) f 0 (λ e. omega arith)
+          ∙ (getD-set-other s1 (512 + i) (256 + i) k 0 (λ e. omega arith) ∙ getD-set-same t (256 + i) m 0 (omega arith)));
+      code = let w = w1 in
+          getD-set-other s3 (1024 + i) (512 + i) l 0 (λ e. omega arith) ∙ (getD-set-other s2 (768 + i) (512 + i) f 0 (λ e. omega arith) ∙ (getD-set-same s1 (512 + i) k 0 (omega arith) ∙ ek));
+      file = let w = w2 in getD-set-other s3 (1024 + i) (768 + i) l 0 (λ e. omega arith) ∙ (getD-set-same s2 (768 + i) f 0 (omega arith) ∙ ef);
+      left = let w = w3 in getD-set-same s3 (1024 + i) l 0 (omega arith) ∙ el;
+    };
+    others = λ j lt d n y e. record {
+      mark = elsewhere (256 + j) (λ q. d (omega arith)) (λ q. omega arith) (λ q. omega arith) (λ q. omega arith) ∙ e .mark;
+      code = elsewhere (512 + j) (λ q. omega arith) (λ q. d (omega arith)) (λ q. omega arith) (λ q. omega arith) ∙ e .code;
+      file = elsewhere (768 + j) (λ q. omega arith) (λ q. omega arith) (λ q. d (omega arith)) (λ q. omega arith) ∙ e .file;
+      left = elsewhere (1024 + j) (λ q. omega arith) (λ q. omega arith) (λ q. omega arith) (λ q. d (omega arith)) ∙ e .left;
+    };
+  }
 
-  at-file : (i : ℕ) → i < 256 → fileOf stored i ≡ fileOf s3 i
-  at-file i h = getD-set-other s3 (1024 + n) (768 + i) left 0 (λ e. omega arith)
+-- THE FIRST n USES of a file, from the entry `first` on
+pub record Fills (l : Lists) (file : Text) (t r : List ℕ) (first : ℕ) (us : List Use) (n : ℕ) : Type 0 where
+  pub wide : length r ≡ length t
+  pub front : (j : ℕ) → j < 256 → getD r j 0 ≡ getD t j 0
+  pub before : (i : ℕ) → i < first → i < 256 → (m : ℕ) (x : Resolution) → Entry t i m x → Entry r i m x
+  pub entries : (j : ℕ) → j < n → EntryOf l file r (first + j) (getD us j noUse)
 
-  pub keeps-one : Keeps t stored index mark found
-  keeps-one = record { wide = length-set s3 (1024 + n) left ∙ (w3 ∙ sym wide); entries = λ i h. go i h (eqb i n) refl }
+module _ (l : Lists) (file : Text) (t : List ℕ) (first : ℕ) (us : List Use) where
+  pub fills-none : Fills l file t t first us 0
+  fills-none = record { wide = refl; front = λ j h. refl; before = λ i h k m x e. e; entries = λ j h. absurd (omega arith) }
+
+  pub fills-one : (r r' : List ℕ) (i : ℕ) (u : Use) (x : Resolution) → first + i < 256 → Fills l file t r first us i → getD us i noUse ≡ u → Keeps r r' (first + i) (u .mark) x
+      → x ≡ answer l (resolvePathInternal l file (u .segments)) → Fills l file t r' first us (i + 1)
+  fills-one r r' i u x lt f is k e =
+      record {
+        wide = k .wide ∙ f .wide;
+        front = λ j h. k .front j h ∙ f .front j h;
+        before = λ j h h' m y q. k .others j h' (λ z. omega arith) m y (f .before j h h' m y q);
+        entries = λ j h. go j h (eqb j i) refl;
+      }
     where
-      go : (i : ℕ) → i < 256 → (b : Bool) → eqb i n ≡ b → SameEntry t stored i ⊎ NewEntry stored i index mark found
-      go i h true q =
-          let e = eqb-true i n q in
-          let k1 = w1 in
-          let k2 = w2 in
-          let k3 = w3 in
-          let k0 = front-wide in
-          let m : markOf stored i ≡ mark = at-mark i h ∙ (ap (λ (j : ℕ). markOf s1 j) e ∙ getD-set-same front (256 + n) mark 0 (omega arith)) in
-          let o : ownerOf stored i ≡ index + 1 = at-owner i h ∙ (ap (λ (j : ℕ). ownerOf s2 j) e ∙ getD-set-same s1 (512 + n) (index + 1) 0 (omega arith)) in
-          let p : fileOf stored i ≡ f = at-file i h ∙ (ap (λ (j : ℕ). fileOf s3 j) e ∙ getD-set-same s2 (768 + n) f 0 (omega arith)) in
-          let u : leftOf stored i ≡ left = ap (λ (j : ℕ). leftOf stored j) e ∙ getD-set-same s3 (1024 + n) left 0 (omega arith) in
-          inr ((m, o), is ∙ sym (ap (λ (j : ℕ). File j (leftOf stored i)) p ∙ ap (File f) u))
-      go i h false q =
-          let d = eqb-false i n q in
-          let x1 : markOf s1 i ≡ markOf front i = getD-set-other front (256 + n) (256 + i) mark 0 (λ e. d (omega arith)) in
-          let x2 : ownerOf s2 i ≡ ownerOf s1 i = getD-set-other s1 (512 + n) (512 + i) (index + 1) 0 (λ e. d (omega arith)) in
-          let y2 : ownerOf s1 i ≡ ownerOf front i = getD-set-other front (256 + n) (512 + i) mark 0 (λ e. omega arith) in
-          let x3 : fileOf s3 i ≡ fileOf s2 i = getD-set-other s2 (768 + n) (768 + i) f 0 (λ e. d (omega arith)) in
-          let y3 : fileOf s2 i ≡ fileOf s1 i = getD-set-other s1 (512 + n) (768 + i) (index + 1) 0 (λ e. omega arith) in
-          let z3 : fileOf s1 i ≡ fileOf front i = getD-set-other front (256 + n) (768 + i) mark 0 (λ e. omega arith) in
-          let x4 : leftOf stored i ≡ leftOf s3 i = getD-set-other s3 (1024 + n) (1024 + i) left 0 (λ e. d (omega arith)) in
-          let y4 : leftOf s3 i ≡ leftOf s2 i = getD-set-other s2 (768 + n) (1024 + i) f 0 (λ e. omega arith) in
-          let z4 : leftOf s2 i ≡ leftOf s1 i = getD-set-other s1 (512 + n) (1024 + i) (index + 1) 0 (λ e. omega arith) in
-          let v4 : leftOf s1 i ≡ leftOf front i = getD-set-other front (256 + n) (1024 + i) mark 0 (λ e. omega arith) in
-          inl ((at-mark i h ∙ (x1 ∙ front-keeps (256 + i) (omega arith)), at-owner i h ∙ (x2 ∙ (y2 ∙ front-keeps (512 + i) (omega arith)))), (at-file i h ∙ (x3 ∙ (y3 ∙ (z3 ∙ front-keeps (768 + i) (omega arith)))), x4 ∙ (y4 ∙ (z4 ∙ (v4 ∙ front-keeps (1024 + i) (omega arith))))))
+      go : (j : ℕ) → j < i + 1 → (b : Bool) → eqb j i ≡ b → EntryOf l file r' (first + j) (getD us j noUse)
+      go j h true q =
+          let z = eqb-true j i q in
+          let y : getD us j noUse ≡ u = ap (λ (n : ℕ). getD us n noUse) z ∙ is in
+          rw (y, z) (subst (λ (w : Resolution). Entry r' (first + i) (u .mark) w) e (k .entry))
+      go j h false q =
+          let d = eqb-false j i q in
+          let lt' : j < i = other j i h d in
+          k .others (first + j) (omega arith) (λ z. d (omega arith)) _ _ (f .entries j lt')
+        where
+          other : (j i : ℕ) → j < i + 1 → (j ≡ i → ⊥) → j < i
+          other j i a b = omega arith
 
--- a file is known by its index
-importer-one : {l : Lists} {f g : Text} {i : ℕ} → Importer l f i → Importer l g i → f ≡ g
-importer-one {l} {f} {g} {i} x y =
-    sym (id-found f (l .files) (member-true f (l .files) (x .listed)) .1)
-    ∙ (ap (λ (k : ℕ). getD (l .files) k []) (sym (x .index) ∙ y .index) ∙ id-found g (l .files) (member-true g (l .files) (y .listed)) .1)
-
-module _ (l : Lists) (s t r : List ℕ) (file : Text) (index mark : ℕ) (found : Resolution) where
-  pub sound-keep : Sound l s t → Importer l file index → found ≡ answer l (resolvePathInternal l file (useAt s mark .segments)) → Keeps t r index mark found → Sound l s r
-  sound-keep x imp e k = record { says = λ w i f j lt q o. go w i f j lt q o (k .entries i lt) }
-    where
-      go : length r ≡ 1280 → (i : ℕ) (f : Text) (j : ℕ) → i < 256 → Importer l f j → ownerOf r i ≡ j + 1 → SameEntry t r i ⊎ NewEntry r i index mark found
-          → answer l (resolvePathInternal l f (useAt s (markOf r i) .segments)) ≡ File (fileOf r i) (leftOf r i)
-      go w i f j lt q o (inl u) =
-          let old = x .says (sym (k .wide) ∙ w) i f j lt q (sym (u .0 .1) ∙ o) in
-          rw (u .0 .0, u .1 .0, u .1 .1) old
-      go w i f j lt q o (inr u) =
-          let d = u .0 .1 in
-          let z : j ≡ index = omega arith in
-          let g : f ≡ file = importer-one q (rw z imp) in
-          rw (g, u .0 .0) (sym e ∙ u .1)
-
--- A TABLE of the full length, lent to be filled
-pub record Table (l : Lists) (s t : List ℕ) : Type 0 where
+-- A SEARCH among the entries of a file, whose marks rise
+pub record Held (t : List ℕ) (index mark : ℕ) : Type 0 where
   pub long : length t ≡ 1280
-  pub sound : Sound l s t
+  pub small : index < 64
+  pub fits : toOf t index ≤ 256
+  pub rising : (i j : ℕ) → fromOf t index ≤ i → i < j → j < toOf t index → markOf t i < markOf t j
+  pub place : ℕ
+  pub from : fromOf t index ≤ place
+  pub to : place < toOf t index
+  pub is : markOf t place ≡ mark
 
-pub table-keep : {l : Lists} {s t r : List ℕ} {file : Text} {index mark : ℕ} {found : Resolution} → Table l s t → Importer l file index
-    → found ≡ answer l (resolvePathInternal l file (useAt s mark .segments)) → Keeps t r index mark found → Table l s r
-table-keep {l} {s} {t} {r} {file} {index} {mark} {found} x i e k = record { long = k .wide ∙ x .long; sound = sound-keep l s t r file index mark found (x .sound) i e k }
+pub record Finds (t : List ℕ) (index mark r : ℕ) : Type 0 where
+  pub from : fromOf t index ≤ r
+  pub to : r < toOf t index
+  pub is : markOf t r ≡ mark
 
--- of lists that are the same
-pub table-of : {l m : Lists} {s t : List ℕ} → l ≡ m → Table l s t → Table m s t
-table-of {l} {m} {s} {t} e x = subst (λ (k : Lists). Table k s t) e x
+-- what is looked for lies from lo on and below hi
+pub record Between (t : List ℕ) (index mark lo hi : ℕ) : Type 0 where
+  pub held : Held t index mark
+  pub from : fromOf t index ≤ lo
+  pub to : hi ≤ toOf t index
+  pub low : lo ≤ held .place
+  pub high : held .place < hi
 
--- at first there is no entry
-pub table-none : (l : Lists) (s : List ℕ) → Table l s (replicate 1280 0)
-table-none l s = record {
-  long = length-replicate {A = ℕ} 1280 0;
-  sound = record { says = λ w i f j lt q o. absurd (omega (arith, getD-replicate {A = ℕ} 1280 (512 + i) 0 0 (omega arith))) };
-}
+module _ {t : List ℕ} {index mark : ℕ} where
+  pub between-all : Held t index mark → Between t index mark (fromOf t index) (toOf t index)
+  between-all h = record { held = h; from = omega arith; to = omega arith; low = h .from; high = h .to }
 
--- A SEARCH
-pub record FindsUse (t : List ℕ) (index mark r : ℕ) : Type 0 where
-  pub bound : r ≤ 256
-  pub found : r < 256 → (length t ≡ 1280) × ((markOf t r ≡ mark) × (ownerOf t r ≡ index + 1))
+  module _ {lo hi : ℕ} (b : Between t index mark lo hi) (mid : ℕ) (l : lo < mid) (g : mid < hi) where
+    pub between-above : markOf t mid ≤ mark → Between t index mark mid hi
+    between-above le = record { held = b .held; from = let f = b .from in omega arith; to = b .to; low = not-less mid (b .held .place) (λ q. absurd (below q)); high = b .high }
+      where
+        below : b .held .place < mid → ⊥
+        below q =
+            let z = b .to in
+            let r = b .held .rising (b .held .place) mid (b .held .from) q (omega arith) in
+            let e = b .held .is in
+            omega arith
 
-pub finds-none : (t : List ℕ) (index mark : ℕ) → FindsUse t index mark 256
-finds-none t index mark = record { bound = omega arith; found = λ h. absurd (omega arith) }
+        not-less : (m n : ℕ) → (n < m → ⊥) → m ≤ n
+        not-less m n f = omega arith
+
+    pub between-below : mark < markOf t mid → Between t index mark lo mid
+    between-below lt = record { held = b .held; from = b .from; to = let z = b .to in omega arith; low = b .low; high = not-less (eqb mid (b .held .place)) refl }
+      where
+        above : mid < b .held .place → ⊥
+        above q =
+            let f = b .from in
+            let r = b .held .rising mid (b .held .place) (omega arith) q (b .held .to) in
+            let e = b .held .is in
+            omega arith
+
+        not-less : (c : Bool) → eqb mid (b .held .place) ≡ c → b .held .place < mid
+        not-less true q =
+            let z = ap (λ (k : ℕ). markOf t k) (eqb-true mid (b .held .place) q) in
+            let y = b .held .is in
+            absurd (omega arith)
+        not-less false q = less mid (b .held .place) (eqb-false mid (b .held .place) q) above
+          where
+            less : (m n : ℕ) → (m ≡ n → ⊥) → (m < n → ⊥) → n < m
+            less m n a f = omega arith
+
+  pub between-one : {lo hi : ℕ} → Between t index mark lo hi → hi ≤ lo + 1 → Finds t index mark lo
+  between-one {lo} {hi} b h =
+      let l = b .low in
+      let g = b .high in
+      let e : lo ≡ b .held .place = omega arith in
+      record { from = b .from; to = let z = b .to in omega arith; is = ap (λ (k : ℕ). markOf t k) e ∙ b .held .is }
+
+-- MARKS RISE from use to use
+abbrev pub Rises : List Use → Type 0
+Rises us = (i j : ℕ) → i < j → j < length us → getD us i noUse .mark < getD us j noUse .mark
+
+abbrev marksIn : List Use → List ℕ
+marksIn us = map (λ (u : Use). u .mark) us
+
+rising-append : (l l' : List ℕ) (a b c : ℕ) → Rising a b l → Rising b c l' → Rising a c (l ++ l')
+unfolding Rising
+rising-append [] [] a b c p q = omega arith
+rising-append [] (m ∷ l') a b c p q = (omega (arith, q .0), q .1)
+rising-append (m ∷ l) l' a b c p q = (p .0, rising-append l l' (suc m) b c (p .1) q)
+
+rising-split : (l l' : List ℕ) (a c : ℕ) → Rising a c (l ++ l') → (b : ℕ) × (Rising a b l × Rising b c l')
+unfolding Rising
+rising-split [] l' a c p = (a, (omega arith, p))
+rising-split (m ∷ l) l' a c p = let r = rising-split l l' (suc m) c (p .1) in (r .0, ((p .0, r .1 .0), r .1 .1))
+
+rising-from : (l : List ℕ) (a b c : ℕ) → a ≤ b → Rising b c l → Rising a c l
+unfolding Rising
+rising-from [] a b c h p = omega arith
+rising-from (m ∷ l) a b c h p = (omega (arith, p .0), p .1)
+
+uses-rising : (x : Items) (a c : ℕ) → Rising a c (marksOf x) → Rising a c (marksIn (uses x))
+unfolding Rising marksOf uses
+uses-rising none a c p = p
+uses-rising (named k m v name rest) a c p = rising-from (marksIn (uses rest)) a (suc m) c (omega (arith, p .0)) (uses-rising rest (suc m) c (p .1))
+uses-rising (use-of m v segments elements rest) a c p = (p .0, uses-rising rest (suc m) c (p .1))
+uses-rising (module-of m v name inner rest) a c p =
+    let r = rising-split (marksOf inner) (marksOf rest) (suc m) c (p .1) in
+    let z = rising-append (marksIn (uses inner)) (marksIn (uses rest)) (suc m) (r .0) c (uses-rising inner (suc m) (r .0) (r .1 .0)) (uses-rising rest (r .0) c (r .1 .1)) in
+    rising-from (marksIn (uses inner ++ uses rest)) a (suc m) c (omega (arith, p .0)) (subst (Rising (suc m) c) (sym (map-append (λ (u : Use). u .mark) (uses inner) (uses rest))) z)
+uses-rising (ignored m v rest) a c p = rising-from (marksIn (uses rest)) a (suc m) c (omega (arith, p .0)) (uses-rising rest (suc m) c (p .1))
+
+rises-by : (us : List Use) (a c : ℕ) → Rising a c (marksIn us) → Rises us
+rises-by us a c r i j h k =
+    let n = length-map us (λ (u : Use). u .mark) in
+    let z = rising-less (marksIn us) a c i j r h (omega arith) in
+    let x = List·getD-map (λ (u : Use). u .mark) us i noUse in
+    let y = List·getD-map (λ (u : Use). u .mark) us j noUse in
+    omega arith
+
+files-rise : (fs : List File) (p : Text) (a c : ℕ) → Rising a c (fileMarks fs) → Rises (uses (programOf fs p))
+unfolding fileMarks programOf uses
+files-rise [] p a c r = λ i j h k. absurd (omega arith)
+files-rise (f ∷ fs) p a c r =
+    let z = rising-split (marksOf (f .items)) (fileMarks fs) a c r in
+    cond-elim (λ (x : Items). Rises (uses x)) (same p (f .path)) (λ e. rises-by (uses (f .items)) a (z .0) (uses-rising (f .items) a (z .0) (z .1 .0))) (λ e. files-rise fs p (z .0) c (z .1 .1))
+
+-- the marks of a file's uses rise
+pub uses-rise : (b : Bundle) → WellFormed b → (p : Text) → Rises (uses (programOf (b .files) p))
+uses-rise b w p = files-rise (b .files) p (firstFile b) _ (files-rising (encode b) (b .files) (firstFile b) (w .form .marks))
+
+-- EVERY USE OF A FILE IS FOUND
+module _ {t : List ℕ} {index : ℕ} {l : Lists} {file : Text} {us : List Use} (long : length t ≡ 1280) (small : index < 64) (w : Row t index l file us) (rise : Rises us) where
+  row-rising : (i j : ℕ) → fromOf t index ≤ i → i < j → j < toOf t index → markOf t i < markOf t j
+  row-rising i j h k m =
+      let e = w .ends in
+      let x = i - fromOf t index in
+      let y = j - fromOf t index in
+      let ix : fromOf t index + x ≡ i = omega arith in
+      let jy : fromOf t index + y ≡ j = omega arith in
+      let lx : x < length us = omega arith in
+      let ly : y < length us = omega arith in
+      let ei = ap (λ (n : ℕ). markOf t n) (sym ix) ∙ w .entries x lx .mark in
+      let ej = ap (λ (n : ℕ). markOf t n) (sym jy) ∙ w .entries y ly .mark in
+      let r = rise x y (omega arith) ly in
+      omega arith
+
+  module _ (u : Use) (m : List·Memᴰ u us) where
+    pub held : Held t index (u .mark)
+    held =
+        let g = mem-getD noUse m in
+        let e = w .ends in
+        record {
+          long = long;
+          small = small;
+          fits = w .fits;
+          rising = row-rising;
+          place = fromOf t index + g .0;
+          from = omega arith;
+          to = omega (arith, g .1 .0);
+          is = w .entries (g .0) (g .1 .0) .mark ∙ ap (λ (v : Use). v .mark) (g .1 .1);
+        }
+
+    pub found : (r : ℕ) → Finds t index (u .mark) r → EntryOf l file t r u
+    found r f =
+        let g = mem-getD noUse m in
+        let e = w .ends in
+        let here : EntryOf l file t (fromOf t index + g .0) u = subst (λ (v : Use). EntryOf l file t (fromOf t index + g .0) v) (g .1 .1) (w .entries (g .0) (g .1 .0)) in
+        let q : r ≡ fromOf t index + g .0 = one r (fromOf t index + g .0) (f .from) (f .to) (omega arith) (omega (arith, g .1 .0)) (f .is ∙ sym (here .mark)) in
+        rw q here
+      where
+        one : (i j : ℕ) → fromOf t index ≤ i → i < toOf t index → fromOf t index ≤ j → j < toOf t index → markOf t i ≡ markOf t j → i ≡ j
+        one i j a b c d e = go (eqb i j) refl
+          where
+            go : (b' : Bool) → eqb i j ≡ b' → i ≡ j
+            go true q = eqb-true i j q
+            go false q =
+                let n = eqb-false i j q in
+                let x : i < j → ⊥ = λ z. let r' = row-rising i j a z d in omega arith in
+                let y : j < i → ⊥ = λ z. let r' = row-rising j i c z b in omega arith in
+                absurd (apart i j n x y)
+              where
+                apart : (i j : ℕ) → (i ≡ j → ⊥) → (i < j → ⊥) → (j < i → ⊥) → ⊥
+                apart i j a b c = omega arith
 
 -- THE FILES in front
 pub record FilesPut (t files r : List ℕ) : Type 0 where
@@ -178,8 +392,23 @@ pub record FilesPut (t files r : List ℕ) : Type 0 where
   pub rest : (j : ℕ) → 64 ≤ j → getD r j 0 ≡ getD t j 0
 
 module _ (t files r : List ℕ) (p : FilesPut t files r) where
-  pub sound-put : (l : Lists) (s : List ℕ) → Sound l s t → Sound l s r
-  sound-put l s x = record { says = λ w i f j lt q o. rw (p .rest (256 + i) (omega arith), p .rest (768 + i) (omega arith), p .rest (1024 + i) (omega arith)) (x .says (sym (p .wide) ∙ w) i f j lt q (sym (p .rest (512 + i) (omega arith)) ∙ o)) }
+  pub row-put : (index : ℕ) (l : Lists) (file : Text) (us : List Use) → Row t index l file us → Row r index l file us
+  row-put index l file us w =
+      let a : fromOf r index ≡ fromOf t index = p .rest (64 + index) (omega arith) in
+      let b : toOf r index ≡ toOf t index = p .rest (128 + index) (omega arith) in
+      record {
+        ends = b ∙ (w .ends ∙ ap (λ (k : ℕ). k + length us) (sym a));
+        fits = let h = w .fits in omega arith;
+        entries = λ j h. rw a (same-entry (fromOf t index + j) _ _ (w .entries j h));
+      }
+    where
+      same-entry : (i m : ℕ) (x : Resolution) → Entry t i m x → Entry r i m x
+      same-entry i m x e = record {
+        mark = p .rest (256 + i) (omega arith) ∙ e .mark;
+        code = p .rest (512 + i) (omega arith) ∙ e .code;
+        file = p .rest (768 + i) (omega arith) ∙ e .file;
+        left = p .rest (1024 + i) (omega arith) ∙ e .left;
+      }
 
   pub files-put : (n : ℕ) → n ≤ 64 → n ≤ length files → n ≤ length r → take n r ≡ take n files
   files-put n h k m =

@@ -21,3 +21,4 @@ pub mod Meaning
 pub mod Readings
 pub mod Turns
 pub mod Known
+pub mod Complete

@@ -22,7 +22,7 @@ use Rattle.discovery.specs.declared.Graph.{Graph}
 use Rattle.discovery.specs.Discovery.{Use, uses, programOf, ResolvedUse, resolveSingle, useCache, Fault, Import, lookupFaults, validImports, Loading, loadAll, turn, turns, start, pathsOf, discoverDependencies}
 use Rattle.discovery.specs.Discovery as definition
 use Rattle.discovery.specs.Reached.{Once, none, more}
-use Rattle.discovery.specs.Facts.{mem-member, getD-mem, getD-any}
+use Rattle.discovery.specs.Facts.{mem-member, member-true, mem-getD, once-place, id-found, getD-mem, getD-any}
 use Rattle.discovery.specs.Room.{Roomy}
 use Rattle.discovery.specs.Weight.{sumUses, weigh}
 use Rattle.discovery.specs.Record.{looked, lookedUse, lookedAll, noImports, readOut, readAll, withList, ReadsRoom}
@@ -236,6 +236,14 @@ source-file b g k p m =
     let t = Memᴰ·of-map (filePath (listsOf b)) (take (g .units) (g .files)) m in
     Memᴰ·cast (sym (t .2)) (getD-mem (pathsOf b) (t .0) [] (k .units (t .0) (t .1) .within))
 
+pub sources-count : (b : Bundle) → Roomy b → (n : ℕ) (g : Graph) → Invariant b n g → length (sourcesOf (listsOf b) g) ≡ g .units
+sources-count b roomy n g v =
+    let k = v .kept in
+    let a = k .files-wide in
+    let u = k .units-fit in
+    let r = roomy .files in
+    length-map (take (g .units) (g .files)) (filePath (listsOf b)) ∙ length-take-le (g .units) (g .files) (omega (arith, length-map (b .files) (λ (f : File). f .path)))
+
 -- ONE UNIT: the n-th, at place x of the files, which is f
 module _ (b : Bundle) (roomy : Roomy b) (n : ℕ) (g : Graph) (v : Invariant b n g) (waits : n < g .units) where
   abbrev place : ℕ
@@ -248,12 +256,7 @@ module _ (b : Bundle) (roomy : Roomy b) (n : ℕ) (g : Graph) (v : Invariant b n
   few = record { files = let r = roomy .files in omega (arith, length-map (b .files) (λ (f : File). f .path)); folders = roomy .folders }
 
   units-are : length sources ≡ g .units
-  units-are =
-      let k = v .kept in
-      let a = k .files-wide in
-      let u = k .units-fit in
-      let w = few .files in
-      length-map (take (g .units) (g .files)) (filePath (listsOf b)) ∙ length-take-le (g .units) (g .files) (omega arith)
+  units-are = sources-count b roomy n g v
 
   first-place : FirstOf (pathsOf b) place
   first-place =
@@ -285,7 +288,7 @@ module _ (b : Bundle) (roomy : Roomy b) (n : ℕ) (g : Graph) (v : Invariant b n
     unit-path : getD sources n [] ≡ f .path
     unit-path = path-at ∙ path-is
 
-    position-is : position (f .path) (pathsOf b) ≡ place
+    pub position-is : position (f .path) (pathsOf b) ≡ place
     position-is = ap (λ (p : Text). position p (pathsOf b)) (sym path-is) ∙ first-place .first
 
     pub importer : Importer (listsOf b) (f .path) place
@@ -294,14 +297,14 @@ module _ (b : Bundle) (roomy : Roomy b) (n : ℕ) (g : Graph) (v : Invariant b n
       index = sym position-is;
     }
 
-    program : programOf (b .files) (f .path) ≡ f .items
+    pub program : programOf (b .files) (f .path) ≡ f .items
     program = program-at (b .files) f place place-small is position-is
 
     abbrev its-uses : List Use
     its-uses = uses (f .items)
 
     -- the uses so far and those of this unit are no more than the bundle's
-    weight : sumUses (b .files) (take n sources) + length its-uses ≤ use-limit
+    pub weight : sumUses (b .files) (take n sources) + length its-uses ≤ use-limit
     weight =
         let u = units-are in
         let o = once-take (suc n) (paths-once (pathsOf b) (v .kept .units-once) (v .kept .units)) in
@@ -310,6 +313,22 @@ module _ (b : Bundle) (roomy : Roomy b) (n : ℕ) (g : Graph) (v : Invariant b n
         let s = sum-snoc (b .files) (take n sources) (getD sources n []) in
         let q : length (uses (programOf (b .files) (getD sources n []))) ≡ length its-uses = ap (λ (p : Text). length (uses (programOf (b .files) p))) unit-path ∙ ap (λ i. length (uses i)) program in
         let r = roomy .uses in
+        omega arith
+
+    pub handled-small : (p : Text) → List·Memᴰ p (take n sources) → position p (pathsOf b) < file-limit
+    handled-small p m = let k = source-file b g (v .kept) p (take-within n sources m) in let w = few .files in omega (arith, id-found p (pathsOf b) k .0)
+
+    -- it was not handled before
+    pub not-before : (p : Text) → List·Memᴰ p (take n sources) → position p (pathsOf b) ≡ place → ⊥
+    not-before p m e =
+        let u = units-are in
+        let k = source-file b g (v .kept) p (take-within n sources m) in
+        let same-path : p ≡ f .path =
+        sym (id-found p (pathsOf b) k .1) ∙ (ap (λ (i : ℕ). getD (pathsOf b) i []) (e ∙ sym position-is) ∙ id-found (f .path) (pathsOf b) (member-true (f .path) (pathsOf b) (importer .listed)) .1) in
+        let q = mem-getD [] m in
+        let l = length-take-le n sources (omega arith) in
+        let lt : q .0 < n = omega (arith, q .1 .0) in
+        let o = once-place [] (paths-once (pathsOf b) (v .kept .units-once) (v .kept .units)) (q .0) n (omega arith) (omega arith) (sym (getD-take n sources (q .0) [] lt) ∙ (q .1 .1 ∙ (same-path ∙ sym unit-path))) in
         omega arith
 
     pub uses-fit : length its-uses ≤ use-limit
@@ -448,7 +467,7 @@ module _ (b : Bundle) (roomy : Roomy b) (n : ℕ) (g : Graph) (v : Invariant b n
     take-sources : (h : Graph) (k : ℕ) → k ≤ h .units → take k (sourcesOf (listsOf b) h) ≡ map (filePath (listsOf b)) (take k (h .files))
     take-sources h k le = take-map (filePath (listsOf b)) k (take (h .units) (h .files)) ∙ ap (map (filePath (listsOf b))) (take-take k (h .units) (h .files) le)
 
-    sources-before : take (suc n) (sourcesOf (listsOf b) out) ≡ take n sources ++ (f .path ∷ [])
+    pub sources-before : take (suc n) (sourcesOf (listsOf b) out) ≡ take n sources ++ (f .path ∷ [])
     sources-before =
         let m = read .grown .units-more in
         let s = framed .0 .same in
@@ -458,7 +477,7 @@ module _ (b : Bundle) (roomy : Roomy b) (n : ℕ) (g : Graph) (v : Invariant b n
         ∙ (ap (map (filePath (listsOf b))) (read .grown .files (suc n) (omega arith) ∙ ap (take (suc n)) (s .files))
         ∙ (sym (take-sources g (suc n) waits) ∙ (take-suc sources n [] (omega arith) ∙ ap (λ (p : Text). take n sources ++ (p ∷ [])) unit-path)))
 
-    sum-is : sumUses (b .files) (take (suc n) (sourcesOf (listsOf b) out)) ≡ sumUses (b .files) (take n sources) + length its-uses
+    pub sum-is : sumUses (b .files) (take (suc n) (sourcesOf (listsOf b) out)) ≡ sumUses (b .files) (take n sources) + length its-uses
     sum-is =
         ap (sumUses (b .files)) sources-before ∙ (sum-snoc (b .files) (take n sources) (f .path)
         ∙ ap (λ i. sumUses (b .files) (take n sources) + length (uses i)) program)

@@ -6,7 +6,7 @@ ghost use Rattle.bundle.specs.Read.{verdict};
 ghost use Rattle.bundle.specs.declared.Checked.the-variants.{Ok};
 ghost use Rattle.resolution.specs.Lists.{listsOf};
 ghost use Rattle.resolution.specs.Layouts.{listsAt, Small};
-ghost use Rattle.discovery.specs.Known.{Table};
+ghost use Rattle.discovery.specs.Complete.{Table, Fresh, Complete};
 ghost use Rattle.discovery.specs.Turns.{Invariant, Discovers};
 use crate::FOLDERS;
 use crate::Graph;
@@ -14,28 +14,40 @@ use crate::IDS;
 use crate::UNITS;
 use crate::imports::uses_of;
 use crate::known::KNOWN;
+use crate::known::begin;
 use crate::lookups::resolve_imports;
 use crate::readings::load_and_parse_dependencies;
 use resolution::Layout;
 
 // All lookups of a unit, then all its readings.
 fn turn(s: &[u8], at: Layout, g: Graph, unit: usize, known: &mut [usize; KNOWN]) -> Graph
-    requires { ⌜ (verdict (now s) ≡ Ok) × ((listsAt (now s) at ≡ listsOf (decode (now s))) × Small at) × (Invariant (decode (now s)) unit g × (unit < g .units)) × Table (listsOf (decode (now s))) (now s) (now known) ⌝ }
+    requires { ⌜ (verdict (now s) ≡ Ok) × ((listsAt (now s) at ≡ listsOf (decode (now s))) × Small at) × (Invariant (decode (now s)) unit g × (unit < g .units)) × Table (decode (now s)) unit g (now known) ⌝ }
     ensures { λ r. ⌜ Invariant (decode (now (s .entry))) (unit + 1) r ⌝ }
-    ensures { λ r. ⌜ Table (listsOf (decode (now (s .entry)))) (now (s .entry)) (now (known .exit)) ⌝ }
+    ensures { λ r. ⌜ Table (decode (now (s .entry))) (unit + 1) r (now (known .exit)) ⌝ }
 {
     let index = g.files[unit];
     let place = bundle::file_at(s, index);
     let u = uses_of(s, place);
-    let w = resolve_imports(s, at, bundle::file_path(s, place), index, u, g, &mut *known);
+    let first = begin(&mut *known, index, u.count);
+    let w = resolve_imports(
+        s,
+        at,
+        bundle::file_path(s, place),
+        index,
+        u,
+        g,
+        &mut *known,
+        first,
+    );
     load_and_parse_dependencies(w, unit)
 }
 
-// The graph of a checked bundle. Ruled out: a graph of unit 0 alone where it imports another file; a list with an id twice.
+// The graph of a checked bundle; what every use of a reached file resolves to is kept. Ruled out: a graph of unit 0 alone where it
+// imports another file; a list with an id twice; a use of a reached file without its entry.
 pub fn discover(s: &[u8], known: &mut [usize; KNOWN]) -> Graph
-    requires { ⌜ (verdict (now s) ≡ Ok) × Table (listsOf (decode (now s))) (now s) (now known) ⌝ }
+    requires { ⌜ (verdict (now s) ≡ Ok) × Fresh (now known) ⌝ }
     ensures { λ r. ⌜ Discovers (decode (now (s .entry))) r ⌝ }
-    ensures { λ r. ⌜ Table (listsOf (decode (now (s .entry)))) (now (s .entry)) (now (known .exit)) ⌝ }
+    ensures { λ r. ⌜ Complete (decode (now (s .entry))) (now (known .exit)) ⌝ }
 {
     let at = resolution::layout_of(s);
     let mut g = Graph {

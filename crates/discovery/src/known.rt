@@ -1,9 +1,10 @@
 // What is known of the units: a lent array. Its first UNITS places are for the units' files; behind them stands what the uses of the
-// reached files resolved to, entry by entry: mark, index of the file that the use stands in and 1, file, and segments left.
+// reached files resolved to, file by file, an entry for each use: its mark, whether it is a file, a folder or nothing, the index of that,
+// and the segments left.
 ghost use mathlib.Core.Path.{_≡_};
+ghost use Prim.Native.Nat.{_+_, _<_, _≤_};
 ghost use lib.ListN.{length};
-ghost use Rattle.discovery.specs.Known.{Keeps, FindsUse, FilesPut};
-use crate::IDS;
+ghost use Rattle.discovery.specs.Known.{codeIn, fileIn, leftIn, nextOf, begun, Keeps, Held, Finds, FilesPut};
 use crate::UNITS;
 use resolution::Resolution;
 
@@ -19,79 +20,91 @@ const NEXT: usize = 192;
 // The parts of the entries.
 const MARKS: usize = 256;
 
-const OWNERS: usize = 512;
+pub const CODES: usize = 512;
 
 pub const TARGETS: usize = 768;
 
 pub const LEFTS: usize = 1024;
 
-// Where a file's entries begin, with a new one at n.
-fn first_entry(from: usize, to: usize, n: usize) -> usize {
-    if to == 0 {
-        return n;
-    }
-    from
+// What a use resolved to, as its entry has it.
+pub const FILE: usize = 1;
+
+pub const FOLDER: usize = 2;
+
+const NOTHING: usize = 0;
+
+// Room for so many entries of the file of this index: where they begin.
+pub fn begin(t: &mut [usize; KNOWN], index: usize, count: usize) -> usize
+    requires { ⌜ (length (now t) ≡ 1280) × (index < 64) × (nextOf (now t) + count ≤ 256) ⌝ }
+    ensures { λ r. ⌜ (r ≡ nextOf (now (t .entry))) × (now (t .exit) ≡ begun (now (t .entry)) index count) ⌝ }
+{
+    let next = t[NEXT];
+    t[FROM + index] = next;
+    t[TO + index] = next + count;
+    t[NEXT] = next + count;
+    next
 }
 
-// What the use at `mark`, in the file of this index, resolved to is kept, where that is a file.
-pub fn keep(t: &mut [usize; KNOWN], index: usize, mark: usize, found: Resolution)
-    requires { ⌜ length (now t) ≡ 1280 ⌝ }
-    ensures { λ r. ⌜ Keeps (now (t .entry)) (now (t .exit)) index mark found ⌝ }
+fn code_in(found: Resolution) -> usize
+    ensures { λ r. ⌜ r ≡ codeIn found ⌝ }
 {
     match found {
-        Resolution::File(f, left) => {
-            let n = t[NEXT];
-            if n >= IDS {
-                return;
-            }
-            if index >= UNITS {
-                return;
-            }
-            let from = first_entry(t[FROM + index], t[TO + index], n);
-            t[FROM + index] = from;
-            t[TO + index] = n + 1;
-            t[NEXT] = n + 1;
-            t[MARKS + n] = mark;
-            t[OWNERS + n] = index + 1;
-            t[TARGETS + n] = f;
-            t[LEFTS + n] = left;
-        }
-        Resolution::Folder(_, _) => {}
-        Resolution::Refused(_, _) => {}
+        Resolution::File(_, _) => FILE,
+        Resolution::Folder(_, _) => FOLDER,
+        Resolution::Refused(_, _) => NOTHING,
     }
 }
 
-// The entry of the use at `mark` in the file of this index, or IDS.
-pub fn find_use(t: &[usize], index: usize, mark: usize) -> usize
-    ensures { λ r. ⌜ FindsUse (now (t .entry)) index mark r ⌝ }
+fn file_in(found: Resolution) -> usize
+    ensures { λ r. ⌜ r ≡ fileIn found ⌝ }
 {
-    if t.len() != KNOWN {
-        return IDS;
+    match found {
+        Resolution::File(f, _) => f,
+        Resolution::Folder(f, _) => f,
+        Resolution::Refused(_, _) => 0,
     }
-    if index >= UNITS {
-        return IDS;
+}
+
+fn left_in(found: Resolution) -> usize
+    ensures { λ r. ⌜ r ≡ leftIn found ⌝ }
+{
+    match found {
+        Resolution::File(_, left) => left,
+        Resolution::Folder(_, left) => left,
+        Resolution::Refused(_, _) => 0,
     }
+}
+
+// Entry i: what the use at `mark` resolved to.
+pub fn keep(t: &mut [usize; KNOWN], i: usize, mark: usize, found: Resolution)
+    requires { ⌜ (length (now t) ≡ 1280) × (i < 256) ⌝ }
+    ensures { λ r. ⌜ Keeps (now (t .entry)) (now (t .exit)) i mark found ⌝ }
+{
+    let code = code_in(found);
+    let f = file_in(found);
+    let left = left_in(found);
+    t[MARKS + i] = mark;
+    t[CODES + i] = code;
+    t[TARGETS + i] = f;
+    t[LEFTS + i] = left;
+}
+
+// The entry of the use at `mark` in the file of this index, which has one. Ruled out: an entry of another use.
+pub fn find_use(t: &[usize], index: usize, mark: usize) -> usize
+    requires { ⌜ Held (now t) index mark ⌝ }
+    ensures { λ r. ⌜ Finds (now (t .entry)) index mark r ⌝ }
+{
     let mut lo = t[FROM + index];
     let mut hi = t[TO + index];
-    if hi > IDS {
-        return IDS;
-    }
-    while lo < hi {
+    while lo + 1 < hi {
         let mid = lo + (hi - lo) / 2;
-        let m = t[MARKS + mid];
-        if m == mark {
-            if t[OWNERS + mid] == index + 1 {
-                return mid;
-            }
-            return IDS;
-        }
-        if m < mark {
-            lo = mid + 1;
+        if t[MARKS + mid] <= mark {
+            lo = mid;
         } else {
             hi = mid;
         }
     }
-    IDS
+    lo
 }
 
 // The units' files are put in their places.

@@ -1,5 +1,6 @@
 // The lookups of a unit: every fault is pushed, and what a use resolves to is gathered.
 ghost use mathlib.Core.Path.{_≡_};
+ghost use lib.ListN.{length};
 ghost use Prim.Native.Nat.{_+_, _<_, _≤_};
 ghost use Rattle.bundle.specs.Limits.{use-limit};
 ghost use Rattle.resolution.specs.Layouts.{listsAt, Small, Importer};
@@ -7,7 +8,7 @@ ghost use Rattle.discovery.specs.Walk.{useAt, UseMark, UseMarks, useList
 ghost use Rattle.resolution.specs.Call.{answer};
 ghost use Rattle.resolution.specs.Resolution.{resolvePathInternal};
 ghost use Rattle.discovery.specs.Record.{lookedAll, noImports};
-ghost use Rattle.discovery.specs.Known.{Table};
+ghost use Rattle.discovery.specs.Known.{Fills};
 use crate::Graph;
 use crate::UNITS;
 use crate::Uses;
@@ -28,7 +29,8 @@ fn resolve_single(s: &[u8], at: Layout, file: &[u8], index: usize, mark: usize) 
 }
 
 // All lookups of the file of this index, whose uses these are. What they push is stored here, so that no record is copied for a
-// use. Ruled out: a fault at the place of another use; a use that fails gathered as an import.
+// use. What each resolves to is kept, from the entry `first` on. Ruled out: a fault at the place of another use; a use that fails
+// gathered as an import; a target kept for another use.
 pub fn resolve_imports(
     s: &[u8],
     at: Layout,
@@ -37,10 +39,11 @@ pub fn resolve_imports(
     u: Uses,
     g: Graph,
     known: &mut [usize; KNOWN],
+    first: usize,
 ) -> Graph
-    requires { ⌜ (Small at × Importer (listsAt (now s) at) (now file) index) × (UseMarks (now s) u × ((u .count ≤ use-limit) × (g .faults + u .count ≤ use-limit))) × Table (listsAt (now s) at) (now s) (now known) ⌝ }
+    requires { ⌜ (Small at × Importer (listsAt (now s) at) (now file) index) × (UseMarks (now s) u × ((u .count ≤ use-limit) × (g .faults + u .count ≤ use-limit))) × ((length (now known) ≡ 1280) × (first + u .count ≤ 256)) ⌝ }
     ensures { λ r. ⌜ r ≡ lookedAll (listsAt (now (s .entry)) at) (now (file .entry)) (useList (now (s .entry)) u) (noImports g) ⌝ }
-    ensures { λ r. ⌜ Table (listsAt (now (s .entry)) at) (now (s .entry)) (now (known .exit)) ⌝ }
+    ensures { λ r. ⌜ Fills (listsAt (now (s .entry)) at) (now (file .entry)) (now (known .entry)) (now (known .exit)) first (useList (now (s .entry)) u) (u .count) ⌝ }
 {
     let n = u.count;
     let mut w = g;
@@ -49,7 +52,7 @@ pub fn resolve_imports(
     while i < n {
         let mark = u.marks[i];
         let found = resolve_single(s, at, file, index, mark);
-        keep(&mut *known, index, mark, found);
+        keep(&mut *known, first + i, mark, found);
         let faults = w.faults;
         let imports = w.imports;
         match found {

@@ -17,6 +17,7 @@ use Rattle.bundle.specs.Scan.{byte, text}
 use Rattle.bundle.specs.Stand.{Bytes}
 use Rattle.bundle.specs.Decode.{after, afterLength, fileAt, itemsAt, decode}
 use Rattle.bundle.specs.Access.{kindOf, restOf, innerOf, first-rest, items-end}
+use Rattle.discovery.specs.Discovery.{Use}
 use Rattle.discovery.specs.Walk.{UseMark}
 use Rattle.resolution.specs.declared.Layout.{Layout}
 use Rattle.scopes.specs.Form.{enters, exits, resolves-use}
@@ -24,10 +25,10 @@ use Rattle.scopes.specs.Meets.{declares}
 use Rattle.assembly.specs.Assemble.{fileOf, itemsOf}
 use Rattle.assembly.specs.Given.{OrderGiven}
 use Rattle.assembly.specs.GivenLaws.{one-unit, below, items-are, path-is}
-use Rattle.assembly.specs.Targets.{UnitOf}
+use Rattle.assembly.specs.Targets.{UnitOf, fileUses, InFile}
 use Rattle.assembly.specs.Walk.{segmentsAt, useBytes, oneAt, kind-byte, next-is}
 use Rattle.linker.specs.Scopes.{Asked, asked, isPublic}
-use Rattle.linker.specs.Steps.{Plain, use-size, itemCalls, itemsCalls, calls-end, calls-step, next-calls, ignored-calls, use-calls, named-calls, flat-calls, module-calls, plain-next, plain-first, plain-use, plain-mark, plain-inside}
+use Rattle.linker.specs.Steps.{Plain, use-size, itemCalls, itemsCalls, calls-end, calls-step, next-calls, ignored-calls, use-calls, named-calls, flat-calls, module-calls, plain-next, plain-first, plain-use, plain-known, plain-mark, plain-inside}
 use Rattle.linker.specs.Units.{unitCalls, programCalls, program-none, unit-form, unit-ready, order-step, nothing-left}
 use Rattle.linker.specs.declared.cursor.Cursor.{Cursor}
 use Rattle.linker.specs.declared.cursor.Step.{Step}
@@ -81,17 +82,21 @@ stepCalls s c (step.Exit p) = asked p exits ∷ []
 stepCalls s c step.End = []
 
 -- WHERE A CURSOR MAY STAND
-unfoldable pub Stack : List ℕ → List ℕ → List ℕ → ℕ → ℕ → ℕ → Type 0
-Stack s marks ends zero end at = Unit {0}
-Stack s marks ends (suc k) end at =
-    ((end ≤ small-limit) × Plain (itemsAt (depth-limit - k) s end at))
-    × (((getD marks k 0 < small-limit) × (0 < k → getD marks k 0 < getD ends k 0)) × Stack s marks ends k (getD ends k 0) (afterLength s (getD marks k 0)))
+unfoldable pub Stack : List Use → List ℕ → List ℕ → List ℕ → ℕ → ℕ → ℕ → Type 0
+Stack us s marks ends zero end at = Unit {0}
+Stack us s marks ends (suc k) end at =
+    ((end ≤ small-limit) × Plain us (itemsAt (depth-limit - k) s end at))
+    × (((getD marks k 0 < small-limit) × (0 < k → getD marks k 0 < getD ends k 0)) × Stack us s marks ends k (getD ends k 0) (afterLength s (getD marks k 0)))
 
 -- the unit u, whose file stands at a place
 pub record Within (s : List ℕ) (units u place : ℕ) : Type 0 where
   pub unit : u < units
   pub file : pathAt s place ≡ fileOf (decode s) u
   pub small : place < small-limit
+
+-- the uses of the file that a cursor stands in
+abbrev pub usesIn : List ℕ → Cursor → List Use
+usesIn s c = fileUses s (pathAt s (c .file))
 
 pub record Stands (s : List ℕ) (units : ℕ) (c : Cursor) : Type 0 where
   pub few : c .unit ≤ units
@@ -100,7 +105,7 @@ pub record Stands (s : List ℕ) (units : ℕ) (c : Cursor) : Type 0 where
   pub marked : length (c .marks) ≡ open-limit
   pub ended : length (c .ends) ≡ open-limit
   pub within : 0 < c .depth → Within s units (c .id) (c .file)
-  pub stack : Stack s (c .marks) (c .ends) (c .depth) (c .end) (c .at)
+  pub stack : Stack (usesIn s c) s (c .marks) (c .ends) (c .depth) (c .end) (c .at)
 
 pub stands-first : (s : List ℕ) (units : ℕ) → Stands s units first-cursor
 unfolding Stack
@@ -115,7 +120,7 @@ Fitting s p = (l : Layout) (file : Text) (index : ℕ) (files : List ℕ) (units
 abbrev pub Ready : List ℕ → List ℕ → Cursor → Step → Type 0
 Ready s o c (step.Enter unit p) = p < 65536
 Ready s o c (step.Declare p) = p < 65536
-Ready s o c (step.Use p) = (0 < c .depth) × ((p < 65536) × (UseMark s p × Fitting s p))
+Ready s o c (step.Use p) = (0 < c .depth) × ((p < 65536) × (UseMark s p × Fitting s p × InFile s (pathAt s (c .file)) p))
 Ready s o c (step.Exit p) = Unit {0}
 Ready s o c step.End = callsFrom s o c ≡ []
 
@@ -138,7 +143,7 @@ lt-or k n h = ⊎-elim (λ (w : k < 9). omega arith) (λ w. absurd (n w)) (by-lt
 -- IGNORED ITEMS make no call
 pub record Passed (s : List ℕ) (from end a : ℕ) : Type 0 where
   pub calls : (file : Text) (d : ℕ) → itemsCalls s file d end from ≡ itemsCalls s file d end a
-  pub plain : (d : ℕ) → Plain (itemsAt d s end from) → Plain (itemsAt d s end a)
+  pub plain : (us : List Use) (d : ℕ) → Plain us (itemsAt d s end from) → Plain us (itemsAt d s end a)
   pub on : from ≤ a
 
 pub record Past (s : List ℕ) (from end r : ℕ) : Type 0 where
@@ -146,14 +151,14 @@ pub record Past (s : List ℕ) (from end r : ℕ) : Type 0 where
   pub calling : r < end → byte s (r + 2) ≡ ignored-kind → ⊥
 
 pub passed-none : (s : List ℕ) (from end : ℕ) → Passed s from end from
-passed-none s from end = record { calls = λ f d. refl; plain = λ d p. p; on = omega arith }
+passed-none s from end = record { calls = λ f d. refl; plain = λ us d p. p; on = omega arith }
 
 pub passed-more : (s : List ℕ) (from end a k next : ℕ) → Passed s from end a → a < end → ((d e : ℕ) → a < e → k ≡ kindOf (itemsAt d s e a)) → k ≡ ignored-kind
     → ((d e : ℕ) → a < e → itemsAt d s e next ≡ restOf (itemsAt d s e a)) → a < next → Passed s from end next
 passed-more s from end a k next p h kind e f l =
     record {
       calls = λ file d. p .calls file d ∙ (next-calls s file d end a next h f ∙ ap (λ (x : List Asked). x ++ itemsCalls s file d end next) (ignored-calls s a k kind file d e));
-      plain = λ d q. plain-next s d end a next h f (p .plain d q) .1;
+      plain = λ us d q. plain-next us s d end a next h f (p .plain us d q) .1;
       on = omega (arith, p .on);
     }
 
@@ -174,14 +179,14 @@ module _ (s : List ℕ) (marks ends : List ℕ) (j x y : ℕ) where
       let l = getD-set-other ends j k y 0 n in
       rw (m, l, left-set file rest k (getD ends k 0) (afterLength s (getD marks k 0)) (omega arith))
 
-  pub stack-set : (k e a : ℕ) → k ≤ j → Stack s marks ends k e a → Stack s (set marks j x) (set ends j y) k e a
+  pub stack-set : (us : List Use) (k e a : ℕ) → k ≤ j → Stack us s marks ends k e a → Stack us s (set marks j x) (set ends j y) k e a
   unfolding Stack
-  stack-set zero e a h f = tt
-  stack-set (suc k) e a h f =
+  stack-set us zero e a h f = tt
+  stack-set us (suc k) e a h f =
       let n : k ≡ j → ⊥ = λ (q : k ≡ j). omega arith in
       let m = getD-set-other marks j k x 0 n in
       let l = getD-set-other ends j k y 0 n in
-      rw (m, l) (f .0, (f .1 .0, stack-set k (getD ends k 0) (afterLength s (getD marks k 0)) (omega arith) (f .1 .1)))
+      rw (m, l) (f .0, (f .1 .0, stack-set us k (getD ends k 0) (afterLength s (getD marks k 0)) (omega arith) (f .1 .1)))
 
 -- THE LAWS OF THE STEPS, over what is left
 module _ (s : List ℕ) (file : Text) (rest : List Asked) (marks ends : List ℕ) where
@@ -237,11 +242,11 @@ module _ (s : List ℕ) (file : Text) (rest : List Asked) (marks ends : List ℕ
       x : List Asked
       x = asked (getD marks k 0) exits ∷ leftCalls s file rest marks ends k (getD ends k 0) (afterLength s (getD marks k 0))
 
-stack-next : (s marks ends : List ℕ) (k end at next : ℕ) → (0 < k → at < end) → ((d e : ℕ) → at < e → itemsAt d s e next ≡ restOf (itemsAt d s e at))
-    → Stack s marks ends k end (afterLength s at) → Stack s marks ends k end next
+stack-next : (us : List Use) (s marks ends : List ℕ) (k end at next : ℕ) → (0 < k → at < end) → ((d e : ℕ) → at < e → itemsAt d s e next ≡ restOf (itemsAt d s e at))
+    → Stack us s marks ends k end (afterLength s at) → Stack us s marks ends k end next
 unfolding Stack
-stack-next s marks ends zero end at next h f t = tt
-stack-next s marks ends (suc k) end at next h f t = rw (next-is s (depth-limit - k) end at next (h (omega arith)) f) t
+stack-next us s marks ends zero end at next h f t = tt
+stack-next us s marks ends (suc k) end at next h f t = rw (next-is s (depth-limit - k) end at next (h (omega arith)) f) t
 
 -- A STEP OUTSIDE OF A UNIT
 module _ (s files ids : List ℕ) (units : ℕ) (x : OrderGiven s files ids units) (c : Cursor) (st : Stands s units c) (z : c .depth ≡ 0) where
@@ -292,13 +297,16 @@ module _ (s files ids : List ℕ) (units : ℕ) (x : OrderGiven s files ids unit
             marked = simp length-set l;
             ended = st .ended;
             within = λ q. record { unit = unit-below; file = p; small = omega arith };
-            stack = ((omega arith, unit-ready s files units u B (x .of-units) end at i), ((rw m (omega arith), λ q. absurd (omega arith)), tt));
+            stack = ((omega arith, unit-ready s files units u B (x .of-units) (pathAt s place) end at p i), ((rw m (omega arith), λ q. absurd (omega arith)), tt));
           };
           ready = omega arith;
         }
 
 -- A STEP INSIDE, at depth k + 1
 module _ (s ids : List ℕ) (units : ℕ) (c : Cursor) (st : Stands s units c) (k : ℕ) (e : c .depth ≡ suc k) (at : ℕ) (p : Past s (c .at) (c .end) at) where
+  abbrev us : List Use
+  us = usesIn s c
+
   abbrev moved : ℕ → Cursor
   moved next = record { unit = c .unit; id = c .id; file = c .file; at = next; end = c .end; depth = c .depth; marks = c .marks; ends = c .ends }
 
@@ -310,12 +318,12 @@ module _ (s ids : List ℕ) (units : ℕ) (c : Cursor) (st : Stands s units c) (
   here = ap (λ (d : ℕ). leftCalls s (pathAt s (c .file)) (programCalls (decode s) (drop (c .unit) (take units ids))) (c .marks) (c .ends) d (c .end) (c .at)) e
       ∙ left-past s (pathAt s (c .file)) (programCalls (decode s) (drop (c .unit) (take units ids))) (c .marks) (c .ends) k (c .end) (c .at) at (p .passed)
 
-  stack-here : Stack s (c .marks) (c .ends) (suc k) (c .end) (c .at)
-  stack-here = subst (λ (d : ℕ). Stack s (c .marks) (c .ends) d (c .end) (c .at)) e (st .stack)
+  stack-here : Stack us s (c .marks) (c .ends) (suc k) (c .end) (c .at)
+  stack-here = subst (λ (d : ℕ). Stack us s (c .marks) (c .ends) d (c .end) (c .at)) e (st .stack)
 
-  plain-here : Plain (itemsAt (depth-limit - k) s (c .end) at)
+  plain-here : Plain us (itemsAt (depth-limit - k) s (c .end) at)
   unfolding Stack
-  plain-here = p .passed .plain (depth-limit - k) (stack-here .0 .1)
+  plain-here = p .passed .plain us (depth-limit - k) (stack-here .0 .1)
 
   small-end : c .end ≤ small-limit
   unfolding Stack
@@ -342,7 +350,7 @@ module _ (s ids : List ℕ) (units : ℕ) (c : Cursor) (st : Stands s units c) (
           marked = st .marked;
           ended = st .ended;
           within = λ q. st .within (omega arith);
-          stack = stack-next s (c .marks) (c .ends) k (getD (c .ends) k 0) (getD (c .marks) k 0) next (stack-here .1 .0 .1) f (stack-here .1 .1);
+          stack = stack-next us s (c .marks) (c .ends) k (getD (c .ends) k 0) (getD (c .marks) k 0) next (stack-here .1 .0 .1) f (stack-here .1 .1);
         };
         ready = tt;
       }
@@ -355,8 +363,8 @@ module _ (s ids : List ℕ) (units : ℕ) (c : Cursor) (st : Stands s units c) (
     not-bottom : k ≡ 9 → ⊥
     not-bottom q = let b = st .bottom (omega arith) in let o = p .passed .on in omega arith
 
-    one-here : Plain (oneAt (depth-limit - k) s at)
-    one-here = plain-first s (depth-limit - k) (c .end) at h plain-here
+    one-here : Plain us (oneAt (depth-limit - k) s at)
+    one-here = plain-first us s (depth-limit - k) (c .end) at h plain-here
 
     module _ (next : ℕ) (f : (d e : ℕ) → at < e → itemsAt d s e next ≡ restOf (itemsAt d s e at)) where
       moved-stands : Stands s units (moved next)
@@ -370,8 +378,8 @@ module _ (s ids : List ℕ) (units : ℕ) (c : Cursor) (st : Stands s units c) (
             marked = st .marked;
             ended = st .ended;
             within = st .within;
-            stack = subst (λ (d : ℕ). Stack s (c .marks) (c .ends) d (c .end) next) (sym e)
-                ((stack-here .0 .0, plain-next s (depth-limit - k) (c .end) at next h f plain-here .1), stack-here .1);
+            stack = subst (λ (d : ℕ). Stack us s (c .marks) (c .ends) d (c .end) next) (sym e)
+                ((stack-here .0 .0, plain-next us s (depth-limit - k) (c .end) at next h f plain-here .1), stack-here .1);
           }
 
       moved-calls : (a : Asked) → itemCalls s (pathAt s (c .file)) (depth-limit - k) at ≡ a ∷ [] → callsFrom s (take units ids) c ≡ a ∷ callsFrom s (take units ids) (moved next)
@@ -386,7 +394,7 @@ module _ (s ids : List ℕ) (units : ℕ) (c : Cursor) (st : Stands s units c) (
           record {
             calls = moved-calls _ (use-calls s at kind of (pathAt s (c .file)) (depth-limit - k) q);
             stands = moved-stands;
-            ready = (omega arith, (plain-mark s at kind of (depth-limit - k) one-here not-ignored, (record { kind = kind-byte s at kind of ∙ q; small = omega arith }, plain-use s at kind of (depth-limit - k) one-here q)));
+            ready = (omega arith, (plain-mark us s at kind of (depth-limit - k) one-here not-ignored, (record { kind = kind-byte s at kind of ∙ q; small = omega arith }, plain-use us s at kind of (depth-limit - k) one-here q, plain-known us s at kind of (depth-limit - k) one-here q)));
           }
 
       pub yields-declare : (kind ≡ use-kind → ⊥) → (kind ≡ module-kind → ⊥) → Yields s ids units c (record { step = step.Declare at; cursor = moved next })
@@ -394,14 +402,14 @@ module _ (s ids : List ℕ) (units : ℕ) (c : Cursor) (st : Stands s units c) (
           record {
             calls = moved-calls _ (named-calls s at kind of (pathAt s (c .file)) (depth-limit - k) not-ignored n3 n5);
             stands = moved-stands;
-            ready = plain-mark s at kind of (depth-limit - k) one-here not-ignored;
+            ready = plain-mark us s at kind of (depth-limit - k) one-here not-ignored;
           }
 
     -- a module
     module _ (q : kind ≡ module-kind) (end' at' : ℕ)
         (inner : (d e : ℕ) → at < e → kindOf (itemsAt (suc d) s e at) ≡ module-kind → itemsAt d s end' at' ≡ innerOf (itemsAt (suc d) s e at)) (few : end' ≤ at + 66000) where
       mark-small : at < 65536
-      mark-small = plain-mark s at kind of (depth-limit - k) one-here not-ignored
+      mark-small = plain-mark us s at kind of (depth-limit - k) one-here not-ignored
 
       abbrev start : ℕ
       start = first-inside (c .depth) at' end'
@@ -430,23 +438,23 @@ module _ (s ids : List ℕ) (units : ℕ) (c : Cursor) (st : Stands s units c) (
               flat-calls s at kind of (pathAt s (c .file)) (depth-limit - k) q o
               ∙ ap (λ (l : List Asked). asked at (enters (text s (at + 4)) (isPublic (byte s (at + 3))) at) ∷ (l ++ (asked at exits ∷ []))) (sym n)
 
-      inside-plain : k ≤ 8 → Plain (itemsAt (depth-limit - suc k) s end' start)
+      inside-plain : k ≤ 8 → Plain us (itemsAt (depth-limit - suc k) s end' start)
       unfolding Plain
       inside-plain y = ⊎-elim low deepest (by-lt k 8 y)
         where
-          low : k < 8 → Plain (itemsAt (depth-limit - suc k) s end' start)
+          low : k < 8 → Plain us (itemsAt (depth-limit - suc k) s end' start)
           low w =
               let o : depth-limit - suc k ≡ depth-limit - k - 1 = omega arith in
-              rw (o, start-in w) (plain-inside s at kind of (depth-limit - k) one-here end' at' q (λ (n : depth-limit - k ≡ 0). omega arith) inner)
+              rw (o, start-in w) (plain-inside us s at kind of (depth-limit - k) one-here end' at' q (λ (n : depth-limit - k ≡ 0). omega arith) inner)
 
-          deepest : k ≡ 8 → Plain (itemsAt (depth-limit - suc k) s end' start)
+          deepest : k ≡ 8 → Plain us (itemsAt (depth-limit - suc k) s end' start)
           deepest w = rw (items-end (depth-limit - suc k) s end' start (let v = start-deep w in omega arith)) tt
 
       abbrev left-in-at : ℕ → ℕ → List Asked
       left-in-at n m = leftCalls s (pathAt s (c .file)) (programCalls (decode s) (drop (c .unit) (take units ids))) (set (c .marks) n at) (set (c .ends) n (c .end)) m end' start
 
       abbrev stack-in-at : ℕ → ℕ → Type 0
-      stack-in-at n m = Stack s (set (c .marks) n at) (set (c .ends) n (c .end)) m end' start
+      stack-in-at n m = Stack us s (set (c .marks) n at) (set (c .ends) n (c .end)) m end' start
 
       pub yields-in : Yields s ids units c (record {
         step = step.Enter false at;
@@ -476,8 +484,8 @@ module _ (s ids : List ℕ) (units : ℕ) (c : Cursor) (st : Stands s units c) (
                     (omega (arith, mark-small), inside-plain d),
                     (
                       (rw gm (omega (arith, mark-small)), λ w. rw (gm, ge) h),
-                      rw (gm, ge) (stack-set s (c .marks) (c .ends) (suc k) at (c .end) (suc k) (c .end) (afterLength s at) (omega arith)
-                          ((stack-here .0 .0, plain-next s (depth-limit - k) (c .end) at (afterLength s at) h (λ d' e' h'. sym (first-rest d' s e' at h')) plain-here .1), stack-here .1)),
+                      rw (gm, ge) (stack-set s (c .marks) (c .ends) (suc k) at (c .end) us (suc k) (c .end) (afterLength s at) (omega arith)
+                          ((stack-here .0 .0, plain-next us s (depth-limit - k) (c .end) at (afterLength s at) h (λ d' e' h'. sym (first-rest d' s e' at h')) plain-here .1), stack-here .1)),
                     ),
                   ));
             };
@@ -486,8 +494,8 @@ module _ (s ids : List ℕ) (units : ℕ) (c : Cursor) (st : Stands s units c) (
 
 -- what the code needs of a cursor that stands inside
 module _ (s : List ℕ) (units : ℕ) (c : Cursor) (st : Stands s units c) where
-  stack-open : (c .depth ≡ 0 → ⊥) → Stack s (c .marks) (c .ends) (suc (c .depth - 1)) (c .end) (c .at)
-  stack-open n = let e : c .depth ≡ suc (c .depth - 1) = omega arith in subst (λ (d : ℕ). Stack s (c .marks) (c .ends) d (c .end) (c .at)) e (st .stack)
+  stack-open : (c .depth ≡ 0 → ⊥) → Stack (usesIn s c) s (c .marks) (c .ends) (suc (c .depth - 1)) (c .end) (c .at)
+  stack-open n = let e : c .depth ≡ suc (c .depth - 1) = omega arith in subst (λ (d : ℕ). Stack (usesIn s c) s (c .marks) (c .ends) d (c .end) (c .at)) e (st .stack)
 
   pub standing-small : (c .depth ≡ 0 → ⊥) → c .end ≤ small-limit
   unfolding Stack

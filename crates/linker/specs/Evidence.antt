@@ -28,7 +28,8 @@ use Rattle.scopes.specs.Step.{Answer, ok, refused as refused-with}
 use Rattle.scopes.specs.Step as tree
 use Rattle.scopes.specs.Flat.{Flat, flat, first-flat}
 use Rattle.scopes.specs.Form.{Request, resolves-use, call-of}
-use Rattle.scopes.specs.Trees.{Good, rows, flat-of, told as told-of, cleared}
+use Rattle.scopes.specs.Views.{rows, told as told-of}
+use Rattle.scopes.specs.Trees.{Good, view, flat-of, cleared}
 use Rattle.scopes.specs.Rows.{length-tab}
 use Rattle.scopes.specs.Meets.{Meets}
 use Rattle.scopes.specs.declared.Tree.{Tree}
@@ -292,11 +293,11 @@ turns-back-every-bundle f meets turns = go (turns (encode two-files) [] (replica
     go (no-unit k) = let q = ap (λ (l : List ℕ). getD l 3 0) is in omega arith
 
 -- (2) A USE THAT REPORTS SUCCESS AND IMPORTS NOTHING, though it has an element
-pub imports-nothing : (t : Tree) (d : List ℕ) (v : Bool) (r : Outcome) → Good t → Meets t (resolves-use d v) r → told-of (r .answer) ≡ ok → 0 < elementCount d → r .tree .count ≡ t .count → ⊥
+pub imports-nothing : (t : Tree) (d : List ℕ) (v : Bool) (r : Outcome) → Good t → Meets t (resolves-use d v) r → told-of (r .answer) ≡ ok → 0 < elementCount d → view (r .tree) .count ≡ view t .count → ⊥
 imports-nothing t d v r g m taken some same =
     let h = request-adds (flat-of t) d v (sym (m .answer g) ∙ taken) in
     let e = ap (λ (x : Flat). length (x .entries)) (m .tree g) in
-    omega (arith, h, e, length-tab (rows t) (t .count), length-tab (rows (r .tree)) (r .tree .count))
+    omega (arith, h, e, length-tab (rows (view t)) (view t .count), length-tab (rows (view (r .tree))) (view (r .tree) .count))
 
 -- (1, 2) 51 OF A TREE CALL WITH SPACE LEFT
 pub full-tree-with-space : (t : Tree) (q : Request) (r : Outcome) (y : Flat) → Good t → Meets t q r → told-of (r .answer) ≡ refused-with 51 → otherwise (flat-of t) (call-of q) ≡ tree.done y

@@ -21,7 +21,7 @@ use Rattle.scopes.specs.Step.{Call, enter, exit, alias, enum, function, use′,
 use Rattle.scopes.specs.Flat.{flat, first-flat}
 use Rattle.scopes.specs.Form.{Request, enters, exits, inserts-alias, inserts-enum, inserts-function, resolves-use, or-else, after-string, after-element, string-fault, names-fault, elements-fault, after-strings, after-elements, rest-fault, use-fault, use-call, call-of}
 use Rattle.scopes.specs.Form as form
-use Rattle.scopes.specs.Lent.{declares}
+use Rattle.scopes.specs.Meets.{declares}
 use Rattle.assembly.specs.Paths.{ImagePath}
 use Rattle.assembly.specs.ImageForm.{ImageFormed, assembled-formed}
 use Rattle.assembly.specs.Theorems.{Program}

@@ -3,7 +3,7 @@ use Prim.Native.Nat.{ℕ, zero, suc, _+_, _-_, _≤_, _<_}
 use native.Mathlib.Omega.{arith}
 use mathlib.Core.Bool.{Bool, true, false, cond}
 use mathlib.Core.Path.{_≡_, refl, sym, ap, subst, _∙_}
-use mathlib.Core.List.{List, [], _∷_, _++_, append-assoc}
+use mathlib.Core.List.{List, [], _∷_, _++_, append-assoc, List·Memᴰ}
 use lib.Dec.{eqb}
 use lib.ListN.{length, take, drop}
 use lib.Seq.{take-at}
@@ -27,6 +27,8 @@ use Rattle.scopes.specs.Flat.{Flat, flat}
 use Rattle.scopes.specs.Trees.{Good, flat-of}
 use Rattle.scopes.specs.declared.Tree.{Tree}
 use Rattle.resolution.specs.declared.Layout.{Layout}
+use Rattle.discovery.specs.Discovery.{Use}
+use Rattle.discovery.specs.Walk.{useAt}
 use Rattle.assembly.specs.Assemble.{rewriteUse, rewriteItems}
 use Rattle.assembly.specs.Paths.{FormedPath}
 use Rattle.assembly.specs.Targets.{UnitOf}
@@ -230,56 +232,63 @@ module _ (s : List ℕ) (at k : ℕ) (kind : (d e : ℕ) → at < e → k ≡ ki
   unfolding itemsCalls
   module-calls end' at' e z inner = module-with (itemsAt (depth - 1) s end' at') e (inside-is s at k kind depth end' at' e z inner)
 
--- WHAT THE CODE NEEDS OF THE ITEMS: two bytes hold a mark, and a use is in form, so that it fits its place
+-- WHAT THE CODE NEEDS OF THE ITEMS: two bytes hold a mark, and a use is in form, so that it fits its place, and one of the given uses
 abbrev pub use-size : ℕ
 use-size = 2681
 
-unfoldable pub Plain : Items → Type 0
-Plain none = Unit {0}
-Plain (named k m v name rest) = (m < 65536) × Plain rest
-Plain (use-of m v segments elements rest) =
-    ((m < 65536) × (FormedPath segments × ((length elements ≤ element-limit) × Every FormedElement elements))) × Plain rest
-Plain (module-of m v name inner rest) = (m < 65536) × (Plain inner × Plain rest)
-Plain (ignored m v rest) = Plain rest
+unfoldable pub Plain : List Use → Items → Type 0
+Plain us none = Unit {0}
+Plain us (named k m v name rest) = (m < 65536) × Plain us rest
+Plain us (use-of m v segments elements rest) =
+    ((m < 65536) × (FormedPath segments × ((length elements ≤ element-limit) × Every FormedElement elements)) × List·Memᴰ (record { mark = m; segments = segments }) us) × Plain us rest
+Plain us (module-of m v name inner rest) = (m < 65536) × (Plain us inner × Plain us rest)
+Plain us (ignored m v rest) = Plain us rest
 
-plain-item : (inside : ℕ → ℕ → Items) (s : List ℕ) (at : ℕ) (rest : Items) → Plain (itemAt inside s at rest) → Plain (itemAt inside s at none) × Plain rest
+plain-item : (us : List Use) (inside : ℕ → ℕ → Items) (s : List ℕ) (at : ℕ) (rest : Items) → Plain us (itemAt inside s at rest) → Plain us (itemAt inside s at none) × Plain us rest
 unfolding Plain
-plain-item inside s at rest =
-    by-kind inside s at rest (λ i. Plain i → Plain (itemAt inside s at none) × Plain rest)
+plain-item us inside s at rest =
+    by-kind inside s at rest (λ i. Plain us i → Plain us (itemAt inside s at none) × Plain us rest)
     (λ k f. (rw (item-module inside s at none k) (f .0, (f .1 .0, tt)), f .1 .1))
     (λ k f. (rw (item-use inside s at none (λ (e : byte s (at + 2) ≡ module-kind). omega arith) k) (f .0, tt), f .1))
     (λ k f. (rw (item-ignored inside s at none (λ (e : byte s (at + 2) ≡ module-kind). omega arith) (λ (e : byte s (at + 2) ≡ use-kind). omega arith) k) tt, f))
     (λ n m l f. (rw (item-named inside s at none n m l) (f .0, tt), f .1))
 
-pub plain-next : (s : List ℕ) (depth end at next : ℕ) → at < end → ((d e : ℕ) → at < e → itemsAt d s e next ≡ restOf (itemsAt d s e at))
-    → Plain (itemsAt depth s end at) → Plain (oneAt depth s at) × Plain (itemsAt depth s end next)
-plain-next s depth end at next h f b =
-    let t = plain-item (insideOf depth s) s at (itemsAt depth s end (afterLength s at)) (subst Plain (items-step depth s end at h) b) in
-    (t .0, subst Plain (sym (next-is s depth end at next h f)) (t .1))
+pub plain-next : (us : List Use) (s : List ℕ) (depth end at next : ℕ) → at < end → ((d e : ℕ) → at < e → itemsAt d s e next ≡ restOf (itemsAt d s e at))
+    → Plain us (itemsAt depth s end at) → Plain us (oneAt depth s at) × Plain us (itemsAt depth s end next)
+plain-next us s depth end at next h f b =
+    let t = plain-item us (insideOf depth s) s at (itemsAt depth s end (afterLength s at)) (subst (Plain us) (items-step depth s end at h) b) in
+    (t .0, subst (Plain us) (sym (next-is s depth end at next h f)) (t .1))
 
-pub plain-first : (s : List ℕ) (depth end at : ℕ) → at < end → Plain (itemsAt depth s end at) → Plain (oneAt depth s at)
-plain-first s depth end at h b = plain-item (insideOf depth s) s at (itemsAt depth s end (afterLength s at)) (subst Plain (items-step depth s end at h) b) .0
+pub plain-first : (us : List Use) (s : List ℕ) (depth end at : ℕ) → at < end → Plain us (itemsAt depth s end at) → Plain us (oneAt depth s at)
+plain-first us s depth end at h b = plain-item us (insideOf depth s) s at (itemsAt depth s end (afterLength s at)) (subst (Plain us) (items-step depth s end at h) b) .0
 
-module _ (s : List ℕ) (at k : ℕ) (kind : (d e : ℕ) → at < e → k ≡ kindOf (itemsAt d s e at)) (depth : ℕ) (b : Plain (oneAt depth s at)) where
+module _ (us : List Use) (s : List ℕ) (at k : ℕ) (kind : (d e : ℕ) → at < e → k ≡ kindOf (itemsAt d s e at)) (depth : ℕ) (b : Plain us (oneAt depth s at)) where
   pub plain-use : k ≡ use-kind → (l : Layout) (file : Text) (index : ℕ) (files : List ℕ) (units : ℕ) → UnitOf s l file index files units
       → (at < 65536) × ((length (segmentsAt s at) ≤ segment-limit) × (length (useBytes s file at) ≤ use-size))
   unfolding Plain
   plain-use e l file index files units u =
       let q : byte s (at + 2) ≡ use-kind = kind-byte s at k kind ∙ e in
       let i = item-use (insideOf depth s) s at none (λ (x : byte s (at + 2) ≡ module-kind). omega arith) q in
-      let f = subst Plain i b .0 in
+      let f = subst (Plain us) i b .0 in
       (f .0, (f .1 .0 .0, use-few s l file index files units at u (f .1 .0) (f .1 .1)))
+
+  pub plain-known : k ≡ use-kind → List·Memᴰ (useAt s at) us
+  unfolding Plain
+  plain-known e =
+      let q : byte s (at + 2) ≡ use-kind = kind-byte s at k kind ∙ e in
+      let i = item-use (insideOf depth s) s at none (λ (x : byte s (at + 2) ≡ module-kind). omega arith) q in
+      subst (Plain us) i b .0 .2
 
   pub plain-mark : (k ≡ ignored-kind → ⊥) → at < 65536
   unfolding Plain
   plain-mark n6 =
-      by-kind (insideOf depth s) s at none (λ i. Plain i → at < 65536)
+      by-kind (insideOf depth s) s at none (λ i. Plain us i → at < 65536)
       (λ q f. f .0) (λ q f. f .0 .0) (λ q f. absurd (n6 (sym (kind-byte s at k kind) ∙ q))) (λ n m l f. f .0) b
 
   pub plain-inside : (end' at' : ℕ) → k ≡ module-kind → (depth ≡ 0 → ⊥)
       → ((d e : ℕ) → at < e → kindOf (itemsAt (suc d) s e at) ≡ module-kind → itemsAt d s end' at' ≡ innerOf (itemsAt (suc d) s e at))
-      → Plain (itemsAt (depth - 1) s end' at')
+      → Plain us (itemsAt (depth - 1) s end' at')
   unfolding Plain
   plain-inside end' at' e z inner =
       let q : byte s (at + 2) ≡ module-kind = kind-byte s at k kind ∙ e in
-      subst Plain (inside-is s at k kind depth end' at' e z inner) (subst Plain (item-module (insideOf depth s) s at none q) b .1 .0)
+      subst (Plain us) (inside-is s at k kind depth end' at' e z inner) (subst (Plain us) (item-module (insideOf depth s) s at none q) b .1 .0)

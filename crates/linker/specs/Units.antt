@@ -21,6 +21,7 @@ use Rattle.scopes.specs.Trees.{cleared, Good, flat-of}
 use Rattle.scopes.specs.declared.Tree.{Tree}
 use Rattle.assembly.specs.Assemble.{fileOf, itemsOf, localItems, assembled}
 use Rattle.assembly.specs.Given.{UnitsGiven}
+use Rattle.assembly.specs.Targets.{fileUses}
 use Rattle.linker.specs.Scopes.{Asked, asked, scopeCalls, walkFrom, scopeWalk}
 use Rattle.linker.specs.Steps.{Stop, Walks, reached, itemsCalls, Plain}
 use Rattle.linker.specs.Fit.{unit-plain}
@@ -48,8 +49,8 @@ pub unit-form : (s : List ℕ) (file : Text) (u end at : ℕ) → file ≡ fileO
 unfolding unitCalls scopeCalls itemsCalls localItems
 unit-form s file u end at e i = rw (e, i)
 
-pub unit-ready : (s files : List ℕ) (units u : ℕ) → Bytes s → UnitsGiven s files units → (end at : ℕ) → itemsAt depth-limit s end at ≡ itemsOf (decode s) u → Plain (itemsAt depth-limit s end at)
-unit-ready s files units u B x end at i = rw i (unit-plain (decode s) (sound s B (decode s) (accepted s (x .checked)) .1) u)
+pub unit-ready : (s files : List ℕ) (units u : ℕ) → Bytes s → UnitsGiven s files units → (file : Text) (end at : ℕ) → file ≡ fileOf (decode s) u → itemsAt depth-limit s end at ≡ itemsOf (decode s) u → Plain (fileUses s file) (itemsAt depth-limit s end at)
+unit-ready s files units u B x file end at e i = rw (e, i) (unit-plain (decode s) (sound s B (decode s) (accepted s (x .checked)) .1) u)
 
 -- UNITS ONE AFTER THE OTHER
 pub nothing-left : (l : List ℕ) (i : ℕ) → length l ≤ i → drop i l ≡ []

@@ -8,6 +8,7 @@ ghost use Rattle.order.specs.Writing.{started};
 ghost use Rattle.discovery.specs.Walk.{UseMark};
 ghost use Rattle.assembly.specs.Assemble.{assembled};
 ghost use Rattle.assembly.specs.Given.{Lies, UnitsGiven, OrderGiven};
+ghost use Rattle.assembly.specs.Targets.{InFile};
 ghost use Rattle.assembly.specs.Walk.{useBytes};
 ghost use Rattle.linker.specs.Scopes.{isPublic};
 ghost use Rattle.linker.specs.Steps.{item-code, use-size};
@@ -102,7 +103,7 @@ fn use_form(
     place: usize,
     out: &mut [u8],
 ) -> usize
-    requires { ⌜ (Lies (now s) at × UnitsGiven (now s) (now files) units) × (Within (now s) units id file × ((UseMark (now s) place × Fitting (now s) place) × (use-size ≤ length (now out)))) ⌝ }
+    requires { ⌜ (Lies (now s) at × UnitsGiven (now s) (now files) units) × (Within (now s) units id file × ((UseMark (now s) place × Fitting (now s) place × InFile (now s) (pathAt (now s) file) place) × (use-size ≤ length (now out)))) ⌝ }
     ensures { λ r. ⌜ (r ≡ length (useBytes (now (s .entry)) (pathAt (now (s .entry)) file) place)) × ((r ≤ use-size) × (now (out .exit) ≡ started (useBytes (now (s .entry)) (pathAt (now (s .entry)) file) place) (now (out .entry)))) ⌝ }
 {
     assembly::rewrite_use(

@@ -4,9 +4,7 @@ mod steps;
 
 pub use report::write_faults;
 ghost use mathlib.Core.Path.{_≡_};
-ghost use Rattle.bundle.specs.Decode.{decode};
-ghost use Rattle.resolution.specs.Lists.{listsOf};
-ghost use Rattle.discovery.specs.Known.{Table};
+ghost use Rattle.discovery.specs.Complete.{Fresh, Carries};
 ghost use Rattle.order.specs.Call.{orderAnswer, orderReport};
 use discovery::known::KNOWN;
 
@@ -37,10 +35,10 @@ pub struct Answer {
 // 14 where that exceeds the lent buffer, of which then not a byte is changed. Ruled out: the order of unit 0 alone where the
 // entry imports another file; a ring told of a file that imports only itself.
 pub fn order_known(s: &[u8], out: &mut [u8], known: &mut [usize; KNOWN]) -> Answer
-    requires { ⌜ Table (listsOf (decode (now s))) (now s) (now known) ⌝ }
+    requires { ⌜ Fresh (now known) ⌝ }
     ensures { λ r. ⌜ r ≡ orderAnswer (now (s .entry)) (now (out .entry)) ⌝ }
     ensures { λ r. ⌜ now (out .exit) ≡ orderReport (now (s .entry)) (now (out .entry)) ⌝ }
-    ensures { λ r. ⌜ Table (listsOf (decode (now (s .entry)))) (now (s .entry)) (now (known .exit)) ⌝ }
+    ensures { λ r. ⌜ Carries (now (s .entry)) (now (known .exit)) ⌝ }
 {
     let checked = bundle::check(s);
     match checked {

@@ -8,14 +8,14 @@ use denote.Ref.{now}
 use borrow.Author.Needs.{needs}
 use Rattle.order.specs.Writing.{faultRecords}
 use Rattle.order.specs.Report.{reporting, lentReport}
-use Rattle.discovery.specs.Known.{table-none}
+use Rattle.discovery.specs.Complete.{fresh}
 use Rattle.assembly.specs.GivenLaws.{known-linked}
 use Rattle.assembly.specs.Join.{no-units, units-linked, faults-told, image-told}
 use Rattle.assembly.proofs.assemble.Statement.{statement}
 use Rattle.assembly.proofs.assemble.Tie as tie
 
 order-known-requires : tie.Need-order-known-requires
-order-known-requires c κs = table-none _ _
+order-known-requires c κs = fresh
 
 told-requires : tie.Need-told-requires
 told-requires c κs = search needs

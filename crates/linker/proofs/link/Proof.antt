@@ -2,7 +2,7 @@ use native.Mathlib.Omega.{arith}
 use mathlib.Core.Path.{_≡_, _∙_}
 use lib.ListN.{length}
 use denote.Ref.{now}
-use Rattle.discovery.specs.Known.{table-none}
+use Rattle.discovery.specs.Complete.{fresh}
 use Rattle.assembly.specs.GivenLaws.{known-linked}
 use Rattle.assembly.specs.Join.{units-linked}
 use Rattle.linker.specs.Join.{no-units, faults-due, ended-due, image-due}
@@ -11,7 +11,7 @@ use Rattle.linker.proofs.link.Statement.{statement}
 use Rattle.linker.proofs.link.Tie as tie
 
 order-known-requires : tie.Need-order-known-requires
-order-known-requires c κs = table-none _ _
+order-known-requires c κs = fresh
 
 told-requires : tie.Need-told-requires
 told-requires c κs = search needs

@@ -1,11 +1,11 @@
 -- `order` meets its contract. Assumes nothing.
 use borrow.Author.Needs.{needs}
-use Rattle.discovery.specs.Known.{table-none}
+use Rattle.discovery.specs.Complete.{fresh}
 use Rattle.order.proofs.order.Statement.{statement}
 use Rattle.order.proofs.order.Tie as tie
 
 order-known-requires : tie.Need-order-known-requires
-order-known-requires c κs = table-none _ _
+order-known-requires c κs = fresh
 
 same-length : tie.Need-same-length
 same-length c = search needs

@@ -6,6 +6,7 @@ use Rattle.bundle.specs.Stand.{Bytes}
 use Rattle.bundle.specs.Read.{verdict}
 use Rattle.bundle.specs.declared.Checked.the-variants.{Ok}
 use Rattle.order.specs.Join.{turned-back, ready, answered}
+use Rattle.discovery.specs.Complete.{carries-all, carries-none}
 use borrow.Author.Needs.{needs}
 use Rattle.order.proofs.order_known.Statement.{statement}
 use Rattle.order.proofs.order_known.Tie as tie
@@ -33,7 +34,7 @@ order-of-requires c κs =
 returns : tie.Need-returns
 returns c =
     let t = turned-back (now (c .before .before .before .before .before .before .before .args .s)) (now (c .before .before .before .before .before .before .before .args .out)) (c .refuse .result) _ _ (sym (c .before .before .before .before .check .ensures) ∙ c .before .before .checked .given .1) (c .refuse .ensures) in
-    (t .0, (t .1, c .before .before .before .before .before .before .before .pre))
+    (t .0, (t .1, carries-none _ _ _ _ (sym (c .before .before .before .before .check .ensures) ∙ c .before .before .checked .given .1) (c .before .before .before .before .before .before .before .pre)))
 
 same-length : tie.Need-same-length
 same-length c = search needs
@@ -43,7 +44,7 @@ returns-2 c =
     let bytes : Bytes (now (c .before .before .before .before .before .before .before .before .before .before .before .args .s)) = λ i. omega (arith, c .before .before .before .before .before .before .before .before .before .before .shared-slice-known .given i) in
     let t = answered (now (c .before .before .before .before .before .before .before .before .before .before .before .args .s)) bytes (sym (c .before .before .before .before .before .before .before .before .check .ensures) ∙ c .before .before .before .before .before .before .enum-told .given .1) (c .before .before .before .before .discover .result) (c .before .before .before .before .discover .ensures .0)
     (now (c .before .before .before .before .before .before .before .before .before .before .before .args .out)) (c .before .before .order-of .last .1 .0) (c .before .before .order-of .result) (c .before .before .order-of .ensures .0) (c .before .before .order-of .ensures .1) in
-    (t .0, (t .1, c .before .before .before .before .discover .ensures .1))
+    (t .0, (t .1, carries-all _ _ bytes (sym (c .before .before .before .before .before .before .before .before .check .ensures) ∙ c .before .before .before .before .before .before .enum-told .given .1) (c .before .before .before .before .discover .ensures .1)))
 
 pub order-known-spec : {M : Type 1} → statement M
 order-known-spec =

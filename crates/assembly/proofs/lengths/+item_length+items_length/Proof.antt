@@ -7,6 +7,7 @@ use denote.Ref.{now}
 use borrow.Author.Needs.{needs}
 use borrow.Fn.Kinds.{In}
 use borrow.Fn.PlainCycle.{Measures, is, falls, and}
+use Rattle.bundle.specs.Decode.{itemsAt}
 use Rattle.bundle.specs.Scan.{text}
 use Rattle.bundle.specs.Encode.{string, counted, element}
 use Rattle.bundle.proofs.item_kind.Reads as item-kind-reads
@@ -15,9 +16,9 @@ use Rattle.bundle.proofs.module_items.Reads as module-items-reads
 use Rattle.bundle.proofs.next_item.Reads as next-item-reads
 use Rattle.discovery.specs.Walk.{use-mark}
 use Rattle.assembly.specs.Uses.{use-form}
-use Rattle.assembly.specs.Targets.{pathBy}
+use Rattle.assembly.specs.Targets.{fileUses, pathBy}
 use Rattle.assembly.specs.Strings.{text-short, string-length}
-use Rattle.assembly.specs.Walk.{itemBytes, itemsBytes, segmentsAt, elementsAt, bytes-end, next-bytes, ignored-bytes, use-bytes, named-bytes, flat-bytes, module-bytes, name-text}
+use Rattle.assembly.specs.Walk.{itemBytes, itemsBytes, segmentsAt, elementsAt, bytes-end, next-bytes, ignored-bytes, use-bytes, named-bytes, flat-bytes, module-bytes, name-text, Brief, brief-known, brief-inside, brief-here, brief-next}
 use Rattle.assembly.specs.Parts.{Counted, counted-none, counted-more, counted-all}
 use Rattle.assembly.proofs.lengths.item_length.Reads as item-length
 use Rattle.assembly.proofs.lengths.item_length.Kinds as item-length-kinds
@@ -116,7 +117,7 @@ item-length-target-of-requires : (t : ℕ) → item-length-lts.Need-target-of-re
   items-length-below t,
   items-length.Post,
 ) (item-length-at t) item-length.Post
-item-length-target-of-requires t c κs = (c .before .before .before .before .before .before .pre .1 .0, use-mark (c .before .before .before .before .before .before .args .depth) (c .before .before .before .before .before .before .args .s .now) (c .before .before .before .before .before .before .args .place) (c .before .before .item-kind .result) (c .before .before .item-kind .ensures) (c .if2 .taken) (let q = c .before .before .before .before .before .before .pre .1 .1 in omega arith))
+item-length-target-of-requires t c κs = (c .before .before .before .before .before .before .pre .1 .0, use-mark (c .before .before .before .before .before .before .args .depth) (c .before .before .before .before .before .before .args .s .now) (c .before .before .before .before .before .before .args .place) (c .before .before .item-kind .result) (c .before .before .item-kind .ensures) (c .if2 .taken) (let q = c .before .before .before .before .before .before .pre .1 .1 in omega arith), brief-known (fileUses (c .before .before .before .before .before .before .args .s .now) (c .before .before .before .before .before .before .args .file .now)) (c .before .before .before .before .before .before .args .s .now) (c .before .before .before .before .before .before .args .place) (c .before .before .item-kind .result) (c .before .before .item-kind .ensures) (c .before .before .before .before .before .before .args .depth) (c .before .before .before .before .before .before .pre .1 .2) (c .if2 .taken))
 
 item-length-path-length-requires : (t : ℕ) → item-length-lts.Need-path-length-requires (
   item-kind-reads.Asked,
@@ -370,7 +371,7 @@ item-length-items-length-requires : (t : ℕ) → item-length-lts.Need-items-len
   items-length-below t,
   items-length.Post,
 ) (item-length-at t) item-length.Post
-item-length-items-length-requires t c κs = (search needs, (c .before .before .before .before .before .before .before .before .before .before .pre .1 .0, search needs))
+item-length-items-length-requires t c κs = (search needs, (c .before .before .before .before .before .before .before .before .before .before .pre .1 .0, search needs, brief-inside (fileUses (c .before .before .before .before .before .before .before .before .before .before .args .s .now) (c .before .before .before .before .before .before .before .before .before .before .args .file .now)) (c .before .before .before .before .before .before .before .before .before .before .args .s .now) (c .before .before .before .before .before .before .before .before .before .before .args .place) (c .before .before .before .before .before .before .item-kind .result) (c .before .before .before .before .before .before .item-kind .ensures) (c .before .before .before .before .before .before .before .before .before .before .args .depth) (c .before .before .before .before .before .before .before .before .before .before .pre .1 .2) (c .module-items .result .end) (c .module-items .result .at) (c .before .before .if3 .left) (c .before .if4 .left) (c .module-items .ensures .0)))
 
 item-length-capped-requires-2 : (t : ℕ) → item-length-lts.Need-capped-requires-2 (
   item-kind-reads.Asked,
@@ -422,7 +423,7 @@ item-length-returns-5 t c =
     omega (arith, string-length (text (c .before .before .before .before .before .before .before .before .before .before .before .before .args .s .now) (c .before .before .before .before .before .before .before .before .before .before .before .before .args .place + 4)), length-append (string (text (c .before .before .before .before .before .before .before .before .before .before .before .before .args .s .now) (c .before .before .before .before .before .before .before .before .before .before .before .before .args .place + 4))) (itemsBytes (c .before .before .before .before .before .before .before .before .before .before .before .before .args .s .now) (c .before .before .before .before .before .before .before .before .before .before .before .before .args .file .now) (c .before .before .before .before .before .before .before .before .before .before .before .before .args .depth - 1) (c .before .before .module-items .result .end) (c .before .before .module-items .result .at)))
 
 abbrev items-length-Inv-loop : items-length-lts.InvT-loop
-items-length-Inv-loop s at file index files units from end depth sum₀ a₀ sum a = Counted (itemsBytes s file depth end from) (itemsBytes s file depth end a) 65536 sum
+items-length-Inv-loop s at file index files units from end depth sum₀ a₀ sum a = Counted (itemsBytes s file depth end from) (itemsBytes s file depth end a) 65536 sum × Brief (fileUses s file) (itemsAt depth s end a)
 
 abbrev items-length-μ-loop : items-length-lts.MeasureT-loop
 items-length-μ-loop s at file index files units from end depth sum₀ a₀ sum a = end - a
@@ -435,7 +436,7 @@ items-length-loop-holds : (t : ℕ) → items-length-lts.Need-loop-holds (
   next-item-reads.Asked,
   next-item-reads.Learnt,
 ) (items-length-at t) items-length.Post items-length-Inv-loop items-length-μ-loop
-items-length-loop-holds t c = counted-none (itemsBytes (c .before .before .before .args .s .now) (c .before .before .before .args .file .now) (c .before .before .before .args .depth) (c .before .before .before .args .end) (c .before .before .before .args .from)) 65536
+items-length-loop-holds t c = (counted-none (itemsBytes (c .before .before .before .args .s .now) (c .before .before .before .args .file .now) (c .before .before .before .args .depth) (c .before .before .before .args .end) (c .before .before .before .args .from)) 65536, c .before .before .before .pre .1 .2)
 
 items-length-item-length-requires : (t : ℕ) → items-length-lts.Need-item-length-requires (
   item-length-below t,
@@ -445,7 +446,7 @@ items-length-item-length-requires : (t : ℕ) → items-length-lts.Need-item-len
   next-item-reads.Asked,
   next-item-reads.Learnt,
 ) (items-length-at t) items-length.Post items-length-Inv-loop items-length-μ-loop
-items-length-item-length-requires t c κs = search needs
+items-length-item-length-requires t c κs = (search needs, (c .before .before .before .before .before .pre .1 .0, search needs, brief-here (fileUses (c .before .before .before .before .before .args .s .now) (c .before .before .before .before .before .args .file .now)) (c .before .before .before .before .before .args .s .now) (c .before .before .before .before .before .args .depth) (c .before .before .before .before .before .args .end) (c .before .loop .a) (c .loop-test .taken) (c .before .loop .inv .1)))
 
 items-length-capped-requires : (t : ℕ) → items-length-lts.Need-capped-requires (
   item-length-below t,
@@ -455,7 +456,7 @@ items-length-capped-requires : (t : ℕ) → items-length-lts.Need-capped-requir
   next-item-reads.Asked,
   next-item-reads.Learnt,
 ) (items-length-at t) items-length.Post items-length-Inv-loop items-length-μ-loop
-items-length-capped-requires t c κs = search needs
+items-length-capped-requires t c κs = let n = c .before .before .loop .inv .0 in search needs
 
 items-length-next-item-requires : (t : ℕ) → items-length-lts.Need-next-item-requires (
   item-length-below t,
@@ -485,7 +486,7 @@ items-length-loop-again : (t : ℕ) → items-length-lts.Need-loop-again (
   next-item-reads.Asked,
   next-item-reads.Learnt,
 ) (items-length-at t) items-length.Post items-length-Inv-loop items-length-μ-loop
-items-length-loop-again t c = counted-more _ _ _ _ (c .before .before .before .before .loop .inv) (itemBytes (c .before .before .before .before .before .before .before .before .args .s .now) (c .before .before .before .before .before .before .before .before .args .file .now) (c .before .before .before .before .before .before .before .before .args .depth) (c .before .before .before .before .loop .a)) (itemsBytes (c .before .before .before .before .before .before .before .before .args .s .now) (c .before .before .before .before .before .before .before .before .args .file .now) (c .before .before .before .before .before .before .before .before .args .depth) (c .before .before .before .before .before .before .before .before .args .end) (c .next-item .result)) (c .before .before .item-length .result) (c .before .capped .result) (next-bytes (c .before .before .before .before .before .before .before .before .args .s .now) (c .before .before .before .before .before .before .before .before .args .file .now) (c .before .before .before .before .before .before .before .before .args .depth) (c .before .before .before .before .before .before .before .before .args .end) (c .before .before .before .before .loop .a) (c .next-item .result) (c .before .before .before .loop-test .taken) (c .next-item .ensures .0)) (c .before .before .item-length .ensures) (c .before .capped .ensures)
+items-length-loop-again t c = (counted-more _ _ _ _ (c .before .before .before .before .loop .inv .0) (itemBytes (c .before .before .before .before .before .before .before .before .args .s .now) (c .before .before .before .before .before .before .before .before .args .file .now) (c .before .before .before .before .before .before .before .before .args .depth) (c .before .before .before .before .loop .a)) (itemsBytes (c .before .before .before .before .before .before .before .before .args .s .now) (c .before .before .before .before .before .before .before .before .args .file .now) (c .before .before .before .before .before .before .before .before .args .depth) (c .before .before .before .before .before .before .before .before .args .end) (c .next-item .result)) (c .before .before .item-length .result) (c .before .capped .result) (next-bytes (c .before .before .before .before .before .before .before .before .args .s .now) (c .before .before .before .before .before .before .before .before .args .file .now) (c .before .before .before .before .before .before .before .before .args .depth) (c .before .before .before .before .before .before .before .before .args .end) (c .before .before .before .before .loop .a) (c .next-item .result) (c .before .before .before .loop-test .taken) (c .next-item .ensures .0)) (c .before .before .item-length .ensures) (c .before .capped .ensures), brief-next (fileUses (c .before .before .before .before .before .before .before .before .args .s .now) (c .before .before .before .before .before .before .before .before .args .file .now)) (c .before .before .before .before .before .before .before .before .args .s .now) (c .before .before .before .before .before .before .before .before .args .depth) (c .before .before .before .before .before .before .before .before .args .end) (c .before .before .before .before .loop .a) (c .next-item .result) (c .before .before .before .loop-test .taken) (c .next-item .ensures .0) (c .before .before .before .before .loop .inv .1) .1)
 
 items-length-returns : (t : ℕ) → items-length-lts.Need-returns (
   item-length-below t,
@@ -495,7 +496,7 @@ items-length-returns : (t : ℕ) → items-length-lts.Need-returns (
   next-item-reads.Asked,
   next-item-reads.Learnt,
 ) (items-length-at t) items-length.Post items-length-Inv-loop items-length-μ-loop
-items-length-returns t c = counted-all _ _ _ _ (c .before .loop .inv) (bytes-end (c .before .before .before .before .before .args .s .now) (c .before .before .before .before .before .args .file .now) (c .before .before .before .before .before .args .depth) (c .before .before .before .before .before .args .end) (c .before .loop .a) (c .loop-test .left))
+items-length-returns t c = counted-all _ _ _ _ (c .before .loop .inv .0) (bytes-end (c .before .before .before .before .before .args .s .now) (c .before .before .before .before .before .args .file .now) (c .before .before .before .before .before .args .depth) (c .before .before .before .before .before .args .end) (c .before .loop .a) (c .loop-test .left))
 
 pub +item-length+items-length-spec : {M : Type 1} → statement M
 +item-length+items-length-spec = close μ-item-length μ-items-length (λ t. item-length-lts.spec (

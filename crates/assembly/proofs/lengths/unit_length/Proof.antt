@@ -7,7 +7,7 @@ use denote.Ref.{now}
 use borrow.Author.Needs.{needs}
 use Rattle.names.specs.Decimal.{unitName}
 use Rattle.bundle.specs.Encode.{string}
-use Rattle.assembly.specs.GivenLaws.{index-small, items-are, path-is, one-unit, unit-of, unit-form}
+use Rattle.assembly.specs.GivenLaws.{index-small, items-are, path-is, one-unit, unit-of, unit-brief, unit-form}
 use Rattle.assembly.specs.Uses.{name-length}
 use Rattle.assembly.specs.Walk.{itemsBytes}
 use Rattle.assembly.proofs.lengths.unit_length.Statement.{statement}
@@ -32,7 +32,7 @@ file-path-requires : tie.Need-file-path-requires
 file-path-requires c κs = search needs
 
 items-length-requires : tie.Need-items-length-requires
-items-length-requires c κs = (unit-of (c .before .before .before .before .before .before .before .args .s .now) (c .before .before .before .before .before .before .before .args .files .now) (c .before .before .before .before .before .before .before .args .units) (c .before .before .before .before .before .before .before .pre .0 .1) (c .before .before .before .before .before .before .before .args .at) (now (c .file-path .result)) (c .before .before .before .before .before .before .before .args .u) (c .before .before .before .before .before .before .before .pre .0 .0) (c .before .before .before .before .before .before .before .pre .1) (c .file-path .ensures ∙ path-is (c .before .before .before .before .before .before .before .args .s .now) (c .before .before .before .before .before .before .before .args .files .now) (c .before .before .before .before .before .before .before .args .u) (one-unit (c .before .before .before .before .before .before .before .args .s .now) (c .before .before .before .before .before .before .before .args .files .now) (c .before .before .before .before .before .before .before .args .units) (c .before .before .before .before .before .before .before .pre .0 .1) (c .before .before .before .before .before .before .before .args .u) (c .before .before .before .before .before .before .before .pre .1)) (c .before .before .before .file-at .result) (c .before .before .before .file-at .ensures .0)), (let x = c .before .before .file-items .ensures .1 in let y = c .before .before .before .file-at .ensures .1 in omega arith))
+items-length-requires c κs = (unit-of (c .before .before .before .before .before .before .before .args .s .now) (c .before .before .before .before .before .before .before .args .files .now) (c .before .before .before .before .before .before .before .args .units) (c .before .before .before .before .before .before .before .pre .0 .1) (c .before .before .before .before .before .before .before .args .at) (now (c .file-path .result)) (c .before .before .before .before .before .before .before .args .u) (c .before .before .before .before .before .before .before .pre .0 .0) (c .before .before .before .before .before .before .before .pre .1) (c .file-path .ensures ∙ path-is (c .before .before .before .before .before .before .before .args .s .now) (c .before .before .before .before .before .before .before .args .files .now) (c .before .before .before .before .before .before .before .args .u) (one-unit (c .before .before .before .before .before .before .before .args .s .now) (c .before .before .before .before .before .before .before .args .files .now) (c .before .before .before .before .before .before .before .args .units) (c .before .before .before .before .before .before .before .pre .0 .1) (c .before .before .before .before .before .before .before .args .u) (c .before .before .before .before .before .before .before .pre .1)) (c .before .before .before .file-at .result) (c .before .before .before .file-at .ensures .0)), (let x = c .before .before .file-items .ensures .1 in let y = c .before .before .before .file-at .ensures .1 in omega arith), unit-brief (c .before .before .before .before .before .before .before .args .s .now) (c .before .before .before .before .before .before .before .args .files .now) (c .before .before .before .before .before .before .before .args .units) (c .before .before .before .before .before .before .before .pre .0 .1) (λ i. omega (arith, c .before .before .before .before .before .before .shared-slice-known .given i)) (c .before .before .before .before .before .before .before .args .u) (now (c .file-path .result)) _ (c .file-path .ensures ∙ path-is (c .before .before .before .before .before .before .before .args .s .now) (c .before .before .before .before .before .before .before .args .files .now) (c .before .before .before .before .before .before .before .args .u) (one-unit (c .before .before .before .before .before .before .before .args .s .now) (c .before .before .before .before .before .before .before .args .files .now) (c .before .before .before .before .before .before .before .args .units) (c .before .before .before .before .before .before .before .pre .0 .1) (c .before .before .before .before .before .before .before .args .u) (c .before .before .before .before .before .before .before .pre .1)) (c .before .before .before .file-at .result) (c .before .before .before .file-at .ensures .0)) (c .before .before .file-items .ensures .0 ∙ items-are (c .before .before .before .before .before .before .before .args .s .now) (c .before .before .before .before .before .before .before .args .files .now) (c .before .before .before .before .before .before .before .args .u) (one-unit (c .before .before .before .before .before .before .before .args .s .now) (c .before .before .before .before .before .before .before .args .files .now) (c .before .before .before .before .before .before .before .args .units) (c .before .before .before .before .before .before .before .pre .0 .1) (c .before .before .before .before .before .before .before .args .u) (c .before .before .before .before .before .before .before .pre .1)) (c .before .before .before .file-at .result) (c .before .before .before .file-at .ensures .0)))
 
 add-capped : tie.Need-add-capped
 add-capped c = search needs

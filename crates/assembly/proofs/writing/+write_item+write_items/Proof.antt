@@ -22,7 +22,8 @@ use Rattle.discovery.specs.Walk.{use-mark}
 use Rattle.order.specs.Writing.{started}
 use Rattle.assembly.specs.Written.{Begun, Inside, by-name, by-name-inside, leaf-length, leaf-done, inside-start, inside-room, inside-short, inside-length, inside-done}
 use Rattle.assembly.specs.Strings.{text-short}
-use Rattle.assembly.specs.Walk.{Brief, itemBytes, itemsBytes, useBytes, bytes-end, bytes-step, next-bytes, ignored-bytes, use-bytes, named-bytes, start-room, flat-bytes, module-bytes, name-text, visibility-at, kind-byte, brief-here, brief-next, brief-use, brief-inside}
+use Rattle.assembly.specs.Targets.{fileUses}
+use Rattle.assembly.specs.Walk.{Brief, brief-known, itemBytes, itemsBytes, useBytes, bytes-end, bytes-step, next-bytes, ignored-bytes, use-bytes, named-bytes, start-room, flat-bytes, module-bytes, name-text, visibility-at, kind-byte, brief-here, brief-next, brief-use, brief-inside}
 use Rattle.assembly.specs.Parts.{Filled, lent-length, filled-none, filled-length, filled-start, filled-room, filled-part, filled-more, filled-all, none-filled, headBytes}
 use Rattle.assembly.proofs.writing.+write_item+write_items.{statement}
 use Rattle.assembly.proofs.writing.+write_item+write_items.Tie.{close}
@@ -152,7 +153,7 @@ write-item-write-use-requires t c κs =
     let r = c .before .before .before .before .before .before .before .before .pre .1 .1 .1 .0 in
     let h = c .before .before .before .before .before .before .before .before .pre .1 .1 .1 .1 in
     let g : 4 + length (useBytes (c .before .before .before .before .before .before .before .before .args .s .now) (c .before .before .before .before .before .before .before .before .args .file .now) (c .before .before .before .before .before .before .before .before .args .place)) ≤ length (now (c .before .before .before .before .before .before .before .before .args .out)) = omega arith in
-    ((c .before .before .before .before .before .before .before .before .pre .1 .0 .0, use-mark (c .before .before .before .before .before .before .before .before .args .depth) (c .before .before .before .before .before .before .before .before .args .s .now) (c .before .before .before .before .before .before .before .before .args .place) (c .before .before .before .item-kind .result) (c .before .before .before .item-kind .ensures) (c .before .if2 .taken) (let q = c .before .before .before .before .before .before .before .before .pre .1 .0 .1 in omega arith)), (brief-use (c .before .before .before .before .before .before .before .before .args .s .now) (c .before .before .before .before .before .before .before .before .args .place) (c .before .before .before .item-kind .result) (c .before .before .before .item-kind .ensures) (c .before .before .before .before .before .before .before .before .args .depth) (c .before .before .before .before .before .before .before .before .pre .1 .1 .0) (c .before .if2 .taken), (g, omega arith)))
+    ((c .before .before .before .before .before .before .before .before .pre .1 .0 .0, use-mark (c .before .before .before .before .before .before .before .before .args .depth) (c .before .before .before .before .before .before .before .before .args .s .now) (c .before .before .before .before .before .before .before .before .args .place) (c .before .before .before .item-kind .result) (c .before .before .before .item-kind .ensures) (c .before .if2 .taken) (let q = c .before .before .before .before .before .before .before .before .pre .1 .0 .1 in omega arith), brief-known (fileUses (c .before .before .before .before .before .before .before .before .args .s .now) (c .before .before .before .before .before .before .before .before .args .file .now)) (c .before .before .before .before .before .before .before .before .args .s .now) (c .before .before .before .before .before .before .before .before .args .place) (c .before .before .before .item-kind .result) (c .before .before .before .item-kind .ensures) (c .before .before .before .before .before .before .before .before .args .depth) (c .before .before .before .before .before .before .before .before .pre .1 .1 .0) (c .before .if2 .taken)), (brief-use (fileUses (c .before .before .before .before .before .before .before .before .args .s .now) (c .before .before .before .before .before .before .before .before .args .file .now)) (c .before .before .before .before .before .before .before .before .args .s .now) (c .before .before .before .before .before .before .before .before .args .place) (c .before .before .before .item-kind .result) (c .before .before .before .item-kind .ensures) (c .before .before .before .before .before .before .before .before .args .depth) (c .before .before .before .before .before .before .before .before .pre .1 .1 .0) (c .before .if2 .taken), (g, omega arith)))
 
 write-item-same-length : (t : ℕ) → write-item-lts.Need-same-length (
   item-kind-reads.Asked,
@@ -548,7 +549,7 @@ write-item-write-items-requires : (t : ℕ) → write-item-lts.Need-write-items-
   write-items-below t,
   write-items.Post,
 ) (write-item-at t) write-item.Post
-write-item-write-items-requires t c κs = (search needs, ((c .before .before .before .before .before .before .before .before .before .before .before .before .before .before .before .before .before .pre .1 .0 .0, search needs), (brief-inside (c .before .before .before .before .before .before .before .before .before .before .before .before .before .before .before .before .before .args .s .now) (c .before .before .before .before .before .before .before .before .before .before .before .before .before .before .before .before .before .args .place) (c .before .before .before .before .before .before .before .before .before .before .before .before .item-kind .result) (c .before .before .before .before .before .before .before .before .before .before .before .before .item-kind .ensures) (c .before .before .before .before .before .before .before .before .before .before .before .before .before .before .before .before .before .args .depth) (c .before .before .before .before .before .before .before .before .before .before .before .before .before .before .before .before .before .pre .1 .1 .0) (c .before .module-items .result .end) (c .before .module-items .result .at) (c .before .before .before .if3 .left) (c .before .before .if4 .left) (c .before .module-items .ensures .0), (inside-room (inside t (c .before)), inside-short (inside t (c .before))))))
+write-item-write-items-requires t c κs = (search needs, ((c .before .before .before .before .before .before .before .before .before .before .before .before .before .before .before .before .before .pre .1 .0 .0, search needs), (brief-inside (fileUses (c .before .before .before .before .before .before .before .before .before .before .before .before .before .before .before .before .before .args .s .now) (c .before .before .before .before .before .before .before .before .before .before .before .before .before .before .before .before .before .args .file .now)) (c .before .before .before .before .before .before .before .before .before .before .before .before .before .before .before .before .before .args .s .now) (c .before .before .before .before .before .before .before .before .before .before .before .before .before .before .before .before .before .args .place) (c .before .before .before .before .before .before .before .before .before .before .before .before .item-kind .result) (c .before .before .before .before .before .before .before .before .before .before .before .before .item-kind .ensures) (c .before .before .before .before .before .before .before .before .before .before .before .before .before .before .before .before .before .args .depth) (c .before .before .before .before .before .before .before .before .before .before .before .before .before .before .before .before .before .pre .1 .1 .0) (c .before .module-items .result .end) (c .before .module-items .result .at) (c .before .before .before .if3 .left) (c .before .before .if4 .left) (c .before .module-items .ensures .0), (inside-room (inside t (c .before)), inside-short (inside t (c .before))))))
 
 write-item-add-put-two : (t : ℕ) → write-item-lts.Need-add-put-two (
   item-kind-reads.Asked,
@@ -671,7 +672,7 @@ write-item-returns-5 : (t : ℕ) → write-item-lts.Need-returns-5 (
 write-item-returns-5 t c = inside-done (inside t (c .before .before .before .before .before .before .before .before)) (c .before .before .before .before .before .before .write-items .last .1 .1 .1 .1 .1 .1 .1 .1 .1 .0) (c .before .before .before .before .before .before .write-items .result) (c .before .before .before .before .before .before .write-items .ensures) (c .before .before .put-two3 .last .0) (c .before .before .put-two3 .ensures)
 
 abbrev write-items-Inv-loop : write-items-lts.InvT-loop
-write-items-Inv-loop s at file index files units from end depth out₀ sum₀ a₀ out sum a = Filled (itemsBytes s file depth end from) (itemsBytes s file depth end a) out₀ out sum × ((length (itemsBytes s file depth end from) ≤ length out₀) × Brief (itemsAt depth s end a))
+write-items-Inv-loop s at file index files units from end depth out₀ sum₀ a₀ out sum a = Filled (itemsBytes s file depth end from) (itemsBytes s file depth end a) out₀ out sum × ((length (itemsBytes s file depth end from) ≤ length out₀) × Brief (fileUses s file) (itemsAt depth s end a))
 
 abbrev write-items-μ-loop : write-items-lts.MeasureT-loop
 write-items-μ-loop s at file index files units from end depth out₀ sum₀ a₀ out sum a = end - a
@@ -718,7 +719,7 @@ write-items-write-item-requires t c κs =
     let r = filled-room _ _ _ _ _ (c .before .before .loop .inv .0) (c .before .before .loop .inv .1 .0) (itemBytes (c .before .before .before .before .before .before .before .args .s .now) (c .before .before .before .before .before .before .before .args .file .now) (c .before .before .before .before .before .before .before .args .depth) (c .before .before .loop .a)) (itemsBytes (c .before .before .before .before .before .before .before .args .s .now) (c .before .before .before .before .before .before .before .args .file .now) (c .before .before .before .before .before .before .before .args .depth) (c .before .before .before .before .before .before .before .args .end) (afterLength (c .before .before .before .before .before .before .before .args .s .now) (c .before .before .loop .a))) (bytes-step (c .before .before .before .before .before .before .before .args .s .now) (c .before .before .before .before .before .before .before .args .file .now) (c .before .before .before .before .before .before .before .args .depth) (c .before .before .before .before .before .before .before .args .end) (c .before .before .loop .a) (c .before .loop-test .taken)) in
     let l = filled-part _ _ _ _ _ (c .before .before .loop .inv .0) (c .before .before .loop .inv .1 .0) (itemBytes (c .before .before .before .before .before .before .before .args .s .now) (c .before .before .before .before .before .before .before .args .file .now) (c .before .before .before .before .before .before .before .args .depth) (c .before .before .loop .a)) (itemsBytes (c .before .before .before .before .before .before .before .args .s .now) (c .before .before .before .before .before .before .before .args .file .now) (c .before .before .before .before .before .before .before .args .depth) (c .before .before .before .before .before .before .before .args .end) (afterLength (c .before .before .before .before .before .before .before .args .s .now) (c .before .before .loop .a))) (bytes-step (c .before .before .before .before .before .before .before .args .s .now) (c .before .before .before .before .before .before .before .args .file .now) (c .before .before .before .before .before .before .before .args .depth) (c .before .before .before .before .before .before .before .args .end) (c .before .before .loop .a) (c .before .loop-test .taken)) in
     let h = c .before .before .before .before .before .before .before .pre .1 .1 .1 .1 in
-    (search needs, ((c .before .before .before .before .before .before .before .pre .1 .0 .0, search needs), (brief-here (c .before .before .before .before .before .before .before .args .s .now) (c .before .before .before .before .before .before .before .args .depth) (c .before .before .before .before .before .before .before .args .end) (c .before .before .loop .a) (c .before .loop-test .taken) (c .before .before .loop .inv .1 .1), (r, omega arith))))
+    (search needs, ((c .before .before .before .before .before .before .before .pre .1 .0 .0, search needs), (brief-here (fileUses (c .before .before .before .before .before .before .before .args .s .now) (c .before .before .before .before .before .before .before .args .file .now)) (c .before .before .before .before .before .before .before .args .s .now) (c .before .before .before .before .before .before .before .args .depth) (c .before .before .before .before .before .before .before .args .end) (c .before .before .loop .a) (c .before .loop-test .taken) (c .before .before .loop .inv .1 .1), (r, omega arith))))
 
 write-items-add-sum : (t : ℕ) → write-items-lts.Need-add-sum (
   write-item-below t,
@@ -757,7 +758,7 @@ write-items-loop-again : (t : ℕ) → write-items-lts.Need-loop-again (
   next-item-reads.Asked,
   next-item-reads.Learnt,
 ) (write-items-at t) write-items.Post write-items-Inv-loop write-items-μ-loop
-write-items-loop-again t c = (filled-more _ _ _ _ _ (c .before .before .before .before .before .before .loop .inv .0) (c .before .before .before .before .before .before .loop .inv .1 .0) (itemBytes (c .before .before .before .before .before .before .before .before .before .before .before .args .s .now) (c .before .before .before .before .before .before .before .before .before .before .before .args .file .now) (c .before .before .before .before .before .before .before .before .before .before .before .args .depth) (c .before .before .before .before .before .before .loop .a)) (itemsBytes (c .before .before .before .before .before .before .before .before .before .before .before .args .s .now) (c .before .before .before .before .before .before .before .before .before .before .before .args .file .now) (c .before .before .before .before .before .before .before .before .before .before .before .args .depth) (c .before .before .before .before .before .before .before .before .before .before .before .args .end) (c .next-item .result)) (c .before .before .before .write-item .last .1 .1 .1 .1 .1 .1 .1 .1 .0) (c .before .before .before .write-item .result) (next-bytes (c .before .before .before .before .before .before .before .before .before .before .before .args .s .now) (c .before .before .before .before .before .before .before .before .before .before .before .args .file .now) (c .before .before .before .before .before .before .before .before .before .before .before .args .depth) (c .before .before .before .before .before .before .before .before .before .before .before .args .end) (c .before .before .before .before .before .before .loop .a) (c .next-item .result) (c .before .before .before .before .before .loop-test .taken) (c .next-item .ensures .0)) (c .before .before .before .write-item .ensures .1) (c .before .before .before .write-item .ensures .0), (c .before .before .before .before .before .before .loop .inv .1 .0, brief-next (c .before .before .before .before .before .before .before .before .before .before .before .args .s .now) (c .before .before .before .before .before .before .before .before .before .before .before .args .depth) (c .before .before .before .before .before .before .before .before .before .before .before .args .end) (c .before .before .before .before .before .before .loop .a) (c .next-item .result) (c .before .before .before .before .before .loop-test .taken) (c .next-item .ensures .0) (c .before .before .before .before .before .before .loop .inv .1 .1) .1))
+write-items-loop-again t c = (filled-more _ _ _ _ _ (c .before .before .before .before .before .before .loop .inv .0) (c .before .before .before .before .before .before .loop .inv .1 .0) (itemBytes (c .before .before .before .before .before .before .before .before .before .before .before .args .s .now) (c .before .before .before .before .before .before .before .before .before .before .before .args .file .now) (c .before .before .before .before .before .before .before .before .before .before .before .args .depth) (c .before .before .before .before .before .before .loop .a)) (itemsBytes (c .before .before .before .before .before .before .before .before .before .before .before .args .s .now) (c .before .before .before .before .before .before .before .before .before .before .before .args .file .now) (c .before .before .before .before .before .before .before .before .before .before .before .args .depth) (c .before .before .before .before .before .before .before .before .before .before .before .args .end) (c .next-item .result)) (c .before .before .before .write-item .last .1 .1 .1 .1 .1 .1 .1 .1 .0) (c .before .before .before .write-item .result) (next-bytes (c .before .before .before .before .before .before .before .before .before .before .before .args .s .now) (c .before .before .before .before .before .before .before .before .before .before .before .args .file .now) (c .before .before .before .before .before .before .before .before .before .before .before .args .depth) (c .before .before .before .before .before .before .before .before .before .before .before .args .end) (c .before .before .before .before .before .before .loop .a) (c .next-item .result) (c .before .before .before .before .before .loop-test .taken) (c .next-item .ensures .0)) (c .before .before .before .write-item .ensures .1) (c .before .before .before .write-item .ensures .0), (c .before .before .before .before .before .before .loop .inv .1 .0, brief-next (fileUses (c .before .before .before .before .before .before .before .before .before .before .before .args .s .now) (c .before .before .before .before .before .before .before .before .before .before .before .args .file .now)) (c .before .before .before .before .before .before .before .before .before .before .before .args .s .now) (c .before .before .before .before .before .before .before .before .before .before .before .args .depth) (c .before .before .before .before .before .before .before .before .before .before .before .args .end) (c .before .before .before .before .before .before .loop .a) (c .next-item .result) (c .before .before .before .before .before .loop-test .taken) (c .next-item .ensures .0) (c .before .before .before .before .before .before .loop .inv .1 .1) .1))
 
 write-items-same-length : (t : ℕ) → write-items-lts.Need-same-length (
   write-item-below t,

@@ -14,7 +14,7 @@ use Rattle.assembly.specs.Written.{Inside, inside-start, inside-room, in
 use Rattle.assembly.specs.Given.{OneUnit, unitBytes}
 use Rattle.assembly.specs.GivenLaws.{index-small, items-are, path-is, one-unit, unit-of, unit-brief, unit-room, unit-form}
 use Rattle.assembly.specs.Assemble.{fileOf, itemsOf}
-use Rattle.assembly.specs.Walk.{itemsBytes, Brief}
+use Rattle.assembly.specs.Walk.{itemsBytes}
 use Rattle.assembly.proofs.writing.write_unit.Statement.{statement}
 use Rattle.assembly.proofs.writing.write_unit.Tie as tie
 
@@ -66,7 +66,7 @@ part-write-items-end c = search needs
 write-items-requires : tie.Need-write-items-requires
 write-items-requires c κs =
     let p = c .before in
-    ((unit-of (c .before .before .before .before .before .before .before .before .before .before .before .before .args .s .now) (c .before .before .before .before .before .before .before .before .before .before .before .before .args .files .now) (c .before .before .before .before .before .before .before .before .before .before .before .before .args .units) (c .before .before .before .before .before .before .before .before .before .before .before .before .pre .0 .0 .1) (c .before .before .before .before .before .before .before .before .before .before .before .before .args .at) (now (c .before .file-path .result)) (c .before .before .before .before .before .before .before .before .before .before .before .before .args .u) (c .before .before .before .before .before .before .before .before .before .before .before .before .pre .0 .0 .0) (c .before .before .before .before .before .before .before .before .before .before .before .before .pre .0 .1) (its-path p), let x = c .before .before .before .before .before .before .file-items .ensures .1 in let y = c .before .before .before .before .before .before .before .file-at .ensures .1 in omega arith), (subst Brief (sym (its-items p)) (unit-brief (c .before .before .before .before .before .before .before .before .before .before .before .before .args .s .now) (c .before .before .before .before .before .before .before .before .before .before .before .before .args .files .now) (c .before .before .before .before .before .before .before .before .before .before .before .before .args .units) (c .before .before .before .before .before .before .before .before .before .before .before .before .pre .0 .0 .1) (λ i. omega (arith, c .before .before .before .before .before .before .before .before .before .before .before .shared-slice-known .given i)) (c .before .before .before .before .before .before .before .before .before .before .before .before .args .u)), (inside-room (inside p), inside-short (inside p))))
+    ((unit-of (c .before .before .before .before .before .before .before .before .before .before .before .before .args .s .now) (c .before .before .before .before .before .before .before .before .before .before .before .before .args .files .now) (c .before .before .before .before .before .before .before .before .before .before .before .before .args .units) (c .before .before .before .before .before .before .before .before .before .before .before .before .pre .0 .0 .1) (c .before .before .before .before .before .before .before .before .before .before .before .before .args .at) (now (c .before .file-path .result)) (c .before .before .before .before .before .before .before .before .before .before .before .before .args .u) (c .before .before .before .before .before .before .before .before .before .before .before .before .pre .0 .0 .0) (c .before .before .before .before .before .before .before .before .before .before .before .before .pre .0 .1) (its-path p), let x = c .before .before .before .before .before .before .file-items .ensures .1 in let y = c .before .before .before .before .before .before .before .file-at .ensures .1 in omega arith), (unit-brief (c .before .before .before .before .before .before .before .before .before .before .before .before .args .s .now) (c .before .before .before .before .before .before .before .before .before .before .before .before .args .files .now) (c .before .before .before .before .before .before .before .before .before .before .before .before .args .units) (c .before .before .before .before .before .before .before .before .before .before .before .before .pre .0 .0 .1) (λ i. omega (arith, c .before .before .before .before .before .before .before .before .before .before .before .shared-slice-known .given i)) (c .before .before .before .before .before .before .before .before .before .before .before .before .args .u) (now (c .before .file-path .result)) _ (its-path p) (its-items p), (inside-room (inside p), inside-short (inside p))))
 
 add-put-two : tie.Need-add-put-two
 add-put-two c = let h = inside-length (inside (c .before .before .before .before .before)) (c .before .before .before .write-items .last .1 .1 .1 .1 .1 .1 .1 .1 .1 .0) (c .before .before .before .write-items .result) (c .before .before .before .write-items .ensures) .1 in let g : Fits w64 (c .before .before .before .before .before .before .before .before .put-unit-start .result + c .before .before .before .write-items .result) = omega arith in g

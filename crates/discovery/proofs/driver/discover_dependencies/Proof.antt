@@ -1,11 +1,11 @@
 -- `discover_dependencies` meets its contract. Assumes nothing.
 use borrow.Author.Needs.{needs}
-use Rattle.discovery.specs.Known.{table-none}
+use Rattle.discovery.specs.Complete.{fresh}
 use Rattle.discovery.proofs.driver.discover_dependencies.Statement.{statement}
 use Rattle.discovery.proofs.driver.discover_dependencies.Tie as tie
 
 discover-requires : tie.Need-discover-requires
-discover-requires c κs = (c .before .before .pre, table-none _ _)
+discover-requires c κs = (c .before .before .pre, fresh)
 
 returns : tie.Need-returns
 returns c = search needs

@@ -1,22 +1,16 @@
--- `find_use` meets its contract: what is found was compared. Assumes nothing.
+-- `find_use` meets its contract. Assumes nothing.
 use Prim.Native.Nat.{_-_, _≤_}
 use native.Mathlib.Omega.{arith}
+use Rattle.discovery.specs.Known.{Between, between-all, between-above, between-below, between-one}
 use borrow.Author.Needs.{needs}
-use Rattle.discovery.specs.Known.{finds-none}
 use Rattle.discovery.proofs.known.find_use.Statement.{statement}
 use Rattle.discovery.proofs.known.find_use.Tie as tie
 
 abbrev Inv-loop : tie.InvT-loop
-Inv-loop t index mark lo₀ hi₀ lo hi = hi ≤ 256
+Inv-loop t index mark lo₀ hi₀ lo hi = Between t index mark lo hi
 
 abbrev μ-loop : tie.MeasureT-loop
 μ-loop t index mark lo₀ hi₀ lo hi = hi - lo
-
-returns : tie.Need-returns Inv-loop μ-loop
-returns c = finds-none _ _ _
-
-returns-2 : tie.Need-returns-2 Inv-loop μ-loop
-returns-2 c = finds-none _ _ _
 
 add-lo : tie.Need-add-lo Inv-loop μ-loop
 add-lo c = search needs
@@ -36,62 +30,41 @@ mul-hi c = search needs
 shared-slice-read-hi : tie.Need-shared-slice-read-hi Inv-loop μ-loop
 shared-slice-read-hi c = search needs
 
-returns-3 : tie.Need-returns-3 Inv-loop μ-loop
-returns-3 c = finds-none _ _ _
-
 loop-holds : tie.Need-loop-holds Inv-loop μ-loop
-loop-holds c = search needs
+loop-holds c = between-all (c .before .before .pre)
+
+add-loop : tie.Need-add-loop Inv-loop μ-loop
+add-loop c = let b = c .loop .inv .to in let f = c .loop .inv .held .fits in let l = c .loop .inv .held .long in search needs
 
 sub-mid : tie.Need-sub-mid Inv-loop μ-loop
-sub-mid c = search needs
+sub-mid c = let b = c .before .loop .inv .to in let f = c .before .loop .inv .held .fits in let l = c .before .loop .inv .held .long in search needs
 
 add-mid : tie.Need-add-mid Inv-loop μ-loop
-add-mid c = search needs
+add-mid c = let b = c .before .loop .inv .to in let f = c .before .loop .inv .held .fits in let l = c .before .loop .inv .held .long in search needs
 
-add-m : tie.Need-add-m Inv-loop μ-loop
-add-m c = search needs
+add-if1 : tie.Need-add-if1 Inv-loop μ-loop
+add-if1 c = let b = c .before .loop .inv .to in let f = c .before .loop .inv .held .fits in let l = c .before .loop .inv .held .long in search needs
 
-mul-m : tie.Need-mul-m Inv-loop μ-loop
-mul-m c = search needs
+mul-if1 : tie.Need-mul-if1 Inv-loop μ-loop
+mul-if1 c = let b = c .before .loop .inv .to in let f = c .before .loop .inv .held .fits in let l = c .before .loop .inv .held .long in search needs
 
-shared-slice-read-m : tie.Need-shared-slice-read-m Inv-loop μ-loop
-shared-slice-read-m c = search needs
-
-add-if5 : tie.Need-add-if5 Inv-loop μ-loop
-add-if5 c = search needs
-
-mul-if5 : tie.Need-mul-if5 Inv-loop μ-loop
-mul-if5 c = search needs
-
-shared-slice-read-if5 : tie.Need-shared-slice-read-if5 Inv-loop μ-loop
-shared-slice-read-if5 c = search needs
-
-add-if5-2 : tie.Need-add-if5-2 Inv-loop μ-loop
-add-if5-2 c = search needs
-
-returns-4 : tie.Need-returns-4 Inv-loop μ-loop
-returns-4 c = record { bound = omega arith; found = λ h. (omega arith, (c .before .before .if4 .taken, c .if5 .taken)) }
-
-returns-5 : tie.Need-returns-5 Inv-loop μ-loop
-returns-5 c = finds-none _ _ _
-
-add-lo-2 : tie.Need-add-lo-2 Inv-loop μ-loop
-add-lo-2 c = search needs
+shared-slice-read-if1 : tie.Need-shared-slice-read-if1 Inv-loop μ-loop
+shared-slice-read-if1 c = let b = c .before .before .loop .inv .to in let f = c .before .before .loop .inv .held .fits in let l = c .before .before .loop .inv .held .long in search needs
 
 loop-less : tie.Need-loop-less Inv-loop μ-loop
 loop-less c = search needs
 
 loop-again : tie.Need-loop-again Inv-loop μ-loop
-loop-again c = search needs
+loop-again c = between-above (c .before .before .before .loop .inv) _ (omega (arith, c .before .before .loop-test .taken)) (omega (arith, c .before .before .loop-test .taken)) (c .if1 .taken)
 
 loop-less-2 : tie.Need-loop-less-2 Inv-loop μ-loop
 loop-less-2 c = search needs
 
 loop-again-2 : tie.Need-loop-again-2 Inv-loop μ-loop
-loop-again-2 c = search needs
+loop-again-2 c = between-below (c .before .before .before .loop .inv) _ (omega (arith, c .before .before .loop-test .taken)) (omega (arith, c .before .before .loop-test .taken)) (omega (arith, c .if1 .left))
 
-returns-6 : tie.Need-returns-6 Inv-loop μ-loop
-returns-6 c = finds-none _ _ _
+returns : tie.Need-returns Inv-loop μ-loop
+returns c = between-one (c .before .loop .inv) (omega (arith, c .loop-test .left))
 
 pub find-use-spec : {M : Type 1} → statement M
 find-use-spec =
@@ -99,30 +72,21 @@ find-use-spec =
     (tie.spec
     Inv-loop
     μ-loop
-    returns
-    returns-2
     add-lo
     mul-lo
     shared-slice-read-lo
     add-hi
     mul-hi
     shared-slice-read-hi
-    returns-3
     loop-holds
+    add-loop
     sub-mid
     add-mid
-    add-m
-    mul-m
-    shared-slice-read-m
-    add-if5
-    mul-if5
-    shared-slice-read-if5
-    add-if5-2
-    returns-4
-    returns-5
-    add-lo-2
+    add-if1
+    mul-if1
+    shared-slice-read-if1
     loop-less
     loop-again
     loop-less-2
     loop-again-2
-    returns-6)
+    returns)

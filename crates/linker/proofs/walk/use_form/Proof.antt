@@ -5,6 +5,7 @@ use Prim.Native.Nat.{ℕ, _≤_}
 use lib.ListN.{length}
 use Rattle.order.specs.Writing.{started}
 use Rattle.assembly.specs.GivenLaws.{unit-of}
+use Rattle.assembly.specs.Targets.{InFile}
 use Rattle.assembly.specs.Walk.{useBytes}
 use borrow.Author.Needs.{needs}
 use Rattle.linker.proofs.walk.use_form.Statement.{statement}
@@ -26,7 +27,7 @@ rewrite-use-requires c κs =
     let u = unit-of (b .args .s .now) (b .args .files .now) (b .args .units) (b .pre .0 .1) (b .args .at) _ (b .args .id) (b .pre .0 .0) (b .pre .1 .0 .unit) (f ∙ b .pre .1 .0 .file) in
     let g = b .pre .1 .1 .0 .1 (b .args .at) _ _ (b .args .files .now) (b .args .units) u in
     let l = b .pre .1 .1 .1 in
-    ((u, b .pre .1 .1 .0 .0), (g .1 .0, omega (arith, g .1 .1)))
+    ((u, b .pre .1 .1 .0 .0, subst (λ (x : List ℕ). InFile (b .args .s .now) x (b .args .place)) (sym f) (b .pre .1 .1 .0 .2)), (g .1 .0, omega (arith, g .1 .1)))
 
 same-length : tie.Need-same-length
 same-length c = search needs
