@@ -23,3 +23,4 @@ pub mod CompleteBundle
 pub mod Marks
 pub mod Theorems
 pub mod Numbers
+pub mod ReadTheorems
