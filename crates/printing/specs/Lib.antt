@@ -1,0 +1,6 @@
+pub mod Lines
+pub mod Reports
+pub mod Modules
+pub mod Units
+pub mod Answers
+pub mod Whole
