@@ -1,0 +1,7 @@
+pub mod ReadTheorems
+pub mod Lines
+pub mod Reports
+pub mod Modules
+pub mod Units
+pub mod Answers
+pub mod Whole

@@ -1,0 +1,70 @@
+-- DOCUMENT 01'S PRINTED LINES, of what becomes of a bundle. Assumes nothing.
+use Prim.Native.Nat.{ℕ, zero, suc}
+use mathlib.Core.Bool.{cond}
+use mathlib.Core.List.{List, [], _∷_, _++_, map}
+use lib.Dec.{eqb, leb}
+use lib.ListN.{length, getD}
+use Rattle.names.specs.Bytes.{ascii}
+use Rattle.names.specs.Decimal.{decimal}
+use Rattle.text.specs.Words.{Text, lines, no-line, spelled}
+use Rattle.bundle.specs.Bundle.{Bundle}
+use Rattle.bundle.specs.Read.{Reading, value, refused, read}
+use Rattle.discovery.specs.Discovery.{Fault}
+use Rattle.order.specs.Run.{unitsOf}
+use Rattle.order.specs.Report.{fault, reportLength, small-buffer, ring-met}
+use Rattle.assembly.specs.Image.{itemsLength, image-limit, long-image}
+use Rattle.scopes.specs.Flat.{Entry, none}
+use Rattle.linker.specs.Link.{Outcome, faulty, closed, ended, linked, linkBundle}
+
+-- the module of a scope among the entries l: `crate` and the modules around it, outermost first. The first number bounds how deep it lies
+unfoldable pub module-path : ℕ → List Entry → ℕ → Text
+module-path zero l s = ascii "crate"
+module-path (suc k) l zero = ascii "crate"
+module-path (suc k) l (suc i) = module-path k l (getD l i none .scope) ++ (ascii "::" ++ spelled (getD l i none .shows .name))
+
+-- "`has` module, kind, name, mark reached"
+abbrev pub has-line : List Entry → Entry → List Text
+has-line l e =
+    ascii "has" ∷ module-path (length l) l (e .scope) ∷ decimal (e .shows .kind) ∷ spelled (e .shows .name) ∷ decimal (e .shows .mark) ∷ []
+
+-- "entries in order made", "units not shown"
+unfoldable pub has-lines : List Entry → List Entry → List (List Text)
+has-lines l [] = []
+has-lines l (e ∷ es) = cond (eqb (e .scope) 0) (has-lines l es) (has-line l e ∷ has-lines l es)
+
+-- "`unit` id, path"
+abbrev pub unit-line : List Text → ℕ → List Text
+unit-line paths u = ascii "unit" ∷ decimal u ∷ getD paths u [] ∷ []
+
+-- "each record is such a line": number, place
+abbrev pub fault-line : Fault → List Text
+fault-line f = no-line (f .number) (f .place)
+
+-- "`no 26 0` is followed by a line `ring` and ids"
+abbrev pub ring-lines : List ℕ → List (List Text)
+ring-lines r = no-line ring-met 0 ∷ (ascii "ring" ∷ map decimal r) ∷ []
+
+-- "`ok` unit count", then the units in linked order and the tree
+abbrev pub linked-lines : List Text → List ℕ → List Entry → List (List Text)
+linked-lines paths o l = (ascii "ok" ∷ decimal (length o) ∷ []) ∷ (map (unit-line paths) o ++ has-lines l l)
+
+-- the program's report buffer
+abbrev pub report-size : ℕ
+report-size = 4096
+
+-- 14 where a report is longer than that; 15 where the image is over 65,535 bytes after its header, and never 14 of the image
+unfoldable pub outcome-lines : Bundle → Outcome → List (List Text)
+outcome-lines b (faulty l) = cond (leb (reportLength (map fault l)) report-size) (map fault-line l) (no-line small-buffer 0 ∷ [])
+outcome-lines b (closed r) = ring-lines r
+outcome-lines b (ended n p) = no-line n p ∷ []
+outcome-lines b (linked o p x) =
+    cond (leb (itemsLength p) image-limit) (linked-lines (unitsOf b) o (x .entries)) (no-line long-image 0 ∷ [])
+
+-- 1 to 13 are such a line too
+unfoldable pub reading-lines : Reading → List (List Text)
+reading-lines (refused n p) = no-line n p ∷ []
+reading-lines (value b) = outcome-lines b (linkBundle b)
+
+-- ALL THAT IS PRINTED of the bytes s
+unfoldable pub printed : List ℕ → Text
+printed s = lines (reading-lines (read s))
