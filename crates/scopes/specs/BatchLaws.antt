@@ -2,17 +2,16 @@
 use Prim.Native.Nat.{ℕ, zero, _+_, _≤_, _<_}
 use native.Mathlib.Omega.{arith}
 use native.Mathlib.Nat.{zero-add}
-use mathlib.Core.Path.{_≡_, refl, ap, sym, _∙_}
+use mathlib.Core.Path.{_≡_, ap, sym, _∙_}
 use mathlib.Core.Bool.{Bool, false}
 use mathlib.Core.List.{List}
 use lib.ListN.{getD, set, replicate}
 use Rattle.names.specs.declared.Name.{Name}
 use Rattle.scopes.specs.Rows.{isRow, name-at}
-use Rattle.scopes.specs.Staging.{Staged, refusal, stored, staged-test}
+use Rattle.scopes.specs.Staging.{refusal, stored, staged-test}
 use Rattle.scopes.specs.Batches.{slot, staged-of, entry-in}
 use Rattle.scopes.specs.Pack.{slot-get, slot-same, slot-before, slot-after, slot-clear}
 use Rattle.scopes.specs.declared.stage.Batch.{Batch}
-use Rattle.scopes.specs.declared.lent.Entry.{Entry}
 
 -- NOTHING STAGED
 pub batch-clear : (n : ℕ) → staged-of (record { number = n; count = 0; cells = replicate 480 0; names = replicate 384 0 }) ≡ refusal n

@@ -3,17 +3,14 @@ use Prim.Native.Nat.{ℕ, zero, suc, _+_, _-_, _≤_, _<_}
 use native.Mathlib.Omega.{arith}
 use native.Mathlib.Numerals.{add-one}
 use mathlib.Core.Path.{_≡_, refl, ap, sym, subst, _∙_}
-use mathlib.Core.Bool.{Bool, true, false}
+use mathlib.Core.Bool.{Bool, false}
 use mathlib.Core.List.{List}
 use lib.ListN.{getD}
-use Rattle.names.specs.declared.Name.{Name}
-use Rattle.scopes.specs.declared.Answer.{Answer as Told}
 use Rattle.scopes.specs.declared.Answer.the-variants.{Done, Refused}
 use Rattle.scopes.specs.Staging.{Staged, refusal}
 use Rattle.scopes.specs.Rows.{name-at}
 use Rattle.scopes.specs.Form.{resolves-use}
-use Rattle.scopes.specs.Note.{accepted}
-use Rattle.scopes.specs.Views.{View, ViewMeets, bit-of, told, here-of, pushed, committed, commits, refusing, accepting}
+use Rattle.scopes.specs.Views.{View, ViewMeets, bit-of, here-of, pushed, committed, commits, refusing, accepting}
 use Rattle.scopes.specs.Views.{Sized as ViewSized}
 use Rattle.scopes.specs.declared.Tree.{Tree}
 use Rattle.scopes.specs.declared.lent.Entry.{Entry}

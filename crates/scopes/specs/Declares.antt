@@ -1,11 +1,11 @@
 -- A declaration, a get and an exit, as the code makes them. Assumes nothing.
-use Prim.Native.Nat.{ℕ, _+_, _-_, _≤_, _<_}
+use Prim.Native.Nat.{ℕ, _-_, _<_}
 use native.Mathlib.Omega.{arith}
 use mathlib.Core.Path.{_≡_, refl, ap, sym, subst, _∙_}
 use mathlib.Core.Bool.{Bool, true, false, cond}
 use mathlib.Core.List.{List}
 use lib.Dec.{eqb, ltb}
-use lib.ListN.{length, getD, set, take, length-set}
+use lib.ListN.{getD, set, take, length-set}
 use lib.Seq.{getD-set-same, getD-set-other, take-set-le}
 use borrow.Author.Tests.{eqb-true, ne-eqb}
 use Rattle.names.specs.Packed.{packed}
@@ -13,15 +13,14 @@ use Rattle.names.specs.Identifier.{isIdentifier}
 use Rattle.scopes.specs.declared.look.Spot.{Spot}
 use Rattle.scopes.specs.declared.look.Spot.the-variants.{At, Nothing}
 use Rattle.scopes.specs.declared.Answer.{Answer as Told}
-use Rattle.scopes.specs.declared.Answer.the-variants.{Done, Mark, Refused}
+use Rattle.scopes.specs.declared.Answer.the-variants.{Done, Refused}
 use Rattle.scopes.specs.declared.Tree.{Tree}
-use Rattle.scopes.specs.declared.Outcome.{Outcome}
 use Rattle.scopes.specs.declared.decide.Plan.{Plan}
 use Rattle.scopes.specs.declared.lent.Kind.{Kind}
 use Rattle.scopes.specs.declared.lent.Entry.{Entry}
 use Rattle.scopes.specs.Note.{accepted}
 use Rattle.scopes.specs.Form.{Request, enters, exits, inserts-alias, inserts-enum, inserts-function, resolves-use, gets-alias, gets-function}
-use Rattle.scopes.specs.Views.{View, ViewOutcome, ViewMeets, Added, told, bit-of, no-entry, pushed, added-of, ended, ended-no, ended-yes, opened-last, current-spot, mark-at, got-of}
+use Rattle.scopes.specs.Views.{View, ViewOutcome, ViewMeets, told, bit-of, no-entry, pushed, added-of, ended, ended-no, ended-yes, opened-last, current-spot, mark-at, got-of}
 use Rattle.scopes.specs.Calls.{popped, exit-root, exit-module, alias-meets, enum-meets, function-meets, enter-meets, got-alias, got-function}
 use Rattle.scopes.specs.Trees.{part, doors-of, view, Sized}
 use Rattle.scopes.specs.Meets.{Meets, Answers, number-of, request, left, with-opened}

@@ -1,11 +1,11 @@
 -- Laws of the parts of one array, and of the tree that nine arrays are seen as. Assumes nothing.
 use Prim.Native.Nat.{ℕ, zero, suc, _+_, _-_, _≤_, _<_}
 use native.Mathlib.Omega.{arith}
-use native.Mathlib.Nat.{zero-add, zero-sub, suc-sub-suc, sub-zero, not-suc-le-zero, le-of-suc-le-suc}
+use native.Mathlib.Nat.{zero-add, suc-sub-suc, sub-zero, not-suc-le-zero, le-of-suc-le-suc}
 use mathlib.Core.Path.{_≡_, refl, ap, sym, _∙_}
 use mathlib.Core.Bool.{Bool, true, false, cond, _&&_}
 use mathlib.Core.List.{List, [], _∷_}
-use lib.ListN.{length, getD, set, take, drop, replicate, length-set, length-drop, length-replicate}
+use lib.ListN.{length, getD, set, take, drop, replicate, length-set, length-drop}
 use lib.Seq.{getD-take, getD-drop, drop-set-add, drop-set-lt, take-set-lt, take-set-le, length-take-le, getD-set-same, getD-set-other}
 use Rattle.names.specs.declared.Name.{Name}
 use Rattle.scopes.specs.Views.{View, pushed-under, pushed, opened-last}
@@ -13,13 +13,12 @@ use Rattle.scopes.specs.Views.{Sized as ViewSized}
 use Rattle.scopes.specs.Views as views
 use Rattle.scopes.specs.Index.{bucket, bucket-below, place-in, spot-in, within}
 use Rattle.scopes.specs.Nav.{current-of}
-use Rattle.scopes.specs.Staging.{is-at, choice-of}
-use Rattle.scopes.specs.declared.stage.Choice.{Choice}
+use Rattle.scopes.specs.Staging.{is-at}
 use Rattle.scopes.specs.declared.look.Spot.{Spot}
 use Rattle.scopes.specs.Rows.{isRow, Arrays, site}
 use Rattle.scopes.specs.declared.look.Place.{Place as Site}
 use Rattle.scopes.specs.Batches.{slot}
-use Rattle.scopes.specs.Trees.{part, doors-of, view, packed-in, cleared, Sized}
+use Rattle.scopes.specs.Trees.{part, doors-of, view, cleared, Sized}
 use Rattle.scopes.specs.declared.Tree.{Tree}
 use Rattle.scopes.specs.declared.lent.Entry.{Entry}
 
@@ -314,6 +313,3 @@ via-site i t p q r s e = e ∙ (λ j. site i (p j) (q j) (r j) (s j) t)
 abbrev pub arrays-in : List ℕ → List ℕ → List ℕ → List ℕ → List ℕ → List ℕ → List ℕ → List ℕ → Arrays
 arrays-in c v s m a b d e =
     record { kinds = part 0 c; visible = v; scopes = s; marks = m; n0 = a; n1 = b; n2 = d; n3 = e; origins = part 1024 c; targets = part 2048 c; times = part 3072 c; heads = part 5120 c; links = part 4096 c }
-
-pub via-choice : (A : Arrays) (total here scope time : ℕ) (n l : Name) {k k′ : ℕ} {x : Choice} → k ≡ k′ → x ≡ choice-of A total here scope time k n l → x ≡ choice-of A total here scope time k′ n l
-via-choice A total here scope time n l q p = p ∙ ap (λ (z : ℕ). choice-of A total here scope time z n l) q

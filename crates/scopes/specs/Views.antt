@@ -260,9 +260,6 @@ added-of t s k twice v m deepest =
 unfoldable pub ended : (View → View) → Added → ViewOutcome
 ended fin a = cond (eqb (a .number) 0) (accepting (fin (a .tree))) (refusing (a .number) (a .tree))
 
-abbrev pub outcome-of : Added → ViewOutcome
-outcome-of = ended (λ t. t)
-
 -- the last entry opened
 abbrev pub opened-last : View → View
 opened-last t =
