@@ -3,7 +3,7 @@ use Prim.Native.Nat.{ℕ, zero, suc, _+_, _-_, _≤_, _<_}
 use native.Mathlib.Omega.{arith}
 use native.Mathlib.Decide.{decLt, decLe}
 use native.Mathlib.Numerals.{add-one}
-use mathlib.Core.Path.{_≡_, refl, ap, sym, subst, _∙_}
+use mathlib.Core.Path.{_≡_, refl, ap, sym, _∙_}
 use mathlib.Core.Bool.{Bool, true, false, cond, _||_}
 use mathlib.Core.List.{List, [], _∷_, _++_}
 use lib.Dec.{eqb, ltb, leb}
@@ -24,7 +24,7 @@ use Rattle.scopes.specs.Index.{spot-first}
 use Rattle.scopes.specs.Nav.{stack-of, current-top, Doors}
 use Rattle.scopes.specs.Staging.{is-at}
 use Rattle.scopes.specs.Note.{accepted}
-use Rattle.scopes.specs.Views.{View, ViewOutcome, ViewMeets, ViewAnswers, Added, bit-of, told, rows, entries-of, flat-of, Good, Sized, push-law, push-sized, push-indexed, refusing, accepting, here-of, current-spot, declared-in, no-entry, added-of, ended, opened-last, mark-at, got-of}
+use Rattle.scopes.specs.Views.{View, ViewOutcome, ViewMeets, ViewAnswers, Added, bit-of, told, rows, entries-of, flat-of, Good, Sized, push-law, push-indexed, refusing, accepting, here-of, current-spot, declared-in, no-entry, added-of, ended, opened-last, mark-at, got-of}
 
 pub length-names : (l : List Entry) (ss : List ℕ) → length (stack-names l ss) ≡ length ss
 unfolding stack-names

@@ -3,18 +3,14 @@ use Prim.Native.Nat.{ℕ, zero, suc, _+_, _-_, _≤_, _<_}
 use native.Mathlib.Omega.{arith}
 use native.Mathlib.Numerals.{add-one}
 use mathlib.Core.Path.{_≡_, refl, ap, sym, subst, _∙_}
-use mathlib.Core.Bool.{Bool, true, false}
+use mathlib.Core.Bool.{Bool, false}
 use mathlib.Core.List.{List}
 use lib.ListN.{getD}
-use Rattle.names.specs.declared.Name.{Name}
-use Rattle.scopes.specs.declared.Answer.{Answer as Told}
 use Rattle.scopes.specs.declared.Answer.the-variants.{Done, Refused}
-use Rattle.scopes.specs.declared.stage.Staged.{Staged}
-use Rattle.scopes.specs.Staging.{refusal}
+use Rattle.scopes.specs.Staging.{Staged, refusal}
 use Rattle.scopes.specs.Rows.{name-at}
 use Rattle.scopes.specs.Form.{resolves-use}
-use Rattle.scopes.specs.Note.{accepted}
-use Rattle.scopes.specs.Views.{View, ViewMeets, bit-of, told, here-of, pushed, committed, commits, refusing, accepting}
+use Rattle.scopes.specs.Views.{View, ViewMeets, bit-of, here-of, pushed, committed, commits, refusing, accepting}
 use Rattle.scopes.specs.Views.{Sized as ViewSized}
 use Rattle.scopes.specs.declared.Tree.{Tree}
 use Rattle.scopes.specs.declared.lent.Entry.{Entry}
@@ -63,16 +59,6 @@ pub at-counts : (t : View) (c d : ℕ) (s : List ℕ) (r : Staged) → c ≡ t .
 at-counts t c d s r p q x = subst (λ (u : View). Decided u s r) (λ j. counted t (p j) (q j)) x
 
 -- THE COMMIT: the first n staged entries, from the place c on
-abbrev pub entry-of-kind : ℕ → List ℕ → List ℕ → List ℕ → List ℕ → List ℕ → List ℕ → List ℕ → List ℕ → ℕ → ℕ → ℕ → Entry
-entry-of-kind k ms a b c d os fs ts i h v =
-    record { kind = k; visible = v; scope = h; mark = getD ms i 0; name = name-at a b c d i; origin = getD os i 0; target = getD fs i 0; moment = getD ts i 0; opens = false }
-
-abbrev pub entry-at : List ℕ → List ℕ → List ℕ → List ℕ → List ℕ → List ℕ → List ℕ → List ℕ → List ℕ → ℕ → ℕ → ℕ → Entry
-entry-at ks ms a b c d os fs ts i h v = entry-of-kind (getD ks i 0) ms a b c d os fs ts i h v
-
-pub entry-read : (ks ms a b c d os fs ts : List ℕ) (i h v k : ℕ) → k ≡ getD ks i 0 → entry-of-kind k ms a b c d os fs ts i h v ≡ entry-at ks ms a b c d os fs ts i h v
-entry-read ks ms a b c d os fs ts i h v k q = ap (λ (x : ℕ). entry-of-kind x ms a b c d os fs ts i h v) q
-
 abbrev pub staged-entry : Staged → ℕ → ℕ → ℕ → Entry
 staged-entry s h v n =
     record { kind = getD (s .kinds) n 0; visible = v; scope = h; mark = getD (s .marks) n 0; name = name-at (s .n0) (s .n1) (s .n2) (s .n3) n; origin = getD (s .origins) n 0; target = getD (s .targets) n 0; moment = getD (s .times) n 0; opens = false }

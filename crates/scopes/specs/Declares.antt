@@ -1,33 +1,30 @@
 -- A declaration, a get and an exit, as the code makes them. Assumes nothing.
-use Prim.Native.Nat.{ℕ, _+_, _-_, _≤_, _<_}
+use Prim.Native.Nat.{ℕ, _-_, _<_}
 use native.Mathlib.Omega.{arith}
 use mathlib.Core.Path.{_≡_, refl, ap, sym, subst, _∙_}
 use mathlib.Core.Bool.{Bool, true, false, cond}
 use mathlib.Core.List.{List}
 use lib.Dec.{eqb, ltb}
+use lib.ListN.{getD, set, take, length-set}
+use lib.Seq.{getD-set-same, getD-set-other, take-set-le}
 use borrow.Author.Tests.{eqb-true, ne-eqb}
 use Rattle.names.specs.Packed.{packed}
 use Rattle.names.specs.Identifier.{isIdentifier}
 use Rattle.scopes.specs.declared.look.Spot.{Spot}
 use Rattle.scopes.specs.declared.look.Spot.the-variants.{At, Nothing}
 use Rattle.scopes.specs.declared.Answer.{Answer as Told}
-use Rattle.scopes.specs.Step.{step}
-use Rattle.scopes.specs.Flat.{flat}
-use Rattle.scopes.specs.Note.{accepted}
-use Rattle.scopes.specs.Form.{Request, enters, exits, inserts-alias, inserts-enum, inserts-function, resolves-use, gets-alias, gets-function, call-of}
-use Rattle.scopes.specs.Views.{View, ViewOutcome, ViewMeets, Added, told, bit-of, no-entry, pushed, added-of, ended, ended-no, ended-yes, opened-last, current-spot, mark-at, got-of}
-use Rattle.scopes.specs.declared.Answer.the-variants.{Done, Mark, Refused}
-use Rattle.scopes.specs.Calls.{popped, exit-root, exit-module, alias-meets, enum-meets, function-meets, enter-meets, got-alias, got-function}
-use lib.ListN.{length, getD, set, take, length-set}
-use lib.Seq.{getD-set-same, getD-set-other, take-set-le}
+use Rattle.scopes.specs.declared.Answer.the-variants.{Done, Refused}
 use Rattle.scopes.specs.declared.Tree.{Tree}
-use Rattle.scopes.specs.declared.Outcome.{Outcome}
-use Rattle.scopes.specs.Trees.{part, doors-of, view, Sized}
-use Rattle.scopes.specs.Meets.{Meets, Answers, number-of, request, left, with-opened}
-use Rattle.scopes.specs.Pack.{view-sized, added, added-sized, shut-view, opened-view}
 use Rattle.scopes.specs.declared.decide.Plan.{Plan}
 use Rattle.scopes.specs.declared.lent.Kind.{Kind}
 use Rattle.scopes.specs.declared.lent.Entry.{Entry}
+use Rattle.scopes.specs.Note.{accepted}
+use Rattle.scopes.specs.Form.{Request, enters, exits, inserts-alias, inserts-enum, inserts-function, resolves-use, gets-alias, gets-function}
+use Rattle.scopes.specs.Views.{View, ViewOutcome, ViewMeets, told, bit-of, no-entry, pushed, added-of, ended, ended-no, ended-yes, opened-last, current-spot, mark-at, got-of}
+use Rattle.scopes.specs.Calls.{popped, exit-root, exit-module, alias-meets, enum-meets, function-meets, enter-meets, got-alias, got-function}
+use Rattle.scopes.specs.Trees.{part, doors-of, view, Sized}
+use Rattle.scopes.specs.Meets.{Meets, Answers, number-of, request, left, with-opened}
+use Rattle.scopes.specs.Pack.{view-sized, added, added-sized, shut-view, opened-view}
 use Rattle.scopes.specs.Plan.{planned-of, planned-plan, carried, carried-no, carried-yes, plan-added, plan-room, Room}
 
 abbrev of-view : Told → View → ViewOutcome
@@ -154,9 +151,12 @@ leave-module t o z =
 abbrev pub declaring : ℕ → ℕ → ℕ → Bool → Kind
 declaring k n d o = record { kind = k; twice = n; deepest = d; opens = o }
 
+abbrev by-code : Bool → Bool → Bool → Bool → Kind
+by-code e₁ e₅ e₃ e₄ =
+    cond e₁ (declaring 3 47 8 true) (cond e₅ (declaring 2 49 9 false) (cond e₃ (declaring 1 48 9 false) (cond e₄ (declaring 1 48 9 false) (declaring 0 0 0 false))))
+
 unfoldable pub kind-of : ℕ → Kind
-kind-of c =
-    cond (eqb c 1) (declaring 3 47 8 true) (cond (eqb c 5) (declaring 2 49 9 false) (cond (eqb c 3) (declaring 1 48 9 false) (cond (eqb c 4) (declaring 1 48 9 false) (declaring 0 0 0 false))))
+kind-of c = by-code (eqb c 1) (eqb c 5) (eqb c 3) (eqb c 4)
 
 unfoldable pub asked-of : ℕ → ℕ
 asked-of c = cond (eqb c 7) 1 2
@@ -176,8 +176,8 @@ module _ (t u : Tree) (c : ℕ) (s : List ℕ) (v : Bool) (m : ℕ) (a : Told) w
       D x = Declares t s (x .kind) (x .twice) (x .deepest) v m (x .opens) a u
 
       go : (e₁ e₅ e₃ e₄ : Bool) → eqb c 1 ≡ e₁ → eqb c 5 ≡ e₅ → eqb c 3 ≡ e₃ → eqb c 4 ≡ e₄
-          → Declares t s (cond e₁ (declaring 3 47 8 true) (cond e₅ (declaring 2 49 9 false) (cond e₃ (declaring 1 48 9 false) (cond e₄ (declaring 1 48 9 false) (declaring 0 0 0 false)))) .kind) (cond e₁ (declaring 3 47 8 true) (cond e₅ (declaring 2 49 9 false) (cond e₃ (declaring 1 48 9 false) (cond e₄ (declaring 1 48 9 false) (declaring 0 0 0 false)))) .twice) (cond e₁ (declaring 3 47 8 true) (cond e₅ (declaring 2 49 9 false) (cond e₃ (declaring 1 48 9 false) (cond e₄ (declaring 1 48 9 false) (declaring 0 0 0 false)))) .deepest) v m (cond e₁ (declaring 3 47 8 true) (cond e₅ (declaring 2 49 9 false) (cond e₃ (declaring 1 48 9 false) (cond e₄ (declaring 1 48 9 false) (declaring 0 0 0 false)))) .opens) a u
-          → (cond e₁ (declaring 3 47 8 true) (cond e₅ (declaring 2 49 9 false) (cond e₃ (declaring 1 48 9 false) (cond e₄ (declaring 1 48 9 false) (declaring 0 0 0 false)))) .kind ≡ 0 → ⊥)
+          → Declares t s (by-code e₁ e₅ e₃ e₄ .kind) (by-code e₁ e₅ e₃ e₄ .twice) (by-code e₁ e₅ e₃ e₄ .deepest) v m (by-code e₁ e₅ e₃ e₄ .opens) a u
+          → (by-code e₁ e₅ e₃ e₄ .kind ≡ 0 → ⊥)
           → Meets t (request c s v m) (left a u)
       go true e₅ e₃ e₄ p₁ p₅ p₃ p₄ d y = let e = eqb-true c 1 p₁ in rw e (meets-enter d)
       go false true e₃ e₄ p₁ p₅ p₃ p₄ d y = let e = eqb-true c 5 p₅ in rw e (meets-function d)
@@ -189,9 +189,9 @@ pub call-ready : (c : ℕ) (k : Kind) → k ≡ kind-of c → (k .kind ≡ 0 →
 unfolding kind-of
 call-ready c k q z = rw q (go (eqb c 1) (eqb c 5) (eqb c 3) (eqb c 4) (λ y. z (ap (λ (x : Kind). x .kind) q ∙ y)))
   where
-    go : (e₁ e₅ e₃ e₄ : Bool) → (cond e₁ (declaring 3 47 8 true) (cond e₅ (declaring 2 49 9 false) (cond e₃ (declaring 1 48 9 false) (cond e₄ (declaring 1 48 9 false) (declaring 0 0 0 false)))) .kind ≡ 0 → ⊥)
-        → (cond e₁ (declaring 3 47 8 true) (cond e₅ (declaring 2 49 9 false) (cond e₃ (declaring 1 48 9 false) (cond e₄ (declaring 1 48 9 false) (declaring 0 0 0 false)))) .twice ≡ 0 → ⊥)
-        × (cond e₁ (declaring 3 47 8 true) (cond e₅ (declaring 2 49 9 false) (cond e₃ (declaring 1 48 9 false) (cond e₄ (declaring 1 48 9 false) (declaring 0 0 0 false)))) .opens ≡ true → cond e₁ (declaring 3 47 8 true) (cond e₅ (declaring 2 49 9 false) (cond e₃ (declaring 1 48 9 false) (cond e₄ (declaring 1 48 9 false) (declaring 0 0 0 false)))) .deepest ≡ 8)
+    go : (e₁ e₅ e₃ e₄ : Bool) → (by-code e₁ e₅ e₃ e₄ .kind ≡ 0 → ⊥)
+        → (by-code e₁ e₅ e₃ e₄ .twice ≡ 0 → ⊥)
+        × (by-code e₁ e₅ e₃ e₄ .opens ≡ true → by-code e₁ e₅ e₃ e₄ .deepest ≡ 8)
     go true e₅ e₃ e₄ y = ((λ x. omega arith), (λ x. refl))
     go false true e₃ e₄ y = ((λ x. omega arith), (λ x. let b : _≡_ {A = ℕ} 0 1 = cc in absurd (omega arith)))
     go false false true e₄ y = ((λ x. omega arith), (λ x. let b : _≡_ {A = ℕ} 0 1 = cc in absurd (omega arith)))
@@ -204,7 +204,7 @@ call-get t c s v m a k j n2 n6 q z i w =
     rw (ne-eqb c 2 n2, ne-eqb c 6 n6)
     (go (eqb c 1) (eqb c 5) (eqb c 3) (eqb c 4) (eqb c 7) (sym (ap (λ (x : Kind). x .kind) q) ∙ z) (w ∙ ap (got-of (view t) s) i))
   where
-    go : (e₁ e₅ e₃ e₄ e₇ : Bool) → cond e₁ (declaring 3 47 8 true) (cond e₅ (declaring 2 49 9 false) (cond e₃ (declaring 1 48 9 false) (cond e₄ (declaring 1 48 9 false) (declaring 0 0 0 false)))) .kind ≡ 0 → a ≡ got-of (view t) s (cond e₇ 1 2)
+    go : (e₁ e₅ e₃ e₄ e₇ : Bool) → by-code e₁ e₅ e₃ e₄ .kind ≡ 0 → a ≡ got-of (view t) s (cond e₇ 1 2)
         → Meets t (cond e₁ (enters s v m) (cond e₃ (inserts-alias s v m) (cond e₄ (inserts-enum s v m) (cond e₅ (inserts-function s v m) (cond e₇ (gets-alias s) (gets-function s)))))) (left a t)
     go true e₅ e₃ e₄ e₇ y x = absurd (omega arith)
     go false true e₃ e₄ e₇ y x = absurd (omega arith)

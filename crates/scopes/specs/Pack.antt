@@ -1,11 +1,11 @@
 -- Laws of the parts of one array, and of the tree that nine arrays are seen as. Assumes nothing.
 use Prim.Native.Nat.{ℕ, zero, suc, _+_, _-_, _≤_, _<_}
 use native.Mathlib.Omega.{arith}
-use native.Mathlib.Nat.{zero-add, zero-sub, suc-sub-suc, sub-zero, not-suc-le-zero, le-of-suc-le-suc}
+use native.Mathlib.Nat.{zero-add, suc-sub-suc, sub-zero, not-suc-le-zero, le-of-suc-le-suc}
 use mathlib.Core.Path.{_≡_, refl, ap, sym, _∙_}
 use mathlib.Core.Bool.{Bool, true, false, cond, _&&_}
 use mathlib.Core.List.{List, [], _∷_}
-use lib.ListN.{length, getD, set, take, drop, replicate, length-set, length-drop, length-replicate}
+use lib.ListN.{length, getD, set, take, drop, replicate, length-set, length-drop}
 use lib.Seq.{getD-take, getD-drop, drop-set-add, drop-set-lt, take-set-lt, take-set-le, length-take-le, getD-set-same, getD-set-other}
 use Rattle.names.specs.declared.Name.{Name}
 use Rattle.scopes.specs.Views.{View, pushed-under, pushed, opened-last}
@@ -13,47 +13,37 @@ use Rattle.scopes.specs.Views.{Sized as ViewSized}
 use Rattle.scopes.specs.Views as views
 use Rattle.scopes.specs.Index.{bucket, bucket-below, place-in, spot-in, within}
 use Rattle.scopes.specs.Nav.{current-of}
-use Rattle.scopes.specs.Staging.{is-at, choice-of}
-use Rattle.scopes.specs.declared.stage.Choice.{Choice}
+use Rattle.scopes.specs.Staging.{is-at}
 use Rattle.scopes.specs.declared.look.Spot.{Spot}
 use Rattle.scopes.specs.Rows.{isRow, Arrays, site}
 use Rattle.scopes.specs.declared.look.Place.{Place as Site}
-use Rattle.scopes.specs.Trees.{part, doors-of, view, packed-in, cleared, Sized}
+use Rattle.scopes.specs.Batches.{slot}
+use Rattle.scopes.specs.Trees.{part, doors-of, view, cleared, Sized}
 use Rattle.scopes.specs.declared.Tree.{Tree}
 use Rattle.scopes.specs.declared.lent.Entry.{Entry}
 
-pub part-get : (p : ℕ) (xs : List ℕ) (i : ℕ) → i < 1024 → getD (part p xs) i 0 ≡ getD xs (p + i) 0
-unfolding part
-part-get p xs i h = getD-take 1024 (drop p xs) i 0 h ∙ getD-drop p xs i 0
+-- A WINDOW of an array, w numbers from the place p on
+module _ (w p : ℕ) (xs : List ℕ) where
+  window-get : (i : ℕ) → i < w → getD (take w (drop p xs)) i 0 ≡ getD xs (p + i) 0
+  window-get i h = getD-take w (drop p xs) i 0 h ∙ getD-drop p xs i 0
 
-pub part-same : (p : ℕ) (xs : List ℕ) (i v : ℕ) → i < 1024 → part p (set xs (p + i) v) ≡ set (part p xs) i v
-unfolding part
-part-same p xs i v h = ap (λ (l : List ℕ). take 1024 l) (drop-set-add p xs i v) ∙ take-set-lt 1024 (drop p xs) i v h
+  window-same : (i v : ℕ) → i < w → take w (drop p (set xs (p + i) v)) ≡ set (take w (drop p xs)) i v
+  window-same i v h = ap (λ (l : List ℕ). take w l) (drop-set-add p xs i v) ∙ take-set-lt w (drop p xs) i v h
 
-pub part-before : (p : ℕ) (xs : List ℕ) (j v : ℕ) → j < p → part p (set xs j v) ≡ part p xs
-unfolding part
-part-before p xs j v h = ap (λ (l : List ℕ). take 1024 l) (drop-set-lt p xs j v h)
+  window-before : (j v : ℕ) → j < p → take w (drop p (set xs j v)) ≡ take w (drop p xs)
+  window-before j v h = ap (λ (l : List ℕ). take w l) (drop-set-lt p xs j v h)
 
-pub part-after : (p : ℕ) (xs : List ℕ) (j v : ℕ) → p + 1024 ≤ j → part p (set xs j v) ≡ part p xs
-unfolding part
-part-after p xs j v h =
-    let e : j ≡ p + (j - p) = omega arith in
-    rw e (ap (λ (l : List ℕ). take 1024 l) (drop-set-add p xs (j - p) v) ∙ take-set-le 1024 (drop p xs) (j - p) v (omega arith))
+  window-after : (j v : ℕ) → p + w ≤ j → take w (drop p (set xs j v)) ≡ take w (drop p xs)
+  window-after j v h =
+      let e : j ≡ p + (j - p) = omega arith in
+      rw e (ap (λ (l : List ℕ). take w l) (drop-set-add p xs (j - p) v) ∙ take-set-le w (drop p xs) (j - p) v (omega arith))
 
--- nothing stands past a part
+-- nothing stands past it
 take-past : (n : ℕ) (xs : List ℕ) (i : ℕ) → n ≤ i → getD (take n xs) i 0 ≡ 0
 take-past zero xs i h = refl
 take-past (suc n) [] i h = refl
 take-past (suc n) (x ∷ xs) zero h = absurd (not-suc-le-zero h)
 take-past (suc n) (x ∷ xs) (suc i) h = take-past n xs i (le-of-suc-le-suc h)
-
-pub part-past : (p : ℕ) (xs : List ℕ) (i : ℕ) → 1024 ≤ i → 0 ≡ getD (part p xs) i 0
-unfolding part
-part-past p xs i h = sym (take-past 1024 (drop p xs) i h)
-
-pub part-length : (p : ℕ) (xs : List ℕ) → p + 1024 ≤ length xs → length (part p xs) ≡ 1024
-unfolding part
-part-length p xs h = length-take-le 1024 (drop p xs) (rw length-drop (omega arith))
 
 drop-clear : (p n : ℕ) → p ≤ n → drop p (replicate n zero) ≡ replicate (n - p) zero
 drop-clear zero n h = ap (λ (m : ℕ). replicate m zero) (sym (sub-zero n))
@@ -65,9 +55,58 @@ take-clear zero n h = refl
 take-clear (suc m) zero h = absurd (not-suc-le-zero h)
 take-clear (suc m) (suc n) h = ap (λ (l : List ℕ). zero ∷ l) (take-clear m n (le-of-suc-le-suc h))
 
+window-clear : (w p n : ℕ) → p + w ≤ n → take w (drop p (replicate n zero)) ≡ replicate w zero
+window-clear w p n h = ap (λ (l : List ℕ). take w l) (drop-clear p n (omega arith)) ∙ take-clear w (n - p) (omega arith)
+
+-- a part of the cells
+pub part-get : (p : ℕ) (xs : List ℕ) (i : ℕ) → i < 1024 → getD (part p xs) i 0 ≡ getD xs (p + i) 0
+unfolding part
+part-get = window-get 1024
+
+pub part-same : (p : ℕ) (xs : List ℕ) (i v : ℕ) → i < 1024 → part p (set xs (p + i) v) ≡ set (part p xs) i v
+unfolding part
+part-same = window-same 1024
+
+pub part-before : (p : ℕ) (xs : List ℕ) (j v : ℕ) → j < p → part p (set xs j v) ≡ part p xs
+unfolding part
+part-before = window-before 1024
+
+pub part-after : (p : ℕ) (xs : List ℕ) (j v : ℕ) → p + 1024 ≤ j → part p (set xs j v) ≡ part p xs
+unfolding part
+part-after = window-after 1024
+
+pub part-past : (p : ℕ) (xs : List ℕ) (i : ℕ) → 1024 ≤ i → 0 ≡ getD (part p xs) i 0
+unfolding part
+part-past p xs i h = sym (take-past 1024 (drop p xs) i h)
+
+pub part-length : (p : ℕ) (xs : List ℕ) → p + 1024 ≤ length xs → length (part p xs) ≡ 1024
+unfolding part
+part-length p xs h = length-take-le 1024 (drop p xs) (rw length-drop (omega arith))
+
 pub part-clear : (p n : ℕ) → p + 1024 ≤ n → part p (replicate n zero) ≡ replicate 1024 zero
 unfolding part
-part-clear p n h = ap (λ (l : List ℕ). take 1024 l) (drop-clear p n (omega arith)) ∙ take-clear 1024 (n - p) (omega arith)
+part-clear = window-clear 1024
+
+-- a part of what is staged
+pub slot-get : (p : ℕ) (xs : List ℕ) (i : ℕ) → i < 96 → getD (slot p xs) i 0 ≡ getD xs (p + i) 0
+unfolding slot
+slot-get = window-get 96
+
+pub slot-same : (p : ℕ) (xs : List ℕ) (i v : ℕ) → i < 96 → slot p (set xs (p + i) v) ≡ set (slot p xs) i v
+unfolding slot
+slot-same = window-same 96
+
+pub slot-before : (p : ℕ) (xs : List ℕ) (j v : ℕ) → j < p → slot p (set xs j v) ≡ slot p xs
+unfolding slot
+slot-before = window-before 96
+
+pub slot-after : (p : ℕ) (xs : List ℕ) (j v : ℕ) → p + 96 ≤ j → slot p (set xs j v) ≡ slot p xs
+unfolding slot
+slot-after = window-after 96
+
+pub slot-clear : (p n : ℕ) → p + 96 ≤ n → slot p (replicate n zero) ≡ replicate 96 zero
+unfolding slot
+slot-clear = window-clear 96
 
 -- THE PUSH
 abbrev pub cells-of : List ℕ → ℕ → ℕ → ℕ → ℕ → ℕ → ℕ → List ℕ
@@ -274,6 +313,3 @@ via-site i t p q r s e = e ∙ (λ j. site i (p j) (q j) (r j) (s j) t)
 abbrev pub arrays-in : List ℕ → List ℕ → List ℕ → List ℕ → List ℕ → List ℕ → List ℕ → List ℕ → Arrays
 arrays-in c v s m a b d e =
     record { kinds = part 0 c; visible = v; scopes = s; marks = m; n0 = a; n1 = b; n2 = d; n3 = e; origins = part 1024 c; targets = part 2048 c; times = part 3072 c; heads = part 5120 c; links = part 4096 c }
-
-pub via-choice : (A : Arrays) (total here scope time : ℕ) (n l : Name) {k k′ : ℕ} {x : Choice} → k ≡ k′ → x ≡ choice-of A total here scope time k n l → x ≡ choice-of A total here scope time k′ n l
-via-choice A total here scope time n l q p = p ∙ ap (λ (z : ℕ). choice-of A total here scope time z n l) q

@@ -13,7 +13,6 @@ use Rattle.names.specs.Packed.{packed}
 use Rattle.scopes.specs.declared.look.Spot.{Spot}
 use Rattle.scopes.specs.declared.look.Spot.the-variants.{At, Nothing}
 use Rattle.scopes.specs.declared.look.Place.{Place as Site}
-use Rattle.scopes.specs.declared.stage.Staged.{Staged}
 use Rattle.scopes.specs.declared.stage.Choice.{Choice}
 use Rattle.scopes.specs.Form.{string, local-name, after-element}
 use Rattle.scopes.specs.Rows.{Arrays, name-at, isRow, site}
@@ -44,6 +43,20 @@ any-hit p (suc n) i h q = go (native.Mathlib.Decide.decLt i n) (λ l. any-hit p 
         last : (b : Bool) → b || true ≡ true
         last true = refl
         last false = refl
+
+-- entries that a use adds, all in one scope and of one visibility; or a number
+pub record Staged : Type 0 where
+  pub number : ℕ
+  pub count : ℕ
+  pub kinds : List ℕ
+  pub marks : List ℕ
+  pub n0 : List ℕ
+  pub n1 : List ℕ
+  pub n2 : List ℕ
+  pub n3 : List ℕ
+  pub origins : List ℕ
+  pub targets : List ℕ
+  pub times : List ℕ
 
 -- nothing staged, with a number
 abbrev pub refusal : ℕ → Staged

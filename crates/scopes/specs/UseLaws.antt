@@ -13,7 +13,6 @@ use Rattle.names.specs.declared.Name.{Name}
 use Rattle.names.specs.Packed.{packed}
 use Rattle.scopes.specs.declared.look.Spot.{Spot}
 use Rattle.scopes.specs.declared.look.Spot.the-variants.{At, Nothing}
-use Rattle.scopes.specs.declared.stage.Staged.{Staged}
 use Rattle.scopes.specs.declared.stage.Choice.{Choice}
 use Rattle.scopes.specs.Step.{used, head, Elem, got, Tried, done, fail, is-got, number, after, bind, held, import, attempt, judge, element, stage}
 use Rattle.scopes.specs.Register.{is}
@@ -21,7 +20,7 @@ use Rattle.scopes.specs.Flat.{copy, Entry, Flat, Place, inside, look, fl
 use Rattle.scopes.specs.Form.{string, local-name, after-element, element-at, elements-from}
 use Rattle.scopes.specs.Rows.{tab, tab-agree, length-tab, Arrays, row, row-at, isOwn, isRow, hit, first-in, looked, spotted, find-spot, placed, inside-site}
 use Rattle.scopes.specs.Index.{look-up, IndexOf, spot-found, spot-first}
-use Rattle.scopes.specs.Staging.{is-at, any-to, numbered, put, staged-test, staged-held, no-choice, with-choice, sought, occupied, inside-of, chosen, choice-of, staged-item, verdict-of, staged-element, staged-all, item-count, element-count}
+use Rattle.scopes.specs.Staging.{Staged, is-at, any-to, numbered, put, staged-test, staged-held, no-choice, with-choice, sought, occupied, inside-of, chosen, choice-of, staged-item, verdict-of, staged-element, staged-all, item-count, element-count}
 use Rattle.scopes.specs.Views.{staged-row}
 
 -- WHETHER AN ENTRY IS AMONG THEM

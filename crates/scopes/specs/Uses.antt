@@ -11,13 +11,12 @@ use Rattle.names.specs.declared.Name.{Name}
 use Rattle.names.specs.Packed.{packed}
 use Rattle.names.specs.Keywords.{isCrate}
 use Rattle.scopes.specs.declared.look.Way.{Way}
-use Rattle.scopes.specs.declared.stage.Staged.{Staged}
 use Rattle.scopes.specs.Step.{Answer, ok, refused, Tried, done, fail, any-main, bind, shared, nav, stage, settle, use-of, step}
 use Rattle.scopes.specs.Flat.{Entry, Flat, flat, top, stack-names}
 use Rattle.scopes.specs.Form.{Request, resolves-use, string, after-string, after-strings, names-from, elements-from, led-by-crate, use-call, call-of, use-fault, rest-fault, names-fault, elements-fault, after-elements, or-else}
 use Rattle.scopes.specs.Rows.{tab, length-tab, placed}
 use Rattle.scopes.specs.Nav.{stack-of, current-top, Doors, way, Arrived}
-use Rattle.scopes.specs.Staging.{refusal, staged-all, element-count}
+use Rattle.scopes.specs.Staging.{Staged, refusal, staged-all, element-count}
 use Rattle.scopes.specs.Views.{View, ViewMeets, bit-of, arrays-of, rows, entries-of, flat-of, Good, Sized, refusing, accepting, here-of, committed, staged-row, commits}
 use Rattle.scopes.specs.Calls.{length-names, length-stack}
 use Rattle.scopes.specs.UseLaws.{Sized-staged, stage-same}

@@ -15,7 +15,6 @@ use Rattle.scopes.specs.declared.Answer.{Answer as Told}
 use Rattle.scopes.specs.declared.Answer.the-variants.{Done, Mark, Refused}
 use Rattle.scopes.specs.declared.look.Spot.{Spot}
 use Rattle.scopes.specs.declared.look.Spot.the-variants.{At, Nothing}
-use Rattle.scopes.specs.declared.stage.Staged.{Staged}
 use Rattle.scopes.specs.Step.{Answer, ok, marked, refused, step}
 use Rattle.scopes.specs.Flat.{Entry, Flat, flat}
 use Rattle.scopes.specs.Form.{Request, call-of}
@@ -23,7 +22,7 @@ use Rattle.scopes.specs.Note.{accepted}
 use Rattle.scopes.specs.Rows.{tab, tab-agree, Arrays, row, row-at, name-at}
 use Rattle.scopes.specs.Index.{bucket, bucket-below, look-up, key-at, last-of, last-agree, IndexOf}
 use Rattle.scopes.specs.Nav.{stack-of, current-of, Doors}
-use Rattle.scopes.specs.Staging.{is-at}
+use Rattle.scopes.specs.Staging.{Staged, is-at}
 
 -- THE VIEW of a tree: entries in the order made, the index by a hash of scope, kind and name (for each hash its last entry, for each
 -- entry the one before it of the same hash, plus one; 0 for none), and the scopes of the open modules, outermost first
@@ -260,9 +259,6 @@ added-of t s k twice v m deepest =
 -- the answer, and the tree with its last step
 unfoldable pub ended : (View → View) → Added → ViewOutcome
 ended fin a = cond (eqb (a .number) 0) (accepting (fin (a .tree))) (refusing (a .number) (a .tree))
-
-abbrev pub outcome-of : Added → ViewOutcome
-outcome-of = ended (λ t. t)
 
 -- the last entry opened
 abbrev pub opened-last : View → View

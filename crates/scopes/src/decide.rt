@@ -4,6 +4,7 @@ ghost use Prim.Native.Nat.{_+_, _<_, _≤_};
 ghost use Rattle.scopes.specs.Views.{got-of};
 ghost use Rattle.scopes.specs.Trees.{packed-in, view};
 ghost use Rattle.scopes.specs.Plan.{no-plan, planned-of};
+ghost use Rattle.scopes.specs.Batches.{staged-of};
 ghost use Rattle.scopes.specs.Commits.{Decided};
 use crate::Answer;
 use crate::CELLS;
@@ -14,7 +15,7 @@ use crate::form;
 use crate::look;
 use crate::look::Spot;
 use crate::stage;
-use crate::stage::Staged;
+use crate::stage::Batch;
 use crate::stage::refused;
 use names::Name;
 
@@ -135,8 +136,8 @@ pub fn uses<'a>(
     n2: &'a [u64; 1024],
     n3: &'a [u64; 1024],
     decl: &'a [u8],
-) -> Staged
-    ensures { λ r. ⌜ Decided (view (packed-in (now (opened .entry)) (now (cells .entry)) (now (visible .entry)) (now (scopes .entry)) (now (marks .entry)) (now (n0 .entry)) (now (n1 .entry)) (now (n2 .entry)) (now (n3 .entry)))) (now (decl .entry)) r ⌝ }
+) -> Batch
+    ensures { λ r. ⌜ Decided (view (packed-in (now (opened .entry)) (now (cells .entry)) (now (visible .entry)) (now (scopes .entry)) (now (marks .entry)) (now (n0 .entry)) (now (n1 .entry)) (now (n2 .entry)) (now (n3 .entry)))) (now (decl .entry)) (staged-of r) ⌝ }
 {
     let number = form::use_form(decl);
     if number != 0 {

@@ -8,7 +8,8 @@ ghost use Rattle.scopes.specs.Form.{resolves-use};
 ghost use Rattle.scopes.specs.Views.{bit-of};
 ghost use Rattle.scopes.specs.Trees.{packed-in};
 ghost use Rattle.scopes.specs.Pack.{added};
-ghost use Rattle.scopes.specs.Commits.{filled, entry-at};
+ghost use Rattle.scopes.specs.Commits.{filled};
+ghost use Rattle.scopes.specs.Batches.{staged-of};
 ghost use Rattle.scopes.specs.Meets.{Meets, request, left, Leaves};
 ghost use Rattle.scopes.specs.Declares.{Declares, kind-of, asked-of};
 use crate::Answer;
@@ -23,7 +24,8 @@ use crate::TARGETS;
 use crate::TIMES;
 use crate::decide;
 use crate::look;
-use crate::stage::Staged;
+use crate::stage::Batch;
+use crate::stage::entry_at;
 use names::Name;
 
 pub struct Entry {
@@ -168,43 +170,6 @@ pub fn exit(opened: &mut [u16; OPENED]) -> Answer
     Answer::Done
 }
 
-// A staged entry.
-fn entry_at<'a>(
-    kinds: &'a [u16; 96],
-    marks: &'a [u16; 96],
-    n0: &'a [u64; 96],
-    n1: &'a [u64; 96],
-    n2: &'a [u64; 96],
-    n3: &'a [u64; 96],
-    origins: &'a [u16; 96],
-    targets: &'a [u16; 96],
-    times: &'a [u16; 96],
-    i: usize,
-    scope: u16,
-    public: u8,
-) -> Entry
-    requires { ⌜ i < 96 ⌝ }
-    ensures { λ r. ⌜ r ≡ entry-at (now (kinds .entry)) (now (marks .entry)) (now (n0 .entry)) (now (n1 .entry)) (now (n2 .entry)) (now (n3 .entry)) (now (origins .entry)) (now (targets .entry)) (now (times .entry)) i scope public ⌝ }
-{
-    let n = Name {
-        w0: n0[i],
-        w1: n1[i],
-        w2: n2[i],
-        w3: n3[i],
-    };
-    Entry {
-        kind: kinds[i],
-        visible: public,
-        scope: scope,
-        mark: marks[i],
-        name: n,
-        origin: origins[i],
-        target: targets[i],
-        moment: times[i],
-        opens: false,
-    }
-}
-
 // The staged entries, one after another at the tree's end.
 fn commit(
     opened: &mut [u16; OPENED],
@@ -217,29 +182,16 @@ fn commit(
     n2: &mut [u64; 1024],
     n3: &mut [u64; 1024],
     first: usize,
-    staged: Staged,
+    staged: Batch,
     scope: u16,
     public: u8,
 )
     requires { ⌜ (first + staged .count ≤ 1024) × (staged .count ≤ 96) ⌝ }
-    ensures { λ _. ⌜ packed-in (now (opened .exit)) (now (cells .exit)) (now (visible .exit)) (now (scopes .exit)) (now (marks .exit)) (now (n0 .exit)) (now (n1 .exit)) (now (n2 .exit)) (now (n3 .exit)) ≡ filled first (packed-in (now (opened .entry)) (now (cells .entry)) (now (visible .entry)) (now (scopes .entry)) (now (marks .entry)) (now (n0 .entry)) (now (n1 .entry)) (now (n2 .entry)) (now (n3 .entry))) staged scope public (staged .count) ⌝ }
+    ensures { λ _. ⌜ packed-in (now (opened .exit)) (now (cells .exit)) (now (visible .exit)) (now (scopes .exit)) (now (marks .exit)) (now (n0 .exit)) (now (n1 .exit)) (now (n2 .exit)) (now (n3 .exit)) ≡ filled first (packed-in (now (opened .entry)) (now (cells .entry)) (now (visible .entry)) (now (scopes .entry)) (now (marks .entry)) (now (n0 .entry)) (now (n1 .entry)) (now (n2 .entry)) (now (n3 .entry))) (staged-of staged) scope public (staged .count) ⌝ }
 {
     let mut i: usize = 0;
     while i < staged.count {
-        let e = entry_at(
-            &staged.kinds,
-            &staged.marks,
-            &staged.n0,
-            &staged.n1,
-            &staged.n2,
-            &staged.n3,
-            &staged.origins,
-            &staged.targets,
-            &staged.times,
-            i,
-            scope,
-            public,
-        );
+        let e = entry_at(&staged.cells, &staged.names, i, scope, public);
         add(
             &mut *opened,
             &mut *cells,

@@ -3,10 +3,12 @@ ghost use mathlib.Core.Path.{_≡_};
 ghost use Prim.Native.Nat.{_+_, _*_, _<_, _≤_};
 ghost use Rattle.scopes.specs.Staging.{refusal, any-to, staged-test, no-choice, choice-of, clash-of, verdict-so-far, staged-all};
 ghost use Rattle.scopes.specs.Pack.{arrays-in};
+ghost use Rattle.scopes.specs.Batches.{slot, staged-of, entry-in};
 use crate::CELLS;
 use crate::form::local_at;
 use crate::form::name_at;
 use crate::form::next;
+use crate::lent::Entry;
 use crate::look::Spot;
 use crate::look::find_in;
 use crate::look::inside_at;
@@ -14,68 +16,95 @@ use crate::look::is_held;
 use crate::look::is_row;
 use names::Name;
 
-// Entries that a use adds, all in one scope and of one visibility; or a number.
-pub struct Staged {
+// Places of `Batch.cells` and `Batch.names`, and the first of each of their parts.
+pub const STAGED_CELLS: usize = 480;
+
+pub const STAGED_NAMES: usize = 384;
+
+const SECOND: usize = 96;
+
+const THIRD: usize = 192;
+
+const FOURTH: usize = 288;
+
+const FIFTH: usize = 384;
+
+// Entries that a use adds, at most 96, all in one scope and of one visibility; or a number. The cells are kinds, marks, origins, targets
+// and times, the names their four words, each a part of 96.
+pub struct Batch {
     pub number: u8,
     pub count: usize,
-    pub kinds: [u16; 96],
-    pub marks: [u16; 96],
-    pub n0: [u64; 96],
-    pub n1: [u64; 96],
-    pub n2: [u64; 96],
-    pub n3: [u64; 96],
-    pub origins: [u16; 96],
-    pub targets: [u16; 96],
-    pub times: [u16; 96],
+    pub cells: [u16; STAGED_CELLS],
+    pub names: [u64; STAGED_NAMES],
 }
 
-pub fn refused(number: u8) -> Staged
-    ensures { λ r. ⌜ r ≡ refusal number ⌝ }
+pub fn refused(number: u8) -> Batch
+    ensures { λ r. ⌜ staged-of r ≡ refusal number ⌝ }
 {
-    Staged {
+    Batch {
         number: number,
         count: 0,
-        kinds: [0; 96],
-        marks: [0; 96],
-        n0: [0; 96],
-        n1: [0; 96],
-        n2: [0; 96],
-        n3: [0; 96],
-        origins: [0; 96],
-        targets: [0; 96],
-        times: [0; 96],
+        cells: [0; STAGED_CELLS],
+        names: [0; STAGED_NAMES],
     }
 }
 
 // Whether one of the first `count` staged entries has this kind and name.
 fn staged_has<'a>(
-    kinds: &'a [u16; 96],
-    n0: &'a [u64; 96],
-    n1: &'a [u64; 96],
-    n2: &'a [u64; 96],
-    n3: &'a [u64; 96],
+    cells: &'a [u16; STAGED_CELLS],
+    words: &'a [u64; STAGED_NAMES],
     count: usize,
     here: u16,
     kind: u16,
     name: Name,
 ) -> bool
     requires { ⌜ count ≤ 96 ⌝ }
-    ensures { λ r. ⌜ r ≡ any-to (staged-test (now (kinds .entry)) (now (n0 .entry)) (now (n1 .entry)) (now (n2 .entry)) (now (n3 .entry)) here kind name) count ⌝ }
+    ensures { λ r. ⌜ r ≡ any-to (staged-test (slot 0 (now (cells .entry))) (slot 0 (now (words .entry))) (slot 96 (now (words .entry))) (slot 192 (now (words .entry))) (slot 288 (now (words .entry))) here kind name) count ⌝ }
 {
     let mut i: usize = 0;
     while i < count {
         let n = Name {
-            w0: n0[i],
-            w1: n1[i],
-            w2: n2[i],
-            w3: n3[i],
+            w0: words[i],
+            w1: words[SECOND + i],
+            w2: words[THIRD + i],
+            w3: words[FOURTH + i],
         };
-        if is_row(here, kinds[i], n, here, kind, name) {
+        if is_row(here, cells[i], n, here, kind, name) {
             return true;
         }
         i += 1;
     }
     false
+}
+
+// A staged entry.
+pub fn entry_at<'a>(
+    cells: &'a [u16; STAGED_CELLS],
+    words: &'a [u64; STAGED_NAMES],
+    i: usize,
+    scope: u16,
+    public: u8,
+) -> Entry
+    requires { ⌜ i < 96 ⌝ }
+    ensures { λ r. ⌜ r ≡ entry-in (now (cells .entry)) (now (words .entry)) i scope public ⌝ }
+{
+    let n = Name {
+        w0: words[i],
+        w1: words[SECOND + i],
+        w2: words[THIRD + i],
+        w3: words[FOURTH + i],
+    };
+    Entry {
+        kind: cells[i],
+        visible: public,
+        scope: scope,
+        mark: cells[SECOND + i],
+        name: n,
+        origin: cells[THIRD + i],
+        target: cells[FOURTH + i],
+        moment: cells[FIFTH + i],
+        opens: false,
+    }
 }
 
 // What an item copies: number 0 and the entry's mark, its number plus one, and what is inside it; or a number.
@@ -186,9 +215,9 @@ pub fn stage<'a>(
     decl: &'a [u8],
     at: usize,
     count: usize,
-) -> Staged
+) -> Batch
     requires { ⌜ (total ≤ 1024) × ((time ≤ 1024) × ((count ≤ 32) × (at < 32768))) ⌝ }
-    ensures { λ r. ⌜ r ≡ staged-all (arrays-in (now (cells .entry)) (now (visible .entry)) (now (scopes .entry)) (now (marks .entry)) (now (n0 .entry)) (now (n1 .entry)) (now (n2 .entry)) (now (n3 .entry))) total here scope time (now (decl .entry)) count at (refusal 0) ⌝ }
+    ensures { λ r. ⌜ staged-of r ≡ staged-all (arrays-in (now (cells .entry)) (now (visible .entry)) (now (scopes .entry)) (now (marks .entry)) (now (n0 .entry)) (now (n1 .entry)) (now (n2 .entry)) (now (n3 .entry))) total here scope time (now (decl .entry)) count at (refusal 0) ⌝ }
 {
     let mut s = refused(0);
     let mut p = at;
@@ -218,20 +247,20 @@ pub fn stage<'a>(
                 local,
             );
             let end = s.count;
-            let held = staged_has(&s.kinds, &s.n0, &s.n1, &s.n2, &s.n3, end, here, k, local);
+            let held = staged_has(&s.cells, &s.names, end, here, k, local);
             let number = clash(x.number, held);
             told = verdict(told, number);
             kind += 1;
             if number == 0 {
-                s.kinds[end] = k;
-                s.marks[end] = x.mark;
-                s.n0[end] = local.w0;
-                s.n1[end] = local.w1;
-                s.n2[end] = local.w2;
-                s.n3[end] = local.w3;
-                s.origins[end] = x.origin;
-                s.targets[end] = x.target;
-                s.times[end] = x.moment;
+                s.cells[end] = k;
+                s.cells[SECOND + end] = x.mark;
+                s.cells[THIRD + end] = x.origin;
+                s.cells[FOURTH + end] = x.target;
+                s.cells[FIFTH + end] = x.moment;
+                s.names[end] = local.w0;
+                s.names[SECOND + end] = local.w1;
+                s.names[THIRD + end] = local.w2;
+                s.names[FOURTH + end] = local.w3;
                 s.count = end + 1;
             }
         }
