@@ -16,6 +16,7 @@ use Rattle.resolution.specs.Call.{position}
 use Rattle.discovery.specs.Discovery.{Fault, pathsOf}
 use Rattle.discovery.specs.Meaning.{faultsIn}
 use Rattle.discovery.specs.Room.{checked-roomy}
+pub use Rattle.discovery.specs.Meaning.{faults-counted}
 use Rattle.order.specs.Run.{linked, ordered, unitsOf}
 use Rattle.order.specs.Run as order
 use Rattle.order.specs.Call.{padded, unitFiles, orderAnswer, orderReport}
@@ -52,13 +53,6 @@ padded-take l n h = take-at l (drop (length l) (replicate file-limit 0)) n h
 
 padded-long : (l : List ℕ) → length l ≤ length (padded l)
 padded-long l = omega (arith, length-append l (drop (length l) (replicate file-limit 0)))
-
-pub faults-counted : (i : ℕ) (ns ps : List ℕ) → i ≤ length ns → i ≤ length ps → length (faultsIn (take i ns) (take i ps)) ≡ i
-unfolding faultsIn
-faults-counted zero ns ps h k = refl
-faults-counted (suc i) [] ps h k = absurd (omega arith)
-faults-counted (suc i) (n ∷ ns) [] h k = absurd (omega arith)
-faults-counted (suc i) (n ∷ ns) (p ∷ ps) h k = let e = faults-counted i ns ps (omega arith) (omega arith) in omega arith
 
 -- BOTH OPERATIONS, by the check's answer
 module _ (s out img : List ℕ) where

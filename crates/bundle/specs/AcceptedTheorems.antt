@@ -21,6 +21,7 @@ use Rattle.bundle.specs.Conflicts.{any}
 use Rattle.bundle.specs.Stand.{Bytes}
 use Rattle.bundle.specs.Read.{value, read}
 use Rattle.bundle.specs.Form.{Every, IsPath, IsName, FormedRemapping, FormedFile, Formed, fileItems, fileUses, fresh, usable, alike, usableAll, withSlash, WellFormed}
+use Rattle.bundle.specs.Members.{member-true, mem-member, any-true, mem-any, every-mem, mem-getD}
 use Rattle.bundle.specs.Theorems.{sound}
 
 -- the paths that are listed, folders before files
@@ -64,49 +65,7 @@ pub record Accepted (b : Bundle) : Type 0 where
   pub remapping-once : (i j : ℕ) (d : Remapping) → i < length (b .remappings) → j < length (b .remappings)
       → getD (b .remappings) i d .context ≡ getD (b .remappings) j d .context → getD (b .remappings) i d .name ≡ getD (b .remappings) j d .name → i ≡ j
 
--- MEMBERS
-pub member-listed : (t : Text) (l : List Text) → member t l ≡ true → List·Memᴰ t l
-unfolding member
-member-listed t [] h = absurd (false-true h)
-member-listed t (w ∷ l) h = go (same t w) refl (member-listed t l) h
-  where
-    go : (b : Bool) → same t w ≡ b → (member t l ≡ true → List·Memᴰ t l) → (b || member t l) ≡ true → List·Memᴰ t (w ∷ l)
-    go true e r h = List·Memᴰ·head (same-eq t w e)
-    go false e r h = List·Memᴰ·tail (r h)
-
-pub listed-member : (t : Text) (l : List Text) → List·Memᴰ t l → member t l ≡ true
-unfolding member
-listed-member t [] m = absurd (List·Memᴰ·not-nil m)
-listed-member t (w ∷ l) m = ⊎-elim (λ e. rw (equal-same t w e)) (λ n. go (same t w) (listed-member t l n)) (List·Memᴰ·cases-cons m)
-  where
-    go : (b : Bool) → member t l ≡ true → (b || member t l) ≡ true
-    go true h = refl
-    go false h = h
-
--- some element passes
-record Passes {A : Type 0} (f : A → Bool) (l : List A) : Type 0 where
-  one : A
-  among : List·Memᴰ one l
-  passes : f one ≡ true
-
-any-some : {A : Type 0} (f : A → Bool) (l : List A) → any f l ≡ true → Passes f l
-unfolding any
-any-some f [] h = absurd (false-true h)
-any-some f (a ∷ l) h = go (f a) refl (any-some f l) h
-  where
-    go : (t : Bool) → f a ≡ t → (any f l ≡ true → Passes f l) → (t || any f l) ≡ true → Passes f (a ∷ l)
-    go true e r h = record { one = a; among = List·Memᴰ·head refl; passes = e }
-    go false e r h = let p = r h in record { one = p .one; among = List·Memᴰ·tail (p .among); passes = p .passes }
-
-any-holds : {A : Type 0} (f : A → Bool) (l : List A) (x : A) → List·Memᴰ x l → f x ≡ true → any f l ≡ true
-unfolding any
-any-holds f [] x m e = absurd (List·Memᴰ·not-nil m)
-any-holds f (a ∷ l) x m e = ⊎-elim (λ q. rw (rw q at e)) (λ n. go (f a) (any-holds f l x n e)) (List·Memᴰ·cases-cons m)
-  where
-    go : (b : Bool) → any f l ≡ true → (b || any f l) ≡ true
-    go true h = refl
-    go false h = h
-
+-- TESTS
 not-held : (x : Bool) → not x ≡ true → x ≡ true → ⊥
 not-held true h k = false-true h
 not-held false h k = false-true k
@@ -114,16 +73,6 @@ not-held false h k = false-true k
 not-false : (x : Bool) → not x ≡ true → x ≡ false
 not-false true h = absurd (false-true h)
 not-false false h = refl
-
-at-place : {A : Type 0} (l : List A) (i : ℕ) (d : A) → i < length l → List·Memᴰ (getD l i d) l
-at-place [] i d h = absurd (not-suc-le-zero h)
-at-place (x ∷ l) zero d h = List·Memᴰ·head refl
-at-place (x ∷ l) (suc i) d h = List·Memᴰ·tail (at-place l i d (le-of-suc-le-suc h))
-
-every-mem : {A : Type 0} (P : A → Type 0) (l : List A) → Every P l → (x : A) → List·Memᴰ x l → P x
-unfolding Every
-every-mem P [] e x m = absurd (List·Memᴰ·not-nil m)
-every-mem P (a ∷ l) e x m = ⊎-elim (λ q. rw q (e .0)) (λ n. every-mem P l (e .1) x n) (List·Memᴰ·cases-cons m)
 
 file-form : (l : List File) → Every FormedFile l → (p : Text) → List·Memᴰ p (map (λ f. f .path) l) → IsPath p
 unfolding Every
@@ -143,7 +92,7 @@ module _ (F : List Text) where
       let a = and-left (not (member p seen)) _ h in
       let b = and-right (not (member p seen)) (any (directlyIn p) F && fresh (seen ++ (p ∷ [])) F l) h in
       record {
-        new = λ m. not-held (member p seen) a (listed-member p seen m);
+        new = λ m. not-held (member p seen) a (mem-member m);
         below = and-left (any (directlyIn p) F) (fresh (seen ++ (p ∷ [])) F l) b;
         rest = and-right (any (directlyIn p) F) (fresh (seen ++ (p ∷ [])) F l) b;
       }
@@ -165,9 +114,9 @@ module _ (F : List Text) where
   fresh-once seen [] h i j k m e = absurd (not-suc-le-zero k)
   fresh-once seen (q ∷ l) h zero zero k m e = refl
   fresh-once seen (q ∷ l) h zero (suc j) k m e =
-      absurd (fresh-new (seen ++ (q ∷ [])) l (fresh-head seen q l h .rest) q (Memᴰ·cast e (at-place l j [] (le-of-suc-le-suc m))) (Memᴰ·append-right seen (List·Memᴰ·head refl)))
+      absurd (fresh-new (seen ++ (q ∷ [])) l (fresh-head seen q l h .rest) q (Memᴰ·cast e (mem-getD l j [] (le-of-suc-le-suc m))) (Memᴰ·append-right seen (List·Memᴰ·head refl)))
   fresh-once seen (q ∷ l) h (suc i) zero k m e =
-      absurd (fresh-new (seen ++ (q ∷ [])) l (fresh-head seen q l h .rest) q (Memᴰ·cast (sym e) (at-place l i [] (le-of-suc-le-suc k))) (Memᴰ·append-right seen (List·Memᴰ·head refl)))
+      absurd (fresh-new (seen ++ (q ∷ [])) l (fresh-head seen q l h .rest) q (Memᴰ·cast (sym e) (mem-getD l i [] (le-of-suc-le-suc k))) (Memᴰ·append-right seen (List·Memᴰ·head refl)))
   fresh-once seen (q ∷ l) h (suc i) (suc j) k m e =
       ap suc (fresh-once (seen ++ (q ∷ [])) l (fresh-head seen q l h .rest) i j (le-of-suc-le-suc k) (le-of-suc-le-suc m) e)
 
@@ -187,8 +136,8 @@ module _ (F : List Text) where
       let b = and-right (member (r .target) F) _ a in
       let c = and-right (usable (r .name)) _ b in
       record {
-        context = member-listed _ F (and-left (member (r .context) F) _ h);
-        target = member-listed _ F (and-left (member (r .target) F) _ a);
+        context = member-true _ F (and-left (member (r .context) F) _ h);
+        target = member-true _ F (and-left (member (r .target) F) _ a);
         name = and-left (usable (r .name)) _ b;
         new = not-held (any (alike r) seen) (and-left (not (any (alike r) seen)) _ c);
         rest = and-right (not (any (alike r) seen)) _ c;
@@ -209,7 +158,7 @@ module _ (F : List Text) where
   alike-new seen [] h q x m n e = List·Memᴰ·not-nil m
   alike-new seen (r ∷ l) h q x m n e =
       let d = usable-head seen r l h in
-      ⊎-elim (λ i. d .new (any-holds (alike r) seen x n (rw i at e)))
+      ⊎-elim (λ i. d .new (mem-any (alike r) n (rw i at e)))
       (λ k. alike-new (seen ++ (r ∷ [])) l (d .rest) q x k (Memᴰ·append-left (r ∷ []) n) e) (List·Memᴰ·cases-cons m)
 
   alike-is : (r q : Remapping) → r .context ≡ q .context → r .name ≡ q .name → alike r q ≡ true
@@ -221,9 +170,9 @@ module _ (F : List Text) where
   usable-once seen [] h i j d k m e f = absurd (not-suc-le-zero k)
   usable-once seen (q ∷ l) h zero zero d k m e f = refl
   usable-once seen (q ∷ l) h zero (suc j) d k m e f =
-      absurd (alike-new (seen ++ (q ∷ [])) l (usable-head seen q l h .rest) (getD l j d) q (at-place l j d (le-of-suc-le-suc m)) (Memᴰ·append-right seen (List·Memᴰ·head refl)) (alike-is (getD l j d) q (sym e) (sym f)))
+      absurd (alike-new (seen ++ (q ∷ [])) l (usable-head seen q l h .rest) (getD l j d) q (mem-getD l j d (le-of-suc-le-suc m)) (Memᴰ·append-right seen (List·Memᴰ·head refl)) (alike-is (getD l j d) q (sym e) (sym f)))
   usable-once seen (q ∷ l) h (suc i) zero d k m e f =
-      absurd (alike-new (seen ++ (q ∷ [])) l (usable-head seen q l h .rest) (getD l i d) q (at-place l i d (le-of-suc-le-suc k)) (Memᴰ·append-right seen (List·Memᴰ·head refl)) (alike-is (getD l i d) q e f))
+      absurd (alike-new (seen ++ (q ∷ [])) l (usable-head seen q l h .rest) (getD l i d) q (mem-getD l i d (le-of-suc-le-suc k)) (Memᴰ·append-right seen (List·Memᴰ·head refl)) (alike-is (getD l i d) q e f))
   usable-once seen (q ∷ l) h (suc i) (suc j) d k m e f =
       ap suc (usable-once (seen ++ (q ∷ [])) l (usable-head seen q l h .rest) i j d (le-of-suc-le-suc k) (le-of-suc-le-suc m) e f)
 
@@ -244,19 +193,19 @@ slash-form = refl
 -- OF EVERY WELL-FORMED BUNDLE
 module _ (b : Bundle) (w : WellFormed b) where
   folder-form : (d : Text) → List·Memᴰ d (withSlash b) → IsPath d
-  folder-form d m = ⊎-elim (λ e. rw e slash-form) (λ n. every-mem IsPath (b .folders) (w .form .folders) d n) (List·Memᴰ·cases-cons m)
+  folder-form d m = ⊎-elim (λ e. rw e slash-form) (λ n. every-mem IsPath (w .form .folders) n) (List·Memᴰ·cases-cons m)
 
   path-form : (p : Text) → List·Memᴰ p (pathsListed b) → IsPath p
-  path-form p m = ⊎-elim (λ n. every-mem IsPath (b .folders) (w .form .folders) p n) (λ n. file-form (b .files) (w .form .files) p n) (List·Memᴰ·append-cases (b .folders) m)
+  path-form p m = ⊎-elim (λ n. every-mem IsPath (w .form .folders) n) (λ n. file-form (b .files) (w .form .files) p n) (List·Memᴰ·append-cases (b .folders) m)
 
   parent-listed : (p : Text) → List·Memᴰ p (pathsListed b) → List·Memᴰ (parent p) (withSlash b)
   parent-listed p m =
-      let d = any-some (directlyIn p) (withSlash b) (fresh-below (withSlash b) (slash-path ∷ []) (pathsListed b) (w .free .paths) p m) in
-      Memᴰ·cast (directly-in-parent p (d .one) (folder-form (d .one) (d .among)) (d .passes)) (d .among)
+      let d = any-true (directlyIn p) (withSlash b) (fresh-below (withSlash b) (slash-path ∷ []) (pathsListed b) (w .free .paths) p m) in
+      Memᴰ·cast (directly-in-parent p (d .0) (folder-form (d .0) (d .1 .0)) (d .1 .1)) (d .1 .0)
 
   pub accepted-implies : Accepted b
   accepted-implies =
-      let each = every-mem FormedRemapping (b .remappings) (w .form .remappings) in
+      let each : (r : Remapping) → List·Memᴰ r (b .remappings) → FormedRemapping r = λ r m. every-mem FormedRemapping (w .form .remappings) m in
       let one = usable-each (withSlash b) [] (b .remappings) (w .free .remappings) in
       record {
         some-file = w .form .some-file;
@@ -270,11 +219,11 @@ module _ (b : Bundle) (w : WellFormed b) where
         paths = path-form;
         context-path = λ r m. each r m .0;
         target-path = λ r m. each r m .1 .1;
-        items = λ f m. every-mem FormedFile (b .files) (w .form .files) f m .1;
+        items = λ f m. every-mem FormedFile (w .form .files) m .1;
         path-once = fresh-once (withSlash b) (slash-path ∷ []) (pathsListed b) (w .free .paths);
         not-slash = λ m. fresh-new (withSlash b) (slash-path ∷ []) (pathsListed b) (w .free .paths) slash-path m (List·Memᴰ·head refl);
         parents = parent-listed;
-        root-listed = member-listed (b .root) (withSlash b) (w .free .root);
+        root-listed = member-true (b .root) (withSlash b) (w .free .root);
         context-listed = λ r m. one r m .context;
         target-listed = λ r m. one r m .target;
         names = λ r m. usable-name (r .name) (one r m .name);

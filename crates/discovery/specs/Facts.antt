@@ -13,30 +13,10 @@ use borrow.Author.Tests.{eqb-true, eqb-false}
 use Rattle.names.specs.Bytes.{same, member, false-true, not-true, same-eq, equal-same, same-differs}
 use Rattle.bundle.specs.Bundle.{Text}
 use Rattle.resolution.specs.Call.{position}
+pub use Rattle.bundle.specs.Members.{member-true, mem-member, member-false, not-member}
 pub use Rattle.graph.specs.Facts.{cond-elim, mem-snoc, once-snoc, pigeons}
 use Rattle.discovery.specs.Discovery.{Import, holds, entryOf}
 use Rattle.discovery.specs.Reached.{Once, none, more, readable, firsts}
-
--- TESTS OF MEMBERSHIP
-pub member-true : (s : Text) (l : List Text) → member s l ≡ true → List·Memᴰ s l
-unfolding member
-member-true s [] e = absurd (false-true e)
-member-true s (x ∷ l) e = go (same s x) refl e (member-true s l)
-  where
-    go : (b : Bool) → same s x ≡ b → (b || member s l) ≡ true → (member s l ≡ true → List·Memᴰ s l) → List·Memᴰ s (x ∷ l)
-    go true h e' k = List·Memᴰ·head (same-eq s x h)
-    go false h e' k = List·Memᴰ·tail (k e')
-
-pub mem-member : {s : Text} {l : List Text} → List·Memᴰ s l → member s l ≡ true
-unfolding member
-mem-member {s} (List·Memᴰ·head {x} {xs} e) = rw (equal-same s x e)
-mem-member {s} (List·Memᴰ·tail {x} {xs} m) = rw (mem-member m, or-true)
-
-pub member-false : {s : Text} {l : List Text} → member s l ≡ false → List·Memᴰ s l → ⊥
-member-false e m = false-true (sym e ∙ mem-member m)
-
-pub not-member : (s : Text) (l : List Text) → (List·Memᴰ s l → ⊥) → member s l ≡ false
-not-member s l f = not-true (member s l) (λ e. f (member-true s l e))
 
 -- the entry is a file
 pub entry-file : (fs : List Text) (p : Text) → List·Memᴰ p (entryOf fs) → List·Memᴰ p fs

@@ -7,6 +7,7 @@ use mathlib.Core.List.{List, [], _∷_, List·Memᴰ}
 use lib.ListN.{length, length-map}
 use Rattle.bundle.specs.Bundle.{Text, File, Bundle}
 use Rattle.bundle.specs.Decode.{decode}
+use Rattle.bundle.specs.Answers.{value-ok}
 use Rattle.bundle.specs.Read.{verdict, value, read, reading}
 use Rattle.bundle.specs.declared.Checked.{Checked}
 use Rattle.bundle.specs.declared.Checked.the-variants.{Ok, Refused}
@@ -198,14 +199,10 @@ order-count b o files =
     omega arith
 
 -- of the value of every bundle that is not refused
-value-is : (c : Checked) (d b : Bundle) → reading c d ≡ value b → (c ≡ Ok) × (d ≡ b)
-value-is Ok d b h = (refl, cc)
-value-is (Refused n p) d b h = let z : _≡_ {A = ℕ} 0 1 = cc in absurd (omega arith)
-
 pub first-half-read : (s : List ℕ) (b : Bundle) → read s ≡ value b → FirstHalf b (ordered b)
 unfolding read
 first-half-read s b h =
-    let v = value-is (verdict s) (decode s) b h in
+    let v = value-ok (verdict s) (decode s) b h in
     first-half b (subst (λ (x : Bundle). 0 < length (x .files)) (v .1) (checked-roomy s (v .0) .some))
 
 -- "A RING IS REFUSED EXACTLY WHEN two or more different reached files import each other in one, and such a ring is named"; discovery

@@ -17,7 +17,8 @@ use Rattle.names.specs.PathTheorems.{equal-prefixes}
 use Rattle.bundle.specs.Bundle.{Text, Remapping, Bundle}
 use Rattle.bundle.specs.Stand.{Bytes}
 use Rattle.bundle.specs.Read.{value, read}
-use Rattle.bundle.specs.AcceptedTheorems.{Accepted, accepted-read, member-listed}
+use Rattle.bundle.specs.Members.{member-true}
+use Rattle.bundle.specs.AcceptedTheorems.{Accepted, accepted-read}
 use Rattle.resolution.specs.Lists.{Lists, listsOf}
 use Rattle.resolution.specs.Resolution.{packageRoots, getPackageRoot, remappingFor, Lookup, found, missing, buildAndVerifyPath, to, fails, ownFile, orItself, resolveBelow, resolveCratePath, sameRoot, checkLocalFileImportedAsExternal, external, resolveExternalPath, resolvePathInternal}
 use Rattle.resolution.specs.Theorems.{Same, Taken, taken, none-taken, Distinct, taken-in-any-order, Rooted, rooted, none-rooted, rooted-in-any-order, same-roots, Paths, isListed, baseOf, resolved-listed, resolved-below}
@@ -58,7 +59,7 @@ target-paths (r ∷ l) f p m = ⊎-elim (λ e. rw e (f r (List·Memᴰ·head ref
 module _ (b : Bundle) (a : Accepted b) where
   pub paths : Paths (listsOf b)
   paths = record {
-    folders = λ p m. a .paths p (Memᴰ·append-left _ (member-listed p (b .folders) m));
+    folders = λ p m. a .paths p (Memᴰ·append-left _ (member-true p (b .folders) m));
     roots = λ p m. ⊎-elim (λ e. rw e (a .root-path)) (λ n. target-paths (b .remappings) (a .target-path) p n) (List·Memᴰ·cases-cons m);
   }
 
