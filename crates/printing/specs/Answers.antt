@@ -9,9 +9,9 @@ use Rattle.text.specs.Words.{Text, line, lines, no-line}
 use Rattle.text.specs.Writing.{Put, shown, reach, put-then, put-as, put-whole}
 use Rattle.bundle.specs.Decode.{decode}
 use Rattle.order.specs.Run.{unitsOf}
-use Rattle.assembly.specs.Linked.{OneUnit}
+use Rattle.assembly.specs.Given.{OneUnit}
 use Rattle.assembly.specs.declared.Answer.{Answer}
-use Rattle.scopes.specs.Trees.{entries-of}
+use Rattle.scopes.specs.Trees.{flat-of}
 use Rattle.scopes.specs.declared.Tree.{Tree}
 use Rattle.linker.specs.Call.{linkAnswer, linkReport, LinkTree}
 use Rattle.printing.specs.Lines.{unit-line, has-lines}
@@ -22,7 +22,7 @@ use Rattle.printing.specs.Units.{OkLines}
 pub record LinkedLines (s : List ℕ) (a : Answer) (u : Tree) (ls : List (List Text)) : Type 0 where
   pub fits : a .units ≤ length (a .ids)
   pub units : (j : ℕ) → j < a .units → OneUnit s (a .files) (getD (a .ids) j 0)
-  pub is : lines ((ascii "ok" ∷ decimal (length (take (a .units) (a .ids))) ∷ []) ∷ map (unit-line (unitsOf (decode s))) (take (a .units) (a .ids))) ++ lines (has-lines (entries-of u) (entries-of u)) ≡ lines ls
+  pub is : lines ((ascii "ok" ∷ decimal (length (take (a .units) (a .ids))) ∷ []) ∷ map (unit-line (unitsOf (decode s))) (take (a .units) (a .ids))) ++ lines (has-lines (flat-of u .entries) (flat-of u .entries)) ≡ lines ls
 
 -- THE LINES of an answer, of a report buffer and of a tree of which T holds: those of a linked program, of a report, or of a number
 pub record Lined (s : List ℕ) (a : Answer) (rep₁ : List ℕ) (T : Tree → Type 0) (ls : List (List Text)) : Type 0 where
@@ -39,7 +39,7 @@ abbrev pub Shows : List (List Text) → List ℕ → List ℕ → ℕ → Type 0
 Shows ls o o₁ r = (o₁ ≡ shown (lines ls) o) × (r ≡ reach (lines ls) o)
 
 module _ (s rep img : List ℕ) (t : Tree) (a : Answer) (is : a ≡ linkAnswer s rep img) (o : List ℕ) where
-  pub tell-linked : (a .image ≡ 0 → ⊥) → (u : Tree) → LinkTree s img t u → (o₁ o₂ : List ℕ) (to r : ℕ) → OkLines s (a .files) (a .ids) (a .units) o 0 o₁ to → Put (lines (has-lines (entries-of u) (entries-of u))) o₁ to o₂ r
+  pub tell-linked : (a .image ≡ 0 → ⊥) → (u : Tree) → LinkTree s img t u → (o₁ o₂ : List ℕ) (to r : ℕ) → OkLines s (a .files) (a .ids) (a .units) o 0 o₁ to → Put (lines (has-lines (flat-of u .entries) (flat-of u .entries))) o₁ to o₂ r
       → (ls : List (List Text)) → AnswerLines s rep img t ls → Shows ls o o₂ r
   tell-linked h u k o₁ o₂ to r p q ls x =
       let y : LinkedLines s a u ls = subst (λ (z : Answer). LinkedLines s z u ls) (sym is) (x .linked (λ e. h (ap (λ (z : Answer). z .image) is ∙ e)) u k) in

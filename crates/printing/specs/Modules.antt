@@ -17,8 +17,7 @@ use Rattle.text.specs.Words.{Text, line, lines, bytes-of, spelled}
 use Rattle.text.specs.Writing.{Put, put-none, put-then, put-as}
 use Rattle.scopes.specs.Flat.{Entry, none}
 use Rattle.scopes.specs.Rows.{tab, length-tab, getD-tab, name-at}
-use Rattle.scopes.specs.Trees.{rows, entries-of}
-use Rattle.scopes.specs.declared.Tree.{Tree}
+use Rattle.scopes.specs.Views.{View, rows, entries-of}
 use Rattle.printing.specs.Lines.{module-path, has-line, has-lines}
 use Rattle.printing.specs.Reports.{lines-append}
 
@@ -34,13 +33,13 @@ pub record Tells (l : List Entry) (count : ℕ) (scopes kinds marks n0 n1 n2 n3 
   pub kind : (i : ℕ) → i < count → getD l i none .shows .kind ≡ getD kinds i 0
   pub mark : (i : ℕ) → i < count → getD l i none .shows .mark ≡ getD marks i 0
 
--- those of a tree
-pub tree-tells : (t : Tree) → Tells (entries-of t) (t .count) (t .scopes) (t .kinds) (t .marks) (t .n0) (t .n1) (t .n2) (t .n3)
-tree-tells t =
-    let e : (i : ℕ) → i < t .count → getD (entries-of t) i none ≡ rows t i = λ i h. getD-tab (rows t) (t .count) i none h in
+-- those of a tree, by its count
+pub tree-tells : (t : View) (n : ℕ) → n ≡ t .count → Tells (entries-of t) n (t .scopes) (t .kinds) (t .marks) (t .n0) (t .n1) (t .n2) (t .n3)
+tree-tells t n q =
+    let e : (i : ℕ) → i < n → getD (entries-of t) i none ≡ rows t i = λ i h. getD-tab (rows t) (t .count) i none (omega arith) in
     record {
       paths = record {
-        size = length-tab (rows t) (t .count);
+        size = length-tab (rows t) (t .count) ∙ sym q;
         scope = λ i h. ap (λ (x : Entry). x .scope) (e i h);
         name = λ i h. ap (λ (x : Entry). x .shows .name) (e i h);
       };

@@ -13,7 +13,8 @@ use Rattle.bundle.specs.Bundle.{File}
 use Rattle.bundle.specs.Decode.{decode, fileAt}
 use Rattle.order.specs.Run.{unitsOf}
 use Rattle.assembly.specs.Assemble.{fileOf}
-use Rattle.assembly.specs.Linked.{OneUnit, index-small, path-is}
+use Rattle.assembly.specs.Given.{OneUnit}
+use Rattle.assembly.specs.GivenLaws.{index-small, path-is}
 use Rattle.printing.specs.Lines.{unit-line}
 use Rattle.printing.specs.Reports.{lines-more}
 

@@ -1,45 +1,61 @@
 -- The lines of what the linker answers are document 01's, of any bytes. Assumes nothing.
-use Prim.Native.Nat.{ℕ, zero, suc, _+_, _*_, _/_, _%_, _≤_, _<_}
+use Prim.Native.Nat.{ℕ, zero, suc, _+_, _≤_, _<_}
 use native.Mathlib.Omega.{arith}
 use mathlib.Core.Bool.{Bool, true, false, cond}
+use mathlib.Core.Logic.{⊎-elim}
 use mathlib.Core.Path.{_≡_, refl, sym, ap, subst, _∙_}
-use mathlib.Core.List.{List, [], _∷_, _++_, map, List·Memᴰ, List·Memᴰ·head, Memᴰ·append-right}
-use lib.Dec.{leb}
-use lib.ListN.{length, getD, take, length-map, List·getD-map}
+use mathlib.Core.List.{List, [], _∷_, _++_, map, List·Memᴰ, List·Memᴰ·head, List·Memᴰ·not-nil, List·Memᴰ·cases-cons, List·Memᴰ·append-cases, Memᴰ·append-right, Memᴰ·of-map}
+use lib.Dec.{eqb, leb}
+use lib.ListN.{length, getD, take, replicate, length-map, length-replicate, List·getD-map}
 use lib.Seq.{getD-take, length-take-le}
-use borrow.Author.Tests.{leb-true, leb-false, le-leb, lt-leb}
-use Rattle.bundle.specs.Bundle.{Items, Bundle}
+use borrow.Author.Tests.{leb-true, leb-false}
+use Rattle.bundle.specs.Bundle.{Items, none, named, use-of, module-of, ignored, Bundle}
 use Rattle.bundle.specs.Decode.{decode}
+use Rattle.bundle.specs.Form.{WellFormed}
 use Rattle.bundle.specs.Read.{Reading, value, refused, verdict, read}
-use Rattle.bundle.specs.Theorems.{accepted}
-use Rattle.bundle.specs.declared.Checked.the-variants.{Ok}
+use Rattle.bundle.specs.Stand.{Bytes}
+use Rattle.bundle.specs.Theorems.{accepted, told, sound}
+use Rattle.bundle.specs.declared.Checked.{Checked}
+use Rattle.bundle.specs.declared.Checked.the-variants.{Ok, Refused}
 use Rattle.names.specs.Bytes.{ascii}
 use Rattle.names.specs.Decimal.{decimal}
 use Rattle.resolution.specs.Call.{position}
-use Rattle.discovery.specs.Discovery.{pathsOf}
+use Rattle.discovery.specs.Discovery.{Fault, Use, uses, pathsOf}
 use Rattle.discovery.specs.Facts.{getD-any, getD-mem}
 use Rattle.discovery.specs.Room.{checked-roomy}
 use Rattle.order.specs.Run.{ordered, unitsOf}
 use Rattle.order.specs.Run as order
-use Rattle.order.specs.Theorems.{first-half}
+use Rattle.order.specs.Theorems.{first-half, ring-met-always}
+use Rattle.order.specs.Exact.{fault-numbers, place-small, ring-exact}
+use Rattle.order.specs.Report.{Record, fault, ring, small-buffer, reportLength, reporting, lentReport}
+use Rattle.order.specs.Report as report
 use Rattle.order.specs.declared.Answer as ordering
-use Rattle.order.specs.Report.{small-buffer}
+use Rattle.order.specs.declared.Reported.{Reported}
 use Rattle.order.specs.Call.{unitFiles, padded, orderAnswer, orderReport}
 use Rattle.order.specs.Call as call
 use Rattle.scopes.specs.Flat.{Flat, Entry}
-use Rattle.scopes.specs.Trees.{entries-of}
+use Rattle.scopes.specs.Trees.{flat-of, cleared}
 use Rattle.scopes.specs.declared.Tree.{Tree}
-use Rattle.assembly.specs.Image.{imaging, itemsLength, image-limit, long-image, long}
-use Rattle.assembly.specs.Call.{refusing, imagedTo}
-use Rattle.assembly.specs.Faults.{zero-last}
-use Rattle.assembly.specs.Linked.{UnitFiles, LinkedFiles, OneUnit}
+use Rattle.assembly.specs.Assemble.{enum-kind, itemsOf, enumDeclarations, foreignEnum, hasMain, noMain}
+use Rattle.assembly.specs.Image.{imaging, imageLength, itemsLength, image-limit, long-image}
+use Rattle.assembly.specs.Image as image
+use Rattle.assembly.specs.Call.{refusing, reportedTo, imagedTo}
+use Rattle.assembly.specs.Faults.{zero-last, enumsOf, mainFault, enum-found}
+use Rattle.assembly.specs.Given.{FilesGiven, OrderedFilesGiven, OneUnit}
 use Rattle.assembly.specs.Join.{units-linked}
+use Rattle.assembly.specs.Theorems.{assembly, program-only, ring-first, FaultsFrom, of-discovery, of-step5, FaultsMet}
+use Rattle.assembly.specs.declared.Answer.{Answer}
+use Rattle.assembly.specs.declared.Imaged.{Imaged}
 use Rattle.assembly.specs.declared.Imaged.the-variants as imaged
-use Rattle.linker.specs.Link.{Outcome, faulty, closed, ended, linked, linkBundle}
-use Rattle.linker.specs.Call.{answering, TreeAfter, answerTo, reportTo, TreeTo, linkAnswer, linkReport, LinkTree}
+use Rattle.linker.specs.Steps.{Plain}
+use Rattle.linker.specs.Fit.{unit-plain}
+use Rattle.linker.specs.Link.{Outcome, faulty, closed, ended, linked, linkAfter, linkBundle}
+use Rattle.linker.specs.Theorems.{linked-steps, faults-only, ring-only}
+use Rattle.linker.specs.Call.{recordsOf, answering, TreeWith, TreeAfter, linkAnswer, linkReport, LinkTree}
 use Rattle.text.specs.Words.{Text, lines, no-line}
-use Rattle.printing.specs.Lines.{unit-line, has-lines, linked-lines, outcome-lines, reading-lines}
-use Rattle.printing.specs.Reports.{lines-append}
+use Rattle.printing.specs.Lines.{unit-line, has-lines, linked-lines, fault-line, ring-lines, outcome-lines, reading-lines}
+use Rattle.printing.specs.Reports.{ReportAt, lines-append}
+use Rattle.printing.specs.Reported.{Tellable, faults-length, faults-reported, ring-length, ring-reported}
 use Rattle.printing.specs.Answers.{LinkedLines, Lined, AnswerLines}
 
 -- a number and a place alone
@@ -58,7 +74,7 @@ ends-at s rep img t b n p e f = rw (e, f) (number-alone s n p _ (λ u. u ≡ t))
 
 -- LINKED
 -- a unit of the answer is a listed file
-module _ (s files : List ℕ) (units : ℕ) (x : UnitFiles s files units) where
+module _ (s files : List ℕ) (units : ℕ) (x : FilesGiven s files units) where
   count-is : length (unitsOf (decode s)) ≡ units
   count-is = sym (length-map (unitsOf (decode s)) (λ p. position p (pathsOf (decode s)))) ∙ (ap length (sym (x .files-are)) ∙ length-take-le units files (x .fits))
 
@@ -92,22 +108,22 @@ module _ (s rep img : List ℕ) (v : verdict s ≡ Ok) (o : List ℕ) (e : order
   unfolding orderAnswer
   answer-is = rw (accepted s v, e)
 
-  files-are : LinkedFiles s (padded (unitFiles b)) (padded o) (length (unitFiles b))
+  files-are : OrderedFilesGiven s (padded (unitFiles b)) (padded o) (length (unitFiles b))
   files-are =
-      subst (λ (a : ordering.Answer). LinkedFiles s (a .files) (a .ids) (a .units)) answer-is
+      subst (λ (a : ordering.Answer). OrderedFilesGiven s (a .files) (a .ids) (a .units)) answer-is
       (units-linked s rep img (orderAnswer s rep) (orderReport s rep) refl refl (λ z. some-units (sym (ap (λ (a : ordering.Answer). a .units) answer-is) ∙ z)) .0)
 
   order-is : take (length (unitFiles b)) (padded o) ≡ o
   order-is = let q : order.linked (take (length (unitFiles b)) (padded o)) ≡ order.linked o = sym (files-are .order) ∙ e in cc
 
-  pub lines-linked : (m : ℕ) (u : Tree) (l : List Entry) → entries-of u ≡ l
+  pub lines-linked : (m : ℕ) (u : Tree) (l : List Entry) → flat-of u .entries ≡ l
       → LinkedLines s (imagedTo (length (unitFiles b)) (padded (unitFiles b)) (padded o) (imaged.Image m)) u (linked-lines (unitsOf b) o l)
   unfolding lines
   lines-linked m u l q = record {
     fits = files-are .ids-fit;
     units = λ j h. one s (padded (unitFiles b)) (length (unitFiles b)) (files-are .of-units) (getD (padded o) j 0) (below j h);
     is =
-        ap (λ (k : List ℕ). lines ((ascii "ok" ∷ decimal (length k) ∷ []) ∷ map (unit-line (unitsOf b)) k) ++ lines (has-lines (entries-of u) (entries-of u))) order-is
+        ap (λ (k : List ℕ). lines ((ascii "ok" ∷ decimal (length k) ∷ []) ∷ map (unit-line (unitsOf b)) k) ++ lines (has-lines (flat-of u .entries) (flat-of u .entries))) order-is
         ∙ (ap (λ (k : List Entry). lines ((ascii "ok" ∷ decimal (length o) ∷ []) ∷ map (unit-line (unitsOf b)) o) ++ lines (has-lines k k)) q
         ∙ sym (lines-append ((ascii "ok" ∷ decimal (length o) ∷ []) ∷ map (unit-line (unitsOf b)) o) (has-lines l l)));
   }
@@ -119,3 +135,155 @@ module _ (s rep img : List ℕ) (v : verdict s ≡ Ok) (o : List ℕ) (e : order
           let w : getD (padded o) j 0 ≡ getD o j 0 = sym (getD-take (length (unitFiles b)) (padded o) j 0 h) ∙ ap (λ (k : List ℕ). getD k j 0) order-is in
           let i = first-half b (checked-roomy s v .some) .ids o e .below (getD o j 0) (getD-mem o j 0 (omega arith)) in
           omega (arith, length-map (unitsOf b) (λ p. position p (pathsOf b)))
+
+-- WHAT A REPORT CAN TELL of an accepted bundle
+-- two bytes hold the mark of an enum
+enum-small : (us : List Use) (x : Items) → Plain us x → (m : ℕ) → List·Memᴰ m (enumDeclarations x) → m < 65536
+unfolding Plain enumDeclarations
+enum-small us none h m k = absurd (List·Memᴰ·not-nil k)
+enum-small us (named n at v name rest) h m k = go (eqb n enum-kind) (enum-small us rest (h .1) m) k
+  where
+    go : (c : Bool) → (List·Memᴰ m (enumDeclarations rest) → m < 65536) → List·Memᴰ m (cond c (at ∷ enumDeclarations rest) (enumDeclarations rest)) → m < 65536
+    go true f i = let z = h .0 in ⊎-elim (λ e. omega arith) f (List·Memᴰ·cases-cons i)
+    go false f i = f i
+enum-small us (use-of at v segments elements rest) h m k = enum-small us rest (h .1) m k
+enum-small us (module-of at v name inner rest) h m k =
+    ⊎-elim (enum-small us inner (h .1 .0) m) (enum-small us rest (h .1 .1) m) (List·Memᴰ·append-cases (enumDeclarations inner) k)
+enum-small us (ignored at v rest) h m k = enum-small us rest h m k
+
+main-tellable : (b : Bundle) (f : Fault) → List·Memᴰ f (mainFault b) → Tellable f
+unfolding mainFault
+main-tellable b f m = go (hasMain (itemsOf b 0)) m
+  where
+    go : (c : Bool) → List·Memᴰ f (cond c [] (noMain ∷ [])) → Tellable f
+    go true i = absurd (List·Memᴰ·not-nil i)
+    go false i =
+        ⊎-elim
+        (λ e. let n = ap (λ (g : Fault). g .number) e in
+        let p = ap (λ (g : Fault). g .place) e in
+        record { number = λ z. omega arith; place = omega arith })
+        (λ w. absurd (List·Memᴰ·not-nil w)) (List·Memᴰ·cases-cons i)
+
+pub tellable : (b : Bundle) → WellFormed b → (l : List Fault) → FaultsFrom b l → (f : Fault) → List·Memᴰ f l → Tellable f
+tellable b w l (of-discovery q) f m =
+    let i = subst (λ (k : List Fault). List·Memᴰ f k) q m in
+    let n = fault-numbers b f i in
+    record { number = λ z. omega arith; place = place-small b w f i }
+tellable b w l (of-step5 o e q) f m =
+    let a = assembly b w o e in
+    ⊎-elim
+    (λ i. let t = Memᴰ·of-map foreignEnum (enumsOf b (a .before)) i in
+    let u = enum-found b (a .before) (t .0) (t .1) in
+    let n = ap (λ (g : Fault). g .number) (t .2) in
+    let p = ap (λ (g : Fault). g .place) (t .2) in
+    let k = enum-small (uses (itemsOf b (u .unit))) (itemsOf b (u .unit)) (unit-plain b w (u .unit)) (t .0) (u .declared) in
+    record { number = λ z. omega arith; place = omega arith })
+    (main-tellable b f) (List·Memᴰ·append-cases (map foreignEnum (enumsOf b (a .before))) (subst (λ (k : List Fault). List·Memᴰ f k) (q ∙ a .faults) m))
+
+-- A REPORT THAT FITS
+reported-lines : (s : List ℕ) (rs : List Record) (rep : List ℕ) (T : Tree → Type 0) (ls : List (List Text)) → reportLength rs ≤ length rep → 0 < reportLength rs
+    → ReportAt (lentReport rs rep) (reportLength rs) ls → Lined s (reportedTo (reporting rs (length rep))) (lentReport rs rep) T ls
+reported-lines s rs rep T ls h some x =
+    subst (λ (r : Reported). Lined s (reportedTo r) (lentReport rs rep) T ls) (sym (report.fits rs rep h .answered))
+    (record { linked = λ k. absurd (k refl); report = λ e k. x; number = λ e k. absurd (omega arith) })
+
+-- and one that doesn't
+small-lines : (s : List ℕ) (rs : List Record) (rep rep₁ : List ℕ) (T : Tree → Type 0) → length rep < reportLength rs → Lined s (reportedTo (reporting rs (length rep))) rep₁ T (no-line small-buffer 0 ∷ [])
+small-lines s rs rep rep₁ T h =
+    subst (λ (r : Reported). Lined s (reportedTo r) rep₁ T (no-line small-buffer 0 ∷ [])) (sym (report.exceeds rs rep h .answered)) (number-alone s small-buffer 0 rep₁ T)
+
+-- OF ACCEPTED BYTES, in buffers of the program's sizes
+module _ (s : List ℕ) (B : Bytes s) (rep img : List ℕ) (rep-size : length rep ≡ 4096) (img-size : length img ≡ 65538) (t : Tree) (v : verdict s ≡ Ok) where
+  well : WellFormed (decode s)
+  well = sound s B (decode s) (accepted s v) .1
+
+  abbrev Due : Outcome → Type 0
+  Due y =
+      Lined s (answering (unitFiles (decode s)) (length rep) (length img) y) (lentReport (recordsOf y) rep) (λ u. TreeAfter (length img) y t u) (outcome-lines (decode s) y)
+
+  -- 26
+  ring-due : (r : List ℕ) → linkBundle (decode s) ≡ closed r → Due (closed r)
+  unfolding linkBundle outcome-lines
+  ring-due r e =
+      let m = ring-only s (decode s) (accepted s v) r e in
+      let q = ring-met-always s (decode s) (accepted s v) (m .faultless) (m .each-other) in
+      let z : closed (q .0) ≡ closed r = sym (ap linkAfter (ring-first (decode s) (q .0) (q .1 .0))) ∙ e in
+      let k : q .0 ≡ r = cc in
+      let x = ring-exact (decode s) well r (q .1 .0 ∙ ap order.closed k) in
+      let few = x .1 in
+      let n = ring-length r in
+      let fit : reportLength (ring r ∷ []) ≤ length rep = omega arith in
+      reported-lines s (ring r ∷ []) rep (λ u. u ≡ t) (ring-lines r) fit (omega arith) (ring-reported r rep (x .0) fit)
+
+  -- 20 to 25, 27, 28
+  faults-due : (l : List Fault) → linkBundle (decode s) ≡ faulty l → Due (faulty l)
+  unfolding outcome-lines
+  faults-due l e = go (leb (reportLength (map fault l)) 4096) refl
+    where
+      met : FaultsMet (decode s) l
+      met = faults-only s (decode s) (accepted s v) l e
+
+      some : 0 < length l
+      some = at-least l (met .some)
+        where
+          at-least : (k : List Fault) → (k ≡ [] → ⊥) → 0 < length k
+          at-least [] n = absurd (n refl)
+          at-least (f ∷ k) n = omega arith
+
+      go : (c : Bool) → leb (reportLength (map fault l)) 4096 ≡ c
+          → Lined s (reportedTo (reporting (map fault l) (length rep))) (lentReport (map fault l) rep) (λ u. u ≡ t) (cond c (map fault-line l) (no-line small-buffer 0 ∷ []))
+      go true h =
+          let k = leb-true (reportLength (map fault l)) 4096 h in
+          let n = faults-length l in
+          let fit : reportLength (map fault l) ≤ length rep = omega arith in
+          reported-lines s (map fault l) rep (λ u. u ≡ t) (map fault-line l) fit (omega (arith, some)) (faults-reported l rep (met .some) (tellable (decode s) well l (met .from)) fit)
+      go false h =
+          let k = leb-false (reportLength (map fault l)) 4096 h in
+          small-lines s (map fault l) rep (lentReport (map fault l) rep) (λ u. u ≡ t) (omega arith)
+
+  -- a tree, or 15
+  abbrev image-of : List ℕ → Imaged → Answer
+  image-of o i = imagedTo (length (unitFiles (decode s))) (padded (unitFiles (decode s))) (padded o) i
+
+  linked-due : (o : List ℕ) (p : Items) (x : Flat) → linkBundle (decode s) ≡ linked o p x → Due (linked o p x)
+  unfolding outcome-lines
+  linked-due o p x e = go (leb (itemsLength p) image-limit) refl
+    where
+      go : (c : Bool) → leb (itemsLength p) image-limit ≡ c
+          → Lined s (image-of o (imaging p (length img))) (lentReport [] rep) (λ u. TreeWith (imaging p (length img)) x t u) (cond c (linked-lines (unitsOf (decode s)) o (x .entries)) (no-line long-image 0 ∷ []))
+      go true h =
+          let k = leb-true (itemsLength p) image-limit h in
+          let q = program-only (decode s) o p (linked-steps (decode s) o p x e .assembled) in
+          subst (λ (i : Imaged). Lined s (image-of o i) (lentReport [] rep) (λ u. TreeWith i x t u) (linked-lines (unitsOf (decode s)) o (x .entries))) (sym (image.fits p img k (omega arith) .answered))
+          (record {
+            linked = λ n u y. lines-linked s rep img v o (q .order) (imageLength p) u (x .entries) (ap (λ (z : Flat). z .entries) (y .is));
+            report = λ z n. absurd (omega arith);
+            number = λ z n. absurd (omega arith);
+          })
+      go false h =
+          let k = leb-false (itemsLength p) image-limit h in
+          subst (λ (i : Imaged). Lined s (image-of o i) (lentReport [] rep) (λ u. TreeWith i x t u) (no-line long-image 0 ∷ [])) (sym (image.long p img k .answered))
+          (number-alone s long-image 0 (lentReport [] rep) (λ u. u ≡ t))
+
+  due : (y : Outcome) → linkBundle (decode s) ≡ y → Due y
+  unfolding outcome-lines
+  due (faulty l) e = faults-due l e
+  due (closed r) e = ring-due r e
+  due (ended n p) e = number-alone s n p (lentReport [] rep) (λ u. u ≡ t)
+  due (linked o p x) e = linked-due o p x e
+
+  accepted-lines : AnswerLines s rep img t (reading-lines (read s))
+  unfolding linkAnswer linkReport LinkTree reading-lines
+  accepted-lines = rw (accepted s v) (due (linkBundle (decode s)) refl)
+
+-- THE LINES OF THE ANSWER for any bytes, in a report buffer of 4,096 bytes and an image buffer of 65,538, are document 01's
+pub answer-lines-in : (s : List ℕ) → Bytes s → (rep img : List ℕ) → length rep ≡ 4096 → length img ≡ 65538 → (t : Tree) → AnswerLines s rep img t (reading-lines (read s))
+answer-lines-in s B rep img hr hi t = go (verdict s) refl
+  where
+    go : (c : Checked) → verdict s ≡ c → AnswerLines s rep img t (reading-lines (read s))
+    go Ok v = accepted-lines s B rep img hr hi t v
+    go (Refused n p) v = turned-back s rep img t n p (told s n p v)
+
+-- in the program's buffers
+pub answer-lines : (s : List ℕ) → Bytes s → AnswerLines s (replicate 4096 0) (replicate 65538 0) cleared (reading-lines (read s))
+answer-lines s B = answer-lines-in s B (replicate 4096 0) (replicate 65538 0) (length-replicate {A = ℕ} 4096 0) (length-replicate {A = ℕ} 65538 0) cleared

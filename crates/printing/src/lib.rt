@@ -1,9 +1,7 @@
 // Document 01's printed lines: what the linker answers to a bundle, written into a lent buffer.
-ghost use mathlib.Core.List.{List};
-ghost use lib.ListN.{replicate};
-ghost use Rattle.text.specs.Words.{Text};
-ghost use Rattle.scopes.specs.Trees.{cleared};
-ghost use Rattle.printing.specs.Answers.{AnswerLines, Shows};
+ghost use Rattle.bundle.specs.Read.{read};
+ghost use Rattle.printing.specs.Lines.{reading-lines};
+ghost use Rattle.printing.specs.Answers.{Shows};
 
 mod read;
 mod report;
@@ -15,10 +13,10 @@ const REPORT: usize = 4096;
 
 const IMAGE: usize = 65538;
 
-// All that is printed of a bundle, written at the start of the buffer; answers how many bytes that is. 400,000 bytes are enough for
+// All that is printed of a bundle, written at the start of the buffer; answers how many bytes that is. 440,000 bytes are enough for
 // every bundle; a shorter buffer has as much as there is room for.
 pub fn tell(s: &[u8], out: &mut [u8]) -> usize
-    ensures { λ r. ⌜ ((ls : List (List Text)) → AnswerLines (now (s .entry)) (replicate 4096 0) (replicate 65538 0) cleared ls → Shows ls (now (out .entry)) (now (out .exit)) r) ⌝ }
+    ensures { λ r. ⌜ Shows (reading-lines (read (now (s .entry)))) (now (out .entry)) (now (out .exit)) r ⌝ }
 {
     let mut report = [0u8; REPORT];
     let mut image = [0u8; IMAGE];

@@ -7,12 +7,12 @@ ghost use Rattle.names.specs.Decimal.{decimal};
 ghost use Rattle.text.specs.Words.{line, lines, spelled};
 ghost use Rattle.text.specs.Writing.{Put};
 ghost use Rattle.scopes.specs.Flat.{Entry, none};
-ghost use Rattle.scopes.specs.Trees.{entries-of};
+ghost use Rattle.scopes.specs.Trees.{part, flat-of};
 ghost use Rattle.printing.specs.Lines.{module-path, has-lines};
 ghost use Rattle.printing.specs.Modules.{Paths, Tells, parent-in, around-in, Deepest, step-of};
-use crate::read::byte;
 use crate::read::half;
 use crate::read::word;
+use scopes::CELLS;
 use scopes::Tree;
 
 // The scope around the module of a scope; the root for the root.
@@ -133,7 +133,7 @@ fn put_entry<'a>(
     out: &mut [u8],
     at: usize,
     scopes: &'a [u16],
-    kinds: &'a [u8],
+    cells: &'a [u16; CELLS],
     marks: &'a [u16],
     n0: &'a [u64],
     n1: &'a [u64],
@@ -142,7 +142,7 @@ fn put_entry<'a>(
     count: usize,
     i: usize,
 ) -> usize
-    ensures { λ r. ⌜ ((l : List Entry) → Tells l count (now (scopes .entry)) (now (kinds .entry)) (now (marks .entry)) (now (n0 .entry)) (now (n1 .entry)) (now (n2 .entry)) (now (n3 .entry)) → i < count → Put (lines (has-lines l (getD l i none ∷ []))) (now (out .entry)) at (now (out .exit)) r) ⌝ }
+    ensures { λ r. ⌜ ((l : List Entry) → Tells l count (now (scopes .entry)) (part 0 (now (cells .entry))) (now (marks .entry)) (now (n0 .entry)) (now (n1 .entry)) (now (n2 .entry)) (now (n3 .entry)) → i < count → Put (lines (has-lines l (getD l i none ∷ []))) (now (out .entry)) at (now (out .exit)) r) ⌝ }
 {
     let s = half(scopes, i);
     if s == 0 {
@@ -153,7 +153,7 @@ fn put_entry<'a>(
     put_shows(
         out,
         b,
-        byte(kinds, i),
+        scopes::kind_at(cells, i) as u64,
         word(n0, i),
         word(n1, i),
         word(n2, i),
@@ -166,7 +166,7 @@ fn put_entries<'a>(
     out: &mut [u8],
     at: usize,
     scopes: &'a [u16],
-    kinds: &'a [u8],
+    cells: &'a [u16; CELLS],
     marks: &'a [u16],
     n0: &'a [u64],
     n1: &'a [u64],
@@ -174,12 +174,12 @@ fn put_entries<'a>(
     n3: &'a [u64],
     count: usize,
 ) -> usize
-    ensures { λ r. ⌜ ((l : List Entry) → Tells l count (now (scopes .entry)) (now (kinds .entry)) (now (marks .entry)) (now (n0 .entry)) (now (n1 .entry)) (now (n2 .entry)) (now (n3 .entry)) → Put (lines (has-lines l l)) (now (out .entry)) at (now (out .exit)) r) ⌝ }
+    ensures { λ r. ⌜ ((l : List Entry) → Tells l count (now (scopes .entry)) (part 0 (now (cells .entry))) (now (marks .entry)) (now (n0 .entry)) (now (n1 .entry)) (now (n2 .entry)) (now (n3 .entry)) → Put (lines (has-lines l l)) (now (out .entry)) at (now (out .exit)) r) ⌝ }
 {
     let mut to = at;
     let mut i = 0;
     while i < count {
-        to = put_entry(out, to, scopes, kinds, marks, n0, n1, n2, n3, count, i);
+        to = put_entry(out, to, scopes, cells, marks, n0, n1, n2, n3, count, i);
         i += 1;
     }
     to
@@ -187,14 +187,14 @@ fn put_entries<'a>(
 
 // The entries in the order made; units are not shown.
 pub fn put_tree(out: &mut [u8], at: usize, t: Tree) -> usize
-    ensures { λ r. ⌜ Put (lines (has-lines (entries-of t) (entries-of t))) (now (out .entry)) at (now (out .exit)) r ⌝ }
+    ensures { λ r. ⌜ Put (lines (has-lines (flat-of t .entries) (flat-of t .entries))) (now (out .entry)) at (now (out .exit)) r ⌝ }
 {
-    let count = t.count;
+    let count = scopes::count_of(&t.opened);
     put_entries(
         out,
         at,
         &t.scopes,
-        &t.kinds,
+        &t.cells,
         &t.marks,
         &t.n0,
         &t.n1,

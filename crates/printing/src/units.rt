@@ -3,7 +3,7 @@ ghost use Rattle.text.specs.Words.{line};
 ghost use Rattle.text.specs.Writing.{Put};
 ghost use Rattle.bundle.specs.Decode.{decode};
 ghost use Rattle.order.specs.Run.{unitsOf};
-ghost use Rattle.assembly.specs.Linked.{OneUnit};
+ghost use Rattle.assembly.specs.Given.{OneUnit};
 ghost use Rattle.printing.specs.Lines.{unit-line};
 ghost use Rattle.printing.specs.Units.{PathOf, UnitLines, OkLines};
 use crate::read::half;

@@ -1,3 +1,4 @@
+use Rattle.scopes.specs.Trees.{part}
 use denote.Ref.{now}
 use mathlib.Core.Path.{_≡_}
 use Rattle.printing.specs.Modules.{entry-unit, entry-line}
@@ -7,7 +8,6 @@ use Rattle.printing.proofs.tree.put_entry.Statement.{statement}
 use Rattle.printing.proofs.tree.put_entry.Tie as tie
 use Rattle.printing.proofs.tree.put_entry.Reads as reads
 use Rattle.printing.proofs.tree.put_entry.Lts as lts
-use Rattle.printing.proofs.read.byte.Reads as byte-reads
 use Rattle.printing.proofs.read.half.Reads as half-reads
 use Rattle.printing.proofs.read.word.Reads as word-reads
 use Rattle.printing.proofs.tree.put_module.Reads as put-module-reads
@@ -18,7 +18,7 @@ half-requires : tie.Need-half-requires
 half-requires c κs = search needs
 
 returns : tie.Need-returns
-returns c = λ l x h. entry-unit l ((c .before .before .before .before .before .before .before .before .before .before .args) .count) (now ((c .before .before .before .before .before .before .before .before .before .before .args) .scopes)) (now ((c .before .before .before .before .before .before .before .before .before .before .args) .kinds)) (now ((c .before .before .before .before .before .before .before .before .before .before .args) .marks)) (now ((c .before .before .before .before .before .before .before .before .before .before .args) .n0)) (now ((c .before .before .before .before .before .before .before .before .before .before .args) .n1)) (now ((c .before .before .before .before .before .before .before .before .before .before .args) .n2)) (now ((c .before .before .before .before .before .before .before .before .before .before .args) .n3)) x ((c .before .before .before .before .before .before .before .before .before .before .args) .i) h ((c .before .half) .result) ((c .before .half) .ensures .0) ((c .if1) .taken) (now ((c .before .before .before .before .before .before .before .before .before .before .args) .out)) ((c .before .before .before .before .before .before .before .before .before .before .args) .at)
+returns c = λ l x h. entry-unit l ((c .before .before .before .before .before .before .before .before .before .args) .count) (now ((c .before .before .before .before .before .before .before .before .before .args) .scopes)) (part 0 (now ((c .before .before .before .before .before .before .before .before .before .args) .cells))) (now ((c .before .before .before .before .before .before .before .before .before .args) .marks)) (now ((c .before .before .before .before .before .before .before .before .before .args) .n0)) (now ((c .before .before .before .before .before .before .before .before .before .args) .n1)) (now ((c .before .before .before .before .before .before .before .before .before .args) .n2)) (now ((c .before .before .before .before .before .before .before .before .before .args) .n3)) x ((c .before .before .before .before .before .before .before .before .before .args) .i) h ((c .before .half) .result) ((c .before .half) .ensures .0) ((c .if1) .taken) (now ((c .before .before .before .before .before .before .before .before .before .args) .out)) ((c .before .before .before .before .before .before .before .before .before .args) .at)
 
 slice-aggregate-put-bytes : tie.Need-slice-aggregate-put-bytes
 slice-aggregate-put-bytes c = search needs
@@ -29,8 +29,11 @@ put-bytes-requires c κs = search needs
 put-module-requires : tie.Need-put-module-requires
 put-module-requires c κs = search needs
 
-byte-requires : tie.Need-byte-requires
-byte-requires c κs = search needs
+kind-at-requires : tie.Need-kind-at-requires
+kind-at-requires c κs = search needs
+
+cast-put-shows : tie.Need-cast-put-shows
+cast-put-shows c = search needs
 
 word-requires : tie.Need-word-requires
 word-requires c κs = search needs
@@ -54,7 +57,7 @@ same-length : tie.Need-same-length
 same-length c = search needs
 
 returns-2 : tie.Need-returns-2
-returns-2 c = λ l x h. entry-line l ((c .before .before .before .before .before .before .before .before .before .before .before .before .before .before .before .before .before .before .before .before .before .before .before .before .before .before .before .before .before .args) .count) (now ((c .before .before .before .before .before .before .before .before .before .before .before .before .before .before .before .before .before .before .before .before .before .before .before .before .before .before .before .before .before .args) .scopes)) (now ((c .before .before .before .before .before .before .before .before .before .before .before .before .before .before .before .before .before .before .before .before .before .before .before .before .before .before .before .before .before .args) .kinds)) (now ((c .before .before .before .before .before .before .before .before .before .before .before .before .before .before .before .before .before .before .before .before .before .before .before .before .before .before .before .before .before .args) .marks)) (now ((c .before .before .before .before .before .before .before .before .before .before .before .before .before .before .before .before .before .before .before .before .before .before .before .before .before .before .before .before .before .args) .n0)) (now ((c .before .before .before .before .before .before .before .before .before .before .before .before .before .before .before .before .before .before .before .before .before .before .before .before .before .before .before .before .before .args) .n1)) (now ((c .before .before .before .before .before .before .before .before .before .before .before .before .before .before .before .before .before .before .before .before .before .before .before .before .before .before .before .before .before .args) .n2)) (now ((c .before .before .before .before .before .before .before .before .before .before .before .before .before .before .before .before .before .before .before .before .before .before .before .before .before .before .before .before .before .args) .n3)) x ((c .before .before .before .before .before .before .before .before .before .before .before .before .before .before .before .before .before .before .before .before .before .before .before .before .before .before .before .before .before .args) .i) h ((c .before .before .before .before .before .before .before .before .before .before .before .before .before .before .before .before .before .before .before .before .half) .result) ((c .before .before .before .before .before .before .before .before .before .before .before .before .before .before .before .before .before .before .before .before .half) .ensures .0) ((c .before .before .before .before .before .before .before .before .before .before .before .before .before .before .before .before .before .before .before .if1) .left) ((c .before .before .before .before .before .before .before .before .byte) .result) ((c .before .before .before .before .before .before .before .word) .result) ((c .before .before .before .before .before .before .word2) .result) ((c .before .before .before .before .before .word3) .result) ((c .before .before .before .before .word4) .result) ((c .before .before .before .half2) .result) ((c .before .before .before .before .before .before .before .before .byte) .ensures .0) ((c .before .before .before .before .before .before .before .word) .ensures) ((c .before .before .before .before .before .before .word2) .ensures) ((c .before .before .before .before .before .word3) .ensures) ((c .before .before .before .before .word4) .ensures) ((c .before .before .before .half2) .ensures .0) ((c .before .before .before .before .before .before .before .before .before .before .before .before .before .before .before .before .put-bytes) .ensures) ((c .before .before .before .before .before .before .before .before .before .before .before .before .put-module) .ensures l (x .paths)) ((c .before .before .put-shows) .ensures)
+returns-2 c = λ l x h. entry-line l ((c .before .before .before .before .before .before .before .before .before .before .before .before .before .before .before .before .before .before .before .before .before .before .before .before .before .before .before .before .args) .count) (now ((c .before .before .before .before .before .before .before .before .before .before .before .before .before .before .before .before .before .before .before .before .before .before .before .before .before .before .before .before .args) .scopes)) (part 0 (now ((c .before .before .before .before .before .before .before .before .before .before .before .before .before .before .before .before .before .before .before .before .before .before .before .before .before .before .before .before .args) .cells))) (now ((c .before .before .before .before .before .before .before .before .before .before .before .before .before .before .before .before .before .before .before .before .before .before .before .before .before .before .before .before .args) .marks)) (now ((c .before .before .before .before .before .before .before .before .before .before .before .before .before .before .before .before .before .before .before .before .before .before .before .before .before .before .before .before .args) .n0)) (now ((c .before .before .before .before .before .before .before .before .before .before .before .before .before .before .before .before .before .before .before .before .before .before .before .before .before .before .before .before .args) .n1)) (now ((c .before .before .before .before .before .before .before .before .before .before .before .before .before .before .before .before .before .before .before .before .before .before .before .before .before .before .before .before .args) .n2)) (now ((c .before .before .before .before .before .before .before .before .before .before .before .before .before .before .before .before .before .before .before .before .before .before .before .before .before .before .before .before .args) .n3)) x ((c .before .before .before .before .before .before .before .before .before .before .before .before .before .before .before .before .before .before .before .before .before .before .before .before .before .before .before .before .args) .i) h ((c .before .before .before .before .before .before .before .before .before .before .before .before .before .before .before .before .before .before .before .before .half) .result) ((c .before .before .before .before .before .before .before .before .before .before .before .before .before .before .before .before .before .before .before .before .half) .ensures .0) ((c .before .before .before .before .before .before .before .before .before .before .before .before .before .before .before .before .before .before .before .if1) .left) ((c .before .before .before .before .before .before .before .before .kind-at) .result) ((c .before .before .before .before .before .before .before .word) .result) ((c .before .before .before .before .before .before .word2) .result) ((c .before .before .before .before .before .word3) .result) ((c .before .before .before .before .word4) .result) ((c .before .before .before .half2) .result) ((c .before .before .before .before .before .before .before .before .kind-at) .ensures) ((c .before .before .before .before .before .before .before .word) .ensures) ((c .before .before .before .before .before .before .word2) .ensures) ((c .before .before .before .before .before .word3) .ensures) ((c .before .before .before .before .word4) .ensures) ((c .before .before .before .half2) .ensures .0) ((c .before .before .before .before .before .before .before .before .before .before .before .before .before .before .before .before .put-bytes) .ensures) ((c .before .before .before .before .before .before .before .before .before .before .before .before .put-module) .ensures l (x .paths)) ((c .before .before .put-shows) .ensures)
 
 pub put-entry-spec : {M : Type 1} → statement M
 put-entry-spec =
@@ -65,7 +68,8 @@ put-entry-spec =
     slice-aggregate-put-bytes
     put-bytes-requires
     put-module-requires
-    byte-requires
+    kind-at-requires
+    cast-put-shows
     word-requires
     word-requires-2
     word-requires-3

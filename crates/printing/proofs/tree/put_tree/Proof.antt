@@ -1,3 +1,6 @@
+use Rattle.scopes.specs.Trees.{view}
+use Rattle.scopes.specs.Views.{entries-of}
+use Rattle.printing.specs.Modules.{tree-tells}
 use native.Mathlib.Omega.{arith}
 use borrow.Author.Needs.{needs}
 use Rattle.printing.proofs.tree.put_tree.Statement.{statement}
@@ -6,6 +9,9 @@ use Rattle.printing.proofs.tree.put_tree.Reads as reads
 use Rattle.printing.proofs.tree.put_tree.Lts as lts
 use Rattle.printing.proofs.tree.put_entries.Reads as put-entries-reads
 
+count-of-requires : tie.Need-count-of-requires
+count-of-requires c κs = search needs
+
 put-entries-requires : tie.Need-put-entries-requires
 put-entries-requires c κs = search needs
 
@@ -13,7 +19,7 @@ same-length : tie.Need-same-length
 same-length c = search needs
 
 returns : tie.Need-returns
-returns c = search needs
+returns c = (c .before .before .put-entries) .ensures (entries-of (view ((c .before .before .before .before .before .before .before .before .before .before .before .before .before .before .before .before .before .before .before .before .before .before .args) .t3))) (tree-tells (view ((c .before .before .before .before .before .before .before .before .before .before .before .before .before .before .before .before .before .before .before .before .before .before .args) .t3)) ((c .before .before .before .before .before .before .before .before .before .before .before .before .before .before .before .before .before .before .count-of) .result) ((c .before .before .before .before .before .before .before .before .before .before .before .before .before .before .before .before .before .before .count-of) .ensures))
 
 pub put-tree-spec : {M : Type 1} → statement M
-put-tree-spec = tie.close (tie.spec put-entries-requires same-length returns)
+put-tree-spec = tie.close (tie.spec count-of-requires put-entries-requires same-length returns)
