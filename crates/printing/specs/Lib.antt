@@ -2,6 +2,7 @@ pub mod ReadTheorems
 pub mod Lines
 pub mod Reports
 pub mod Reported
+pub mod Room
 pub mod Modules
 pub mod Units
 pub mod Answers

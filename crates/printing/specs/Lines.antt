@@ -11,7 +11,7 @@ use Rattle.bundle.specs.Bundle.{Bundle}
 use Rattle.bundle.specs.Read.{Reading, value, refused, read}
 use Rattle.discovery.specs.Discovery.{Fault}
 use Rattle.order.specs.Run.{unitsOf}
-use Rattle.order.specs.Report.{fault, reportLength, small-buffer, ring-met}
+use Rattle.order.specs.Report.{ring-met}
 use Rattle.assembly.specs.Image.{itemsLength, image-limit, long-image}
 use Rattle.scopes.specs.Flat.{Entry, none}
 use Rattle.linker.specs.Link.{Outcome, faulty, closed, ended, linked, linkBundle}
@@ -48,13 +48,10 @@ ring-lines r = no-line ring-met 0 ∷ (ascii "ring" ∷ map decimal r) ∷ []
 abbrev pub linked-lines : List Text → List ℕ → List Entry → List (List Text)
 linked-lines paths o l = (ascii "ok" ∷ decimal (length o) ∷ []) ∷ (map (unit-line paths) o ++ has-lines l l)
 
--- the program's report buffer
-abbrev pub report-size : ℕ
-report-size = 4096
-
--- 14 where a report is longer than that; 15 where the image is over 65,535 bytes after its header, and never 14 of the image
+-- 15 where the image is over 65,535 bytes after its header. Never 14: the program lends 4,096 bytes for a report, and none of an
+-- accepted bundle is longer (`report-fits`), and 65,538 for an image
 unfoldable pub outcome-lines : Bundle → Outcome → List (List Text)
-outcome-lines b (faulty l) = cond (leb (reportLength (map fault l)) report-size) (map fault-line l) (no-line small-buffer 0 ∷ [])
+outcome-lines b (faulty l) = map fault-line l
 outcome-lines b (closed r) = ring-lines r
 outcome-lines b (ended n p) = no-line n p ∷ []
 outcome-lines b (linked o p x) =

@@ -1,18 +1,16 @@
 -- The bytes of a report have its faults, or its ring. Assumes nothing.
-use Prim.Native.Nat.{ℕ, zero, suc, _+_, _*_, _/_, _%_, _≤_, _<_}
+use Prim.Native.Nat.{ℕ, zero, suc, _+_, _*_, _/_, _≤_, _<_}
 use native.Mathlib.Nat.{mod-eq-of-lt, div-lt-iff-lt-mul}
 use native.Mathlib.Omega.{arith}
 use mathlib.Core.Path.{_≡_, refl, sym, ap, subst, _∙_}
 use mathlib.Core.List.{List, [], _∷_, _++_, map, append-nil, List·Memᴰ, List·Memᴰ·head, List·Memᴰ·tail}
-use lib.Dec.{leb}
 use lib.ListN.{length, getD, drop, List·getD-append}
 use borrow.Author.Tests.{le-leb}
 use Rattle.bundle.specs.Encode.{joined}
 use Rattle.discovery.specs.Discovery.{Fault}
 use Rattle.order.specs.Report.{Record, fault, ring, ring-met, low, recordBytes, reportBytes, recordLength, reportLength, lentReport}
-use Rattle.text.specs.Words.{Text}
 use Rattle.printing.specs.Lines.{fault-line, ring-lines}
-use Rattle.printing.specs.Reports.{no-fault, FaultsAt, RingAt, ReportAt, of-faults, of-ring}
+use Rattle.printing.specs.Reports.{no-fault, ReportAt, of-faults, of-ring}
 
 -- where it fits, the buffer begins with it
 lent-is : (rs : List Record) (out : List ℕ) → reportLength rs ≤ length out → lentReport rs out ≡ reportBytes rs ++ drop (reportLength rs) out

@@ -1,13 +1,13 @@
 -- The line `ok` and the lines `unit`. Assumes nothing.
-use Prim.Native.Nat.{ℕ, suc, _+_, _<_, _≤_}
+use Prim.Native.Nat.{ℕ, _+_, _<_, _≤_}
 use native.Mathlib.Omega.{arith}
 use mathlib.Core.Path.{_≡_, refl, sym, ap, subst, _∙_}
-use mathlib.Core.List.{List, [], _∷_, _++_, map, append-assoc, append-nil}
+use mathlib.Core.List.{List, [], _∷_, _++_, map, append-assoc}
 use lib.ListN.{length, getD, take}
-use lib.Seq.{take-all, take-take, getD-take, length-take-le}
+use lib.Seq.{take-all, getD-take, length-take-le}
 use Rattle.names.specs.Bytes.{ascii}
 use Rattle.names.specs.Decimal.{decimal}
-use Rattle.text.specs.Words.{Text, line, lines}
+use Rattle.text.specs.Words.{line, lines}
 use Rattle.text.specs.Writing.{Put, put-none, put-then, put-as}
 use Rattle.bundle.specs.Bundle.{File}
 use Rattle.bundle.specs.Decode.{decode, fileAt}

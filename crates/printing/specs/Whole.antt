@@ -1,5 +1,5 @@
 -- The lines of what the linker answers are document 01's, of any bytes. Assumes nothing.
-use Prim.Native.Nat.{ℕ, zero, suc, _+_, _≤_, _<_}
+use Prim.Native.Nat.{ℕ, _+_, _≤_, _<_}
 use native.Mathlib.Omega.{arith}
 use mathlib.Core.Bool.{Bool, true, false, cond}
 use mathlib.Core.Logic.{⊎-elim}
@@ -12,7 +12,7 @@ use borrow.Author.Tests.{leb-true, leb-false}
 use Rattle.bundle.specs.Bundle.{Items, none, named, use-of, module-of, ignored, Bundle}
 use Rattle.bundle.specs.Decode.{decode}
 use Rattle.bundle.specs.Form.{WellFormed}
-use Rattle.bundle.specs.Read.{Reading, value, refused, verdict, read}
+use Rattle.bundle.specs.Read.{refused, verdict, read}
 use Rattle.bundle.specs.Stand.{Bytes}
 use Rattle.bundle.specs.Theorems.{accepted, told, sound}
 use Rattle.bundle.specs.declared.Checked.{Checked}
@@ -27,7 +27,7 @@ use Rattle.order.specs.Run.{ordered, unitsOf}
 use Rattle.order.specs.Run as order
 use Rattle.order.specs.Theorems.{first-half, ring-met-always}
 use Rattle.order.specs.Exact.{fault-numbers, place-small, ring-exact}
-use Rattle.order.specs.Report.{Record, fault, ring, small-buffer, reportLength, reporting, lentReport}
+use Rattle.order.specs.Report.{Record, fault, ring, reportLength, reporting, lentReport}
 use Rattle.order.specs.Report as report
 use Rattle.order.specs.declared.Answer as ordering
 use Rattle.order.specs.declared.Reported.{Reported}
@@ -43,7 +43,7 @@ use Rattle.assembly.specs.Call.{refusing, reportedTo, imagedTo}
 use Rattle.assembly.specs.Faults.{zero-last, enumsOf, mainFault, enum-found}
 use Rattle.assembly.specs.Given.{FilesGiven, OrderedFilesGiven, OneUnit}
 use Rattle.assembly.specs.Join.{units-linked}
-use Rattle.assembly.specs.Theorems.{assembly, program-only, ring-first, FaultsFrom, of-discovery, of-step5, FaultsMet}
+use Rattle.assembly.specs.Theorems.{assembly, program-only, ring-first, FaultsFrom, of-discovery, of-step5}
 use Rattle.assembly.specs.declared.Answer.{Answer}
 use Rattle.assembly.specs.declared.Imaged.{Imaged}
 use Rattle.assembly.specs.declared.Imaged.the-variants as imaged
@@ -56,6 +56,7 @@ use Rattle.text.specs.Words.{Text, lines, no-line}
 use Rattle.printing.specs.Lines.{unit-line, has-lines, linked-lines, fault-line, ring-lines, outcome-lines, reading-lines}
 use Rattle.printing.specs.Reports.{ReportAt, lines-append}
 use Rattle.printing.specs.Reported.{Tellable, faults-length, faults-reported, ring-length, ring-reported}
+use Rattle.printing.specs.Room.{report-fits}
 use Rattle.printing.specs.Answers.{LinkedLines, Lined, AnswerLines}
 
 -- a number and a place alone
@@ -66,11 +67,6 @@ number-alone s n p rep T = record { linked = λ h. absurd (h refl); report = λ 
 pub turned-back : (s rep img : List ℕ) (t : Tree) (n p : ℕ) → read s ≡ refused n p → AnswerLines s rep img t (reading-lines (read s))
 unfolding linkAnswer linkReport LinkTree reading-lines
 turned-back s rep img t n p e = rw e (number-alone s n p rep (λ u. u ≡ t))
-
--- 40 TO 51
-pub ends-at : (s rep img : List ℕ) (t : Tree) (b : Bundle) (n p : ℕ) → read s ≡ value b → linkBundle b ≡ ended n p → AnswerLines s rep img t (reading-lines (read s))
-unfolding linkAnswer linkReport LinkTree reading-lines outcome-lines
-ends-at s rep img t b n p e f = rw (e, f) (number-alone s n p _ (λ u. u ≡ t))
 
 -- LINKED
 -- a unit of the answer is a listed file
@@ -136,7 +132,7 @@ module _ (s rep img : List ℕ) (v : verdict s ≡ Ok) (o : List ℕ) (e : order
           let i = first-half b (checked-roomy s v .some) .ids o e .below (getD o j 0) (getD-mem o j 0 (omega arith)) in
           omega (arith, length-map (unitsOf b) (λ p. position p (pathsOf b)))
 
--- WHAT A REPORT CAN TELL of an accepted bundle
+-- A REPORT of an accepted bundle can tell each of its faults
 -- two bytes hold the mark of an enum
 enum-small : (us : List Use) (x : Items) → Plain us x → (m : ℕ) → List·Memᴰ m (enumDeclarations x) → m < 65536
 unfolding Plain enumDeclarations
@@ -187,11 +183,6 @@ reported-lines s rs rep T ls h some x =
     subst (λ (r : Reported). Lined s (reportedTo r) (lentReport rs rep) T ls) (sym (report.fits rs rep h .answered))
     (record { linked = λ k. absurd (k refl); report = λ e k. x; number = λ e k. absurd (omega arith) })
 
--- and one that doesn't
-small-lines : (s : List ℕ) (rs : List Record) (rep rep₁ : List ℕ) (T : Tree → Type 0) → length rep < reportLength rs → Lined s (reportedTo (reporting rs (length rep))) rep₁ T (no-line small-buffer 0 ∷ [])
-small-lines s rs rep rep₁ T h =
-    subst (λ (r : Reported). Lined s (reportedTo r) rep₁ T (no-line small-buffer 0 ∷ [])) (sym (report.exceeds rs rep h .answered)) (number-alone s small-buffer 0 rep₁ T)
-
 -- OF ACCEPTED BYTES, in buffers of the program's sizes
 module _ (s : List ℕ) (B : Bytes s) (rep img : List ℕ) (rep-size : length rep ≡ 4096) (img-size : length img ≡ 65538) (t : Tree) (v : verdict s ≡ Ok) where
   well : WellFormed (decode s)
@@ -218,28 +209,16 @@ module _ (s : List ℕ) (B : Bytes s) (rep img : List ℕ) (rep-size : length re
   -- 20 to 25, 27, 28
   faults-due : (l : List Fault) → linkBundle (decode s) ≡ faulty l → Due (faulty l)
   unfolding outcome-lines
-  faults-due l e = go (leb (reportLength (map fault l)) 4096) refl
+  faults-due l e =
+      let met = faults-only s (decode s) (accepted s v) l e in
+      let n = faults-length l in
+      let k = report-fits s B (decode s) (accepted s v) l e in
+      let fit : reportLength (map fault l) ≤ length rep = omega arith in
+      reported-lines s (map fault l) rep (λ u. u ≡ t) (map fault-line l) fit (omega (arith, some l (met .some))) (faults-reported l rep (met .some) (tellable (decode s) well l (met .from)) fit)
     where
-      met : FaultsMet (decode s) l
-      met = faults-only s (decode s) (accepted s v) l e
-
-      some : 0 < length l
-      some = at-least l (met .some)
-        where
-          at-least : (k : List Fault) → (k ≡ [] → ⊥) → 0 < length k
-          at-least [] n = absurd (n refl)
-          at-least (f ∷ k) n = omega arith
-
-      go : (c : Bool) → leb (reportLength (map fault l)) 4096 ≡ c
-          → Lined s (reportedTo (reporting (map fault l) (length rep))) (lentReport (map fault l) rep) (λ u. u ≡ t) (cond c (map fault-line l) (no-line small-buffer 0 ∷ []))
-      go true h =
-          let k = leb-true (reportLength (map fault l)) 4096 h in
-          let n = faults-length l in
-          let fit : reportLength (map fault l) ≤ length rep = omega arith in
-          reported-lines s (map fault l) rep (λ u. u ≡ t) (map fault-line l) fit (omega (arith, some)) (faults-reported l rep (met .some) (tellable (decode s) well l (met .from)) fit)
-      go false h =
-          let k = leb-false (reportLength (map fault l)) 4096 h in
-          small-lines s (map fault l) rep (lentReport (map fault l) rep) (λ u. u ≡ t) (omega arith)
+      some : (l : List Fault) → (l ≡ [] → ⊥) → 0 < length l
+      some [] h = absurd (h refl)
+      some (f ∷ l) h = omega arith
 
   -- a tree, or 15
   abbrev image-of : List ℕ → Imaged → Answer
@@ -265,6 +244,7 @@ module _ (s : List ℕ) (B : Bytes s) (rep img : List ℕ) (rep-size : length re
           subst (λ (i : Imaged). Lined s (image-of o i) (lentReport [] rep) (λ u. TreeWith i x t u) (no-line long-image 0 ∷ [])) (sym (image.long p img k .answered))
           (number-alone s long-image 0 (lentReport [] rep) (λ u. u ≡ t))
 
+  -- and 40 to 51
   due : (y : Outcome) → linkBundle (decode s) ≡ y → Due y
   unfolding outcome-lines
   due (faulty l) e = faults-due l e
