@@ -5,3 +5,5 @@ pub mod Modules
 pub mod Units
 pub mod Answers
 pub mod Whole
+pub mod PrintedCase
+pub mod DepthTheorems
