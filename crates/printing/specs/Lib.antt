@@ -7,3 +7,5 @@ pub mod Answers
 pub mod Whole
 pub mod PrintedCase
 pub mod DepthTheorems
+pub mod Lengths
+pub mod LengthTheorems
