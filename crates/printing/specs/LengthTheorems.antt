@@ -40,15 +40,16 @@ use Rattle.scopes.specs.Meets.{declares}
 use Rattle.assembly.specs.Image.{itemsLength, image-limit}
 use Rattle.assembly.specs.Assemble.{enum-kind, no-main, foreign-enum, rewriteUse, rewriteItems, fileOf, itemsOf, localItems, assembled, enumDeclarations, foreignEnum, forbidEnumDecInDeps, hasMain, noMain, mainFaults, assemblyFaults, step5, assembleAfter, linearizeAndAssemble}
 use Rattle.assembly.specs.Faults.{step5-numbers}
-use Rattle.assembly.specs.Theorems.{program-always}
+use Rattle.assembly.specs.Theorems.{FaultsFrom, of-discovery, of-step5, program-always}
 use Rattle.linker.specs.Scopes.{Asked, asked, isPublic, useForm, scopeCalls, Walked, done, stopped, scopeWalk}
 use Rattle.linker.specs.Link.{Outcome, faulty, closed, ended, linked, step6, linkAfter, linkBundle}
 use Rattle.linker.specs.Steps.{Plain}
 use Rattle.linker.specs.Fit.{unit-plain}
 use Rattle.linker.specs.Refusals.{RefusedBy, by-form, by-rule, by-limit, refused-by, bad-small}
-use Rattle.linker.specs.Theorems.{requests, Ends, walk-stopped, linked-always, LinkedBundle, linked-bundle}
+use Rattle.linker.specs.Theorems.{requests, Ends, walk-stopped, faults-only, linked-always, LinkedBundle, linked-bundle}
 use Rattle.printing.specs.Lines.{fault-line, linked-lines, report-size, outcome-lines, reading-lines, printed}
 use Rattle.printing.specs.DepthTheorems.{Limited, Declares, AllDeclare, tree-limited}
+use Rattle.printing.specs.FaultCounts.{discovery-faults, step5-faults}
 use Rattle.printing.specs.Lengths.{width-fits, five-digits, one-fits, faults-fit, ring-fits, linked-fits}
 
 -- KINDS AND MARKS of a program's calls
@@ -160,12 +161,6 @@ step5-small b w (u ∷ o) f m =
     (λ k. ⊎-elim (foreign-small b w u u f) (step5-small b w o f) (List·Memᴰ·append-cases (forbidEnumDecInDeps u (localItems b u)) k))
     (List·Memᴰ·append-cases (mainFaults u (localItems b u)) m)
 
--- a report that fits has few records
-report-few : (l : List Fault) → reportLength (map fault l) ≡ length l * 3
-unfolding reportLength recordLength
-report-few [] = refl
-report-few (f ∷ l) = omega (arith, report-few l)
-
 -- UNITS: a path has at most 255 bytes
 path-255 : (t : Text) → IsPath t → length t ≤ 255
 unfolding isPath
@@ -183,13 +178,13 @@ module _ (s : List ℕ) (B : Bytes s) (b : Bundle) (v : read s ≡ value b) wher
   abbrev Fits : Outcome → Type 0
   Fits x = length (lines (outcome-lines b x)) ≤ 440000
 
-  faulty-fits : (l : List Fault) → ((f : Fault) → List·Memᴰ f l → (f .number < 100) × (f .place < 65536)) → Fits (faulty l)
+  faulty-fits : (l : List Fault) → length l ≤ 2000 → ((f : Fault) → List·Memᴰ f l → (f .number < 100) × (f .place < 65536)) → Fits (faulty l)
   unfolding outcome-lines
-  faulty-fits l small = go (leb (reportLength (map fault l)) report-size) refl
+  faulty-fits l few small = go (leb (reportLength (map fault l)) report-size)
     where
-      go : (t : Bool) → leb (reportLength (map fault l)) report-size ≡ t → length (lines (cond t (map fault-line l) (no-line 14 0 ∷ []))) ≤ 440000
-      go true e = faults-fit l (omega (arith, leb-true (reportLength (map fault l)) report-size e, report-few l)) small
-      go false e = one-fits 14 0 (omega arith) (omega (arith, five-digits 0 (omega arith)))
+      go : (t : Bool) → length (lines (cond t (map fault-line l) (no-line 14 0 ∷ []))) ≤ 440000
+      go true = faults-fit l few small
+      go false = one-fits 14 0 (omega arith) (omega (arith, five-digits 0 (omega arith)))
 
   linked-case : (o : List ℕ) (p : Items) (x : Flat) → ordered b ≡ order.linked o → p ≡ assembled b o → linkBundle b ≡ linked o p x → Fits (linked o p x)
   unfolding outcome-lines
@@ -239,20 +234,38 @@ module _ (s : List ℕ) (B : Bytes s) (b : Bundle) (v : read s ≡ value b) wher
       fifth : (o : List ℕ) → ordered b ≡ order.linked o → (fs : List Fault) → assemblyFaults b o ≡ fs → Fits (linkAfter (step5 fs o (assembled b o)))
       fifth o q [] e = sixth o q e (scopeWalk (assembled b o)) refl
       fifth o q (f ∷ fs) e =
-          faulty-fits (f ∷ fs) (λ x m.
+          faulty-fits (f ∷ fs) (omega (arith, step5-faults b w o q units-few, ap length e)) (λ x m.
           let i : List·Memᴰ x (assemblyFaults b o) = subst (λ (l : List Fault). List·Memᴰ x l) (sym e) m in
           (⊎-elim (λ k. omega arith) (λ k. omega arith) (step5-numbers b o x i), step5-small b w o x i))
 
       go : (x : order.Outcome) → ordered b ≡ x → Fits (linkAfter (assembleAfter b x))
       go (order.faulty l) q =
           let e = first-half b (w .form .some-file) .faults l q .0 in
-          faulty-fits l (λ x m.
+          faulty-fits l (omega (arith, discovery-faults b w, ap length e)) (λ x m.
           let i = subst (λ (k : List Fault). List·Memᴰ x k) e m in
           (omega (arith, fault-numbers b x i .1), place-small b w x i))
       go (order.closed r) q =
           let below = first-half b (w .form .some-file) .ring-ids r q in
           ring-fits r (ring-exact b w r q .1) (λ u m. omega (arith, below u m, units-few))
       go (order.linked o) q = fifth o q (assemblyFaults b o) refl
+
+-- EVERY REPORT OF FAULTS FITS: there are at most 1,088
+report-long : (l : List Fault) → reportLength (map fault l) ≡ length l * 3
+unfolding reportLength recordLength
+report-long [] = refl
+report-long (f ∷ l) = omega (arith, report-long l)
+
+module _ (s : List ℕ) (B : Bytes s) (b : Bundle) (v : read s ≡ value b) where
+  pub faults-few : (l : List Fault) → linkBundle b ≡ faulty l → length l ≤ 1088
+  faults-few l e = go (faults-only s b v l e .from)
+    where
+      go : FaultsFrom b l → length l ≤ 1088
+      go (of-discovery q) = omega (arith, discovery-faults b (w s B b v), ap length q)
+      go (of-step5 o h q) = omega (arith, step5-faults b (w s B b v) o h (units-few s B b v), ap length q)
+
+  -- so 14 is never told of the program's report buffer
+  pub report-fits : (l : List Fault) → linkBundle b ≡ faulty l → reportLength (map fault l) ≤ report-size
+  report-fits l e = omega (arith, report-long l, faults-few l e)
 
 -- THE THEOREM, for bytes as many as a slice may have
 pub printed-fits : (s : List ℕ) → Bytes s → length s < 2 ^ 64 → length (printed s) ≤ 440000

@@ -8,4 +8,5 @@ pub mod Whole
 pub mod PrintedCase
 pub mod DepthTheorems
 pub mod Lengths
+pub mod FaultCounts
 pub mod LengthTheorems
