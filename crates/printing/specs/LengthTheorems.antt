@@ -1,12 +1,12 @@
 -- HOW LONG THE PRINTED TEXT IS: at most 440,000 bytes, whatever the bundle. Assumes nothing.
-use Prim.Native.Nat.{ℕ, zero, suc, _+_, _*_, _^_, _≤_, _<_}
+use Prim.Native.Nat.{ℕ, zero, suc, _*_, _≤_, _<_}
 use native.Mathlib.Omega.{arith}
 use mathlib.Core.Bool.{Bool, true, false, cond, _&&_}
 use mathlib.Core.Logic.{⊎-elim}
 use mathlib.Core.Path.{_≡_, refl, sym, ap, subst, _∙_}
 use mathlib.Core.List.{List, [], _∷_, _++_, map, List·Memᴰ, List·Memᴰ·head, List·Memᴰ·tail, List·Memᴰ·cases-cons, List·Memᴰ·not-nil, List·Memᴰ·append-cases, Memᴰ·append-right, Memᴰ·of-map}
 use lib.Dec.{eqb, leb}
-use lib.ListN.{length, getD, length-map}
+use lib.ListN.{length, getD, take, length-map, length-take}
 use borrow.Author.Tests.{leb-true}
 use Rattle.names.specs.Bytes.{slash, and-left, and-right}
 use Rattle.names.specs.Identifier.{isIdentifier}
@@ -29,7 +29,7 @@ use Rattle.discovery.specs.Right.{discovered}
 use Rattle.discovery.specs.Weight.{reached-file}
 use Rattle.order.specs.Run.{ordered, unitsOf}
 use Rattle.order.specs.Run as order
-use Rattle.order.specs.Theorems.{LinkedIds, first-half, order-count}
+use Rattle.order.specs.Theorems.{first-half, order-count}
 use Rattle.order.specs.Exact.{fault-numbers, place-small, ring-exact}
 use Rattle.order.specs.Report.{fault, reportLength, recordLength}
 use Rattle.scopes.specs.Step.{Call, Answer, enter, exit, alias, enum, function, use′, bad, refused as turned}
@@ -48,12 +48,13 @@ use Rattle.linker.specs.Fit.{unit-plain}
 use Rattle.linker.specs.Refusals.{RefusedBy, by-form, by-rule, by-limit, refused-by, bad-small}
 use Rattle.linker.specs.Theorems.{requests, Ends, walk-stopped, faults-only, linked-always, LinkedBundle, linked-bundle}
 use Rattle.printing.specs.Lines.{fault-line, linked-lines, report-size, outcome-lines, reading-lines, printed}
+use Rattle.printing.specs.ReadTheorems.{verdict-enough}
 use Rattle.printing.specs.DepthTheorems.{Limited, Declares, AllDeclare, tree-limited}
 use Rattle.printing.specs.FaultCounts.{discovery-faults, step5-faults}
 use Rattle.printing.specs.Lengths.{width-fits, five-digits, one-fits, faults-fit, ring-fits, linked-fits}
 
 -- KINDS AND MARKS of a program's calls
-abbrev Small : ℕ → ℕ → Type 0
+abbrev pub Small : ℕ → ℕ → Type 0
 Small k m = (k < 10) × (m < 65536)
 
 abbrev Calls : List Asked → Type 0
@@ -186,22 +187,26 @@ module _ (s : List ℕ) (B : Bytes s) (b : Bundle) (v : read s ≡ value b) wher
       go true = faults-fit l few small
       go false = one-fits 14 0 (omega arith) (omega (arith, five-digits 0 (omega arith)))
 
-  linked-case : (o : List ℕ) (p : Items) (x : Flat) → ordered b ≡ order.linked o → p ≡ assembled b o → linkBundle b ≡ linked o p x → Fits (linked o p x)
+  -- THE TREE OF A LINKED BUNDLE: at most 1,024 entries, each at most 9 deep, with a kind of one digit and a mark of two bytes
+  pub linked-tree : (o : List ℕ) (p : Items) (x : Flat) → linkBundle b ≡ linked o p x → Limited Small x
+  linked-tree o p x e =
+      let l = linked-bundle s B b v o p x e in
+      subst (Limited Small) (l .tree)
+      (tree-limited Small (calls-of (requests (scopeCalls p))) (all-declare (scopeCalls p) (subst (λ (i : Items). Calls (scopeCalls i)) (sym (l .program .is)) (program-calls b w o))))
+
+  linked-case : (o : List ℕ) (p : Items) (x : Flat) → linkBundle b ≡ linked o p x → Fits (linked o p x)
   unfolding outcome-lines
-  linked-case o p x q r e = go (leb (itemsLength p) image-limit)
+  linked-case o p x e = go (leb (itemsLength p) image-limit)
     where
       lk : LinkedBundle b o p x
       lk = linked-bundle s B b v o p x e
 
-      ids : LinkedIds b o
-      ids = first-half b (w .form .some-file) .ids o q
-
       tree : Limited Small x
-      tree = subst (Limited Small) (lk .tree) (tree-limited Small (calls-of (requests (scopeCalls p))) (all-declare (scopeCalls p) (subst (λ (i : Items). Calls (scopeCalls i)) (sym r) (program-calls b w o))))
+      tree = linked-tree o p x e
 
       units : (u : ℕ) → List·Memᴰ u o → (u < 100) × (length (getD (unitsOf b) u []) ≤ 255)
       units u m =
-          let h = ids .below u m in
+          let h = lk .assembled .only-units u m in
           let n = units-few in
           let i = getD-mem (unitsOf b) u [] h in
           (omega arith, path-255 (getD (unitsOf b) u []) (accepted-implies b w .paths (getD (unitsOf b) u []) (Memᴰ·append-right (b .folders) (reached-file b (getD (unitsOf b) u []) (discovered b .sound (getD (unitsOf b) u []) i)))))
@@ -228,7 +233,7 @@ module _ (s : List ℕ) (B : Bytes s) (b : Bundle) (v : read s ≡ value b) wher
   outcome-fits = go (ordered b) refl
     where
       sixth : (o : List ℕ) → ordered b ≡ order.linked o → assemblyFaults b o ≡ [] → (x : Walked Flat) → scopeWalk (assembled b o) ≡ x → Fits (step6 o (assembled b o) x)
-      sixth o q f (done x) t = linked-case o (assembled b o) x q refl (linked-always b o (assembled b o) x (program-always b o q f) t)
+      sixth o q f (done x) t = linked-case o (assembled b o) x (linked-always b o (assembled b o) x (program-always b o q f) t)
       sixth o q f (stopped n p) t = ended-case o n p t
 
       fifth : (o : List ℕ) → ordered b ≡ order.linked o → (fs : List Fault) → assemblyFaults b o ≡ fs → Fits (linkAfter (step5 fs o (assembled b o)))
@@ -267,17 +272,27 @@ module _ (s : List ℕ) (B : Bytes s) (b : Bundle) (v : read s ≡ value b) wher
   pub report-fits : (l : List Fault) → linkBundle b ≡ faulty l → reportLength (map fault l) ≤ report-size
   report-fits l e = omega (arith, report-long l, faults-few l e)
 
--- THE THEOREM, for bytes as many as a slice may have
-pub printed-fits : (s : List ℕ) → Bytes s → length s < 2 ^ 64 → length (printed s) ≤ 440000
+-- 1 TO 13: a place lies among the first 65,539 bytes
+front-byte : (n : ℕ) (s : List ℕ) (i : ℕ) → getD (take n s) i 0 ≤ getD s i 0
+front-byte zero s i = omega arith
+front-byte (suc n) [] i = omega arith
+front-byte (suc n) (x ∷ s) zero = omega arith
+front-byte (suc n) (x ∷ s) (suc i) = front-byte n s i
+
+pub place-small-refused : (s : List ℕ) → Bytes s → (n p : ℕ) → read s ≡ refused n p → (n ≤ 13) × (p ≤ 65539)
+place-small-refused s B n p e =
+    let v = read-only s n p e in
+    let i = place-within (take 65539 s) (λ j. omega (arith, front-byte 65539 s j, B j)) n p (verdict-enough s B 65539 (omega arith) ∙ v) in
+    (numbers s n p v .1, omega (arith, i .0, length-take 65539 s))
+
+-- THE THEOREM: whatever the bytes, the printed text has at most 440,000 bytes
+pub printed-fits : (s : List ℕ) → Bytes s → length (printed s) ≤ 440000
 unfolding printed reading-lines
-printed-fits s B long = go (read s) refl
+printed-fits s B = go (read s) refl
   where
     go : (r : Reading) → read s ≡ r → length (lines (reading-lines r)) ≤ 440000
     go (refused n p) e =
-        let v = read-only s n p e in
-        let k = numbers s n p v in
-        let i = place-within s B n p v in
-        let few : length s < 18446744073709551616 = long in
-        let small : p < 100000000000000000000 = omega (arith, i .0) in
-        one-fits n p (omega (arith, k .1)) (width-fits 19 p small)
+        let k = place-small-refused s B n p e in
+        let small : p < 100000 = omega (arith, k .1) in
+        one-fits n p (omega (arith, k .0)) (omega (arith, width-fits 4 p small))
     go (value b) e = outcome-fits s B b e

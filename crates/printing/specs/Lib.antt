@@ -10,3 +10,4 @@ pub mod DepthTheorems
 pub mod Lengths
 pub mod FaultCounts
 pub mod LengthTheorems
+pub mod SpellingTheorems
