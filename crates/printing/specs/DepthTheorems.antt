@@ -2,15 +2,15 @@
 -- each declared kind and mark holds of every entry's. Assumes nothing.
 use Prim.Native.Nat.{ℕ, zero, suc, _+_, _≤_, _<_}
 use native.Mathlib.Omega.{arith}
-use mathlib.Core.Path.{_≡_, refl, sym, ap, subst, _∙_}
+use mathlib.Core.Path.{_≡_, refl, sym, subst}
 use mathlib.Core.Bool.{Bool, true, false, cond, not, _||_, _&&_}
 use mathlib.Core.Logic.{⊎-elim}
 use mathlib.Core.List.{List, [], _∷_, _++_, List·Memᴰ, List·Memᴰ·head, List·Memᴰ·tail, List·Memᴰ·cases-cons, List·Memᴰ·not-nil, List·Memᴰ·append-cases, Memᴰ·append-left, Memᴰ·append-right}
-use lib.Dec.{eqb, ltb}
+use lib.Dec.{eqb}
 use lib.ListN.{length, take, drop, getD, length-append, take-append-drop}
 use borrow.Author.Tests.{ltb-false}
 use Rattle.names.specs.declared.Name.{Name}
-use Rattle.scopes.specs.Step.{declared, used, Head, Elem, Call, enter, exit, alias, enum, function, use′, get-alias, get-function, bad, Answer, ok, refused, Found, missing, got, Model, Tried, done, fail, head, held, full, deep, use-of, fresh, settle, close, step, run}
+use Rattle.scopes.specs.Step.{declared, used, Head, Elem, Call, enter, exit, alias, enum, function, use′, get-alias, get-function, bad, Answer, ok, refused, Found, missing, got, Tried, done, fail, head, held, full, deep, settle, close, step, run}
 use Rattle.scopes.specs.Flat.{Body, own, copy, Entry, Flat, Place, inside, look, top, none, stack-names, pop, push, flat, first-flat, flattened}
 use Rattle.scopes.specs.Register.{is}
 use Rattle.scopes.specs.Note.{inner, along, bring, bring-all, use-bring, fresh-done}

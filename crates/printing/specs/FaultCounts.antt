@@ -1,9 +1,8 @@
--- How many faults there are at most: discovery tells one per use and no more, step 5 one per item and one per unit. Assumes nothing.
+-- How many faults there are at most: discovery tells one per use and no more, step 5 one per item and one more. Assumes nothing.
 use Prim.Native.Nat.{ℕ, zero, suc, _+_, _≤_, _<_}
-use native.Mathlib.Numerals.{add-one}
 use native.Mathlib.Omega.{arith}
 use mathlib.Core.Bool.{Bool, true, false, cond}
-use mathlib.Core.Path.{_≡_, refl, sym, ap, subst, _∙_}
+use mathlib.Core.Path.{_≡_, refl, sym, ap, _∙_}
 use mathlib.Core.List.{List, [], _∷_, _++_, map, append-nil, append-assoc}
 use lib.Dec.{eqb, ltb}
 use lib.ListN.{length, take, getD, length-append, length-map}
@@ -13,15 +12,16 @@ use Rattle.names.specs.Bytes.{member}
 use Rattle.bundle.specs.Bundle.{Text, Items, none, named, use-of, module-of, ignored, File, Bundle}
 use Rattle.bundle.specs.Form.{WellFormed, itemCount, fileItems, useCount, fileUses}
 use Rattle.resolution.specs.Resolution.{Resolved, to, fails}
-use Rattle.resolution.specs.Call.{position}
-use Rattle.discovery.specs.Discovery.{Use, uses, programOf, resolveSingle, useCache, ResolvedUse, Fault, Import, faultOf, importOf, lookupFaults, validImports, unreadable, Loading, addOnce, load, loadAll, Graph, current, handled, turn, turns, start, pathsOf, discoverDependencies}
+use Rattle.discovery.specs.Discovery.{uses, programOf, resolveSingle, useCache, ResolvedUse, Import, faultOf, importOf, lookupFaults, validImports, unreadable, Loading, load, loadAll, Graph, current, handled, turn, turns, start, pathsOf, discoverDependencies}
 use Rattle.discovery.specs.Facts.{cond-elim, pathsAt}
 use Rattle.discovery.specs.Room.{totalUses}
 use Rattle.discovery.specs.Weight.{sumUses, sumOf, totalOf, weigh-of, units-weigh, reached-file}
 use Rattle.resolution.specs.Lists.{listsOf}
 use Rattle.order.specs.Run.{linked, ordered, unitsOf, filesOf}
-use Rattle.order.specs.Theorems.{faultsOf, first-half, order-count}
-use Rattle.assembly.specs.Assemble.{enum-kind, rewriteUse, rewriteItems, fileOf, itemsOf, localItems, enumDeclarations, foreignEnum, forbidEnumDecInDeps, hasMain, noMain, mainFaults, assemblyFaults}
+use Rattle.order.specs.Theorems.{faultsOf, first-half}
+use Rattle.assembly.specs.Assemble.{enum-kind, itemsOf, enumDeclarations, foreignEnum, hasMain, assemblyFaults}
+use Rattle.assembly.specs.Faults.{enumsOf, mainFault, main-told, main-there}
+use Rattle.assembly.specs.Theorems.{assembly}
 
 -- DISCOVERY: a use has a lookup fault or an import
 fault-or-import : (rs : List ResolvedUse) → length (lookupFaults rs) + length (validImports rs) ≡ length rs
@@ -131,46 +131,30 @@ unfolding totalUses fileUses
 total-counted [] = refl
 total-counted (f ∷ fs) = omega (arith, uses-counted (f .items), total-counted fs)
 
--- STEP 5
-enums-few : (path : List Text → List Text) (x : Items) → length (enumDeclarations (rewriteItems path x)) ≤ itemCount x
-unfolding enumDeclarations itemCount rewriteItems
-enums-few path none = omega arith
-enums-few path (named k m v name rest) = go (eqb k enum-kind) (enums-few path rest)
+-- STEP 5: an enum is an item, and the first unit alone may lack `main`
+enums-few : (x : Items) → length (enumDeclarations x) ≤ itemCount x
+unfolding enumDeclarations itemCount
+enums-few none = omega arith
+enums-few (named k m v name rest) = go (eqb k enum-kind) (enums-few rest)
   where
-    go : (t : Bool) → length (enumDeclarations (rewriteItems path rest)) ≤ itemCount rest → length (cond t (m ∷ enumDeclarations (rewriteItems path rest)) (enumDeclarations (rewriteItems path rest))) ≤ 1 + itemCount rest
+    go : (t : Bool) → length (enumDeclarations rest) ≤ itemCount rest → length (cond t (m ∷ enumDeclarations rest) (enumDeclarations rest)) ≤ 1 + itemCount rest
     go true h = omega arith
     go false h = omega arith
-enums-few path (use-of m v segments elements rest) = omega (arith, enums-few path rest)
-enums-few path (module-of m v name inner rest) =
-    omega (arith, enums-few path inner, enums-few path rest, length-append (enumDeclarations (rewriteItems path inner)) (enumDeclarations (rewriteItems path rest)))
-enums-few path (ignored m v rest) = omega (arith, enums-few path rest)
+enums-few (use-of m v segments elements rest) = omega (arith, enums-few rest)
+enums-few (module-of m v name inner rest) = omega (arith, enums-few inner, enums-few rest, length-append (enumDeclarations inner) (enumDeclarations rest))
+enums-few (ignored m v rest) = omega (arith, enums-few rest)
 
-foreign-few : (b : Bundle) (u v : ℕ) → length (forbidEnumDecInDeps v (localItems b u)) ≤ itemCount (itemsOf b u)
-unfolding forbidEnumDecInDeps localItems
-foreign-few b u zero = omega arith
-foreign-few b u (suc v) = omega (arith, length-map (enumDeclarations (localItems b u)) foreignEnum, enums-few (rewriteUse b (fileOf b u)) (itemsOf b u))
+enums-sum : (b : Bundle) (p q : List ℕ) → length (enumsOf b p) ≤ sumOf itemCount (b .files) (filesOf b (p ++ q))
+unfolding enumsOf sumOf pathsAt
+enums-sum b [] q = omega arith
+enums-sum b (u ∷ p) q = omega (arith, enums-sum b p q, enums-few (itemsOf b u), length-append (enumDeclarations (itemsOf b u)) (enumsOf b p))
 
-main-few : (is : Items) (u : ℕ) → length (mainFaults u is) ≤ 1
-unfolding mainFaults
-main-few is (suc u) = omega arith
-main-few is zero = go (hasMain is)
+main-few : (b : Bundle) → length (mainFault b) ≤ 1
+main-few b = go (hasMain (itemsOf b 0)) refl
   where
-    go : (t : Bool) → length (cond t [] (noMain ∷ [])) ≤ 1
-    go true = omega arith
-    go false = omega arith
-
-step5-sum : (b : Bundle) (o : List ℕ) → length (assemblyFaults b o) ≤ length o + sumOf itemCount (b .files) (filesOf b o)
-unfolding assemblyFaults sumOf pathsAt
-step5-sum b [] = omega arith
-step5-sum b (u ∷ o) =
-    omega (
-      arith,
-      step5-sum b o,
-      main-few (localItems b u) u,
-      foreign-few b u u,
-      length-append (mainFaults u (localItems b u)) (forbidEnumDecInDeps u (localItems b u) ++ assemblyFaults b o),
-      length-append (forbidEnumDecInDeps u (localItems b u)) (assemblyFaults b o),
-    )
+    go : (t : Bool) → hasMain (itemsOf b 0) ≡ t → length (mainFault b) ≤ 1
+    go true e = omega (arith, ap length (main-there b e))
+    go false e = omega (arith, ap length (main-told b e))
 
 total-items : (fs : List File) → totalOf itemCount fs ≡ fileItems fs
 unfolding totalOf fileItems
@@ -182,13 +166,18 @@ module _ (b : Bundle) (w : WellFormed b) where
   pub discovery-faults : length (faultsOf b) ≤ 256
   discovery-faults = omega (arith, discovery-few b, total-counted (b .files), w .form .use-count)
 
-  pub step5-faults : (o : List ℕ) → ordered b ≡ linked o → length (unitsOf b) ≤ 64 → length (assemblyFaults b o) ≤ 1088
-  step5-faults o q n =
+  pub step5-faults : (o : List ℕ) → ordered b ≡ linked o → length (assemblyFaults b o) ≤ 1025
+  step5-faults o q =
       let l = first-half b (w .form .some-file) .order o q in
+      let a = assembly b w o q in
       omega (
         arith,
-        step5-sum b o,
-        order-count b o l,
+        ap length (a .faults),
+        length-append (map foreignEnum (enumsOf b (a .before))) (mainFault b),
+        length-map (enumsOf b (a .before)) foreignEnum,
+        main-few b,
+        enums-sum b (a .before) (0 ∷ []),
+        ap (λ (k : List ℕ). sumOf itemCount (b .files) (filesOf b k)) (a .last),
         weigh-of itemCount (l .once) (b .files) (λ p m. reached-file b p (l .sound p m)),
         total-items (b .files),
         w .form .item-count,

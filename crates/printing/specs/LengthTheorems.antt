@@ -12,7 +12,7 @@ use Rattle.names.specs.Bytes.{slash, and-left, and-right}
 use Rattle.names.specs.Identifier.{isIdentifier}
 use Rattle.names.specs.Packed.{packed}
 use Rattle.names.specs.Path.{isPath, path-limit, wellFormed, components}
-use Rattle.names.specs.Decimal.{width, unitName}
+use Rattle.names.specs.Decimal.{unitName}
 use Rattle.names.specs.declared.Name.{Name}
 use Rattle.text.specs.Words.{Text, lines, no-line}
 use Rattle.bundle.specs.Bundle.{Items, none, named, use-of, module-of, ignored, File, Bundle}
@@ -32,21 +32,21 @@ use Rattle.order.specs.Run as order
 use Rattle.order.specs.Theorems.{first-half, order-count}
 use Rattle.order.specs.Exact.{fault-numbers, place-small, ring-exact}
 use Rattle.order.specs.Report.{fault, reportLength, recordLength}
-use Rattle.scopes.specs.Step.{Call, Answer, enter, exit, alias, enum, function, use′, bad, refused as turned}
-use Rattle.scopes.specs.Flat.{Entry, Flat, flat, first-flat, flattened}
+use Rattle.scopes.specs.Step.{Call, enter, alias, enum, function, bad}
+use Rattle.scopes.specs.Flat.{Flat, flat, first-flat}
 use Rattle.scopes.specs.Form.{Request, enters, exits, inserts-alias, inserts-enum, inserts-function, resolves-use, call-of, calls-of, use-call, use-fault}
 use Rattle.scopes.specs.Form as form
 use Rattle.scopes.specs.Meets.{declares}
 use Rattle.assembly.specs.Image.{itemsLength, image-limit}
-use Rattle.assembly.specs.Assemble.{enum-kind, no-main, foreign-enum, rewriteUse, rewriteItems, fileOf, itemsOf, localItems, assembled, enumDeclarations, foreignEnum, forbidEnumDecInDeps, hasMain, noMain, mainFaults, assemblyFaults, step5, assembleAfter, linearizeAndAssemble}
+use Rattle.assembly.specs.Assemble.{enum-kind, rewriteUse, rewriteItems, fileOf, itemsOf, localItems, assembled, enumDeclarations, foreignEnum, forbidEnumDecInDeps, hasMain, noMain, mainFaults, assemblyFaults, step5, assembleAfter, linearizeAndAssemble}
 use Rattle.assembly.specs.Faults.{step5-numbers}
 use Rattle.assembly.specs.Theorems.{FaultsFrom, of-discovery, of-step5, program-always}
-use Rattle.linker.specs.Scopes.{Asked, asked, isPublic, useForm, scopeCalls, Walked, done, stopped, scopeWalk}
-use Rattle.linker.specs.Link.{Outcome, faulty, closed, ended, linked, step6, linkAfter, linkBundle}
+use Rattle.linker.specs.Scopes.{Asked, isPublic, useForm, scopeCalls, Walked, done, stopped, scopeWalk}
+use Rattle.linker.specs.Link.{Outcome, faulty, ended, linked, step6, linkAfter, linkBundle}
 use Rattle.linker.specs.Steps.{Plain}
 use Rattle.linker.specs.Fit.{unit-plain}
 use Rattle.linker.specs.Refusals.{RefusedBy, by-form, by-rule, by-limit, refused-by, bad-small}
-use Rattle.linker.specs.Theorems.{requests, Ends, walk-stopped, faults-only, linked-always, LinkedBundle, linked-bundle}
+use Rattle.linker.specs.Theorems.{requests, walk-stopped, faults-only, linked-always, LinkedBundle, linked-bundle}
 use Rattle.printing.specs.Lines.{fault-line, linked-lines, report-size, outcome-lines, reading-lines, printed}
 use Rattle.printing.specs.ReadTheorems.{verdict-enough}
 use Rattle.printing.specs.DepthTheorems.{Limited, Declares, AllDeclare, tree-limited}
@@ -55,7 +55,7 @@ use Rattle.printing.specs.Lengths.{width-fits, five-digits, one-fits, fa
 
 -- KINDS AND MARKS of a program's calls
 abbrev pub Small : ℕ → ℕ → Type 0
-Small k m = (k < 10) × (m < 65536)
+Small k m = (1 ≤ k) × ((k ≤ 3) × (m < 65536))
 
 abbrev Calls : List Asked → Type 0
 Calls l = (a : Asked) → List·Memᴰ a l → (a .place < 65536) × Declares Small (call-of (a .request))
@@ -69,7 +69,7 @@ named-small s f g = go (isIdentifier s)
 
 enters-small : (s : List ℕ) (v : Bool) (m : ℕ) → m < 65536 → Declares Small (call-of (enters s v m))
 unfolding call-of
-enters-small s v m h = named-small s (λ n. enter n v m) (λ n. (omega arith, h))
+enters-small s v m h = named-small s (λ n. enter n v m) (λ n. (omega arith, (omega arith, h)))
 
 exits-small : Declares Small (call-of exits)
 unfolding call-of
@@ -80,9 +80,9 @@ unfolding call-of
 declares-small k s v m h = go (eqb k 2) (eqb k 4)
   where
     go : (a b : Bool) → Declares Small (call-of (cond a (inserts-function s v m) (cond b (inserts-enum s v m) (inserts-alias s v m))))
-    go true b = named-small s (λ n. function n v m) (λ n. (omega arith, h))
-    go false true = named-small s (λ n. enum n v m) (λ n. (omega arith, h))
-    go false false = named-small s (λ n. alias n v m) (λ n. (omega arith, h))
+    go true b = named-small s (λ n. function n v m) (λ n. (omega arith, (omega arith, h)))
+    go false true = named-small s (λ n. enum n v m) (λ n. (omega arith, (omega arith, h)))
+    go false false = named-small s (λ n. alias n v m) (λ n. (omega arith, (omega arith, h)))
 
 uses-small : (s : List ℕ) (v : Bool) → Declares Small (call-of (resolves-use s v))
 unfolding call-of use-call
@@ -187,7 +187,7 @@ module _ (s : List ℕ) (B : Bytes s) (b : Bundle) (v : read s ≡ value b) wher
       go true = faults-fit l few small
       go false = one-fits 14 0 (omega arith) (omega (arith, five-digits 0 (omega arith)))
 
-  -- THE TREE OF A LINKED BUNDLE: at most 1,024 entries, each at most 9 deep, with a kind of one digit and a mark of two bytes
+  -- THE TREE OF A LINKED BUNDLE: at most 1,024 entries, each at most 9 deep, of kind 1 to 3 and with a mark of two bytes
   pub linked-tree : (o : List ℕ) (p : Items) (x : Flat) → linkBundle b ≡ linked o p x → Limited Small x
   linked-tree o p x e =
       let l = linked-bundle s B b v o p x e in
@@ -212,7 +212,7 @@ module _ (s : List ℕ) (B : Bytes s) (b : Bundle) (v : read s ≡ value b) wher
           (omega arith, path-255 (getD (unitsOf b) u []) (accepted-implies b w .paths (getD (unitsOf b) u []) (Memᴰ·append-right (b .folders) (reached-file b (getD (unitsOf b) u []) (discovered b .sound (getD (unitsOf b) u []) i)))))
 
       go : (t : Bool) → length (lines (cond t (linked-lines (unitsOf b) o (x .entries)) (no-line 15 0 ∷ []))) ≤ 440000
-      go true = linked-fits (unitsOf b) o (x .entries) (omega (arith, order-count b o (lk .files), units-few)) units (tree .few) (λ y m. (tree .frame .scopes y m, tree .frame .shown y m))
+      go true = linked-fits (unitsOf b) o (x .entries) (omega (arith, order-count b o (lk .files), units-few)) units (tree .few) (λ y m. let k = tree .frame .shown y m in (tree .frame .scopes y m, (omega (arith, k .1 .0), k .1 .1)))
       go false = one-fits 15 0 (omega arith) (omega (arith, five-digits 0 (omega arith)))
 
   ended-case : (o : List ℕ) (n p : ℕ) → scopeWalk (assembled b o) ≡ stopped n p → Fits (ended n p)
@@ -239,7 +239,7 @@ module _ (s : List ℕ) (B : Bytes s) (b : Bundle) (v : read s ≡ value b) wher
       fifth : (o : List ℕ) → ordered b ≡ order.linked o → (fs : List Fault) → assemblyFaults b o ≡ fs → Fits (linkAfter (step5 fs o (assembled b o)))
       fifth o q [] e = sixth o q e (scopeWalk (assembled b o)) refl
       fifth o q (f ∷ fs) e =
-          faulty-fits (f ∷ fs) (omega (arith, step5-faults b w o q units-few, ap length e)) (λ x m.
+          faulty-fits (f ∷ fs) (omega (arith, step5-faults b w o q, ap length e)) (λ x m.
           let i : List·Memᴰ x (assemblyFaults b o) = subst (λ (l : List Fault). List·Memᴰ x l) (sym e) m in
           (⊎-elim (λ k. omega arith) (λ k. omega arith) (step5-numbers b o x i), step5-small b w o x i))
 
@@ -254,19 +254,19 @@ module _ (s : List ℕ) (B : Bytes s) (b : Bundle) (v : read s ≡ value b) wher
           ring-fits r (ring-exact b w r q .1) (λ u m. omega (arith, below u m, units-few))
       go (order.linked o) q = fifth o q (assemblyFaults b o) refl
 
--- EVERY REPORT OF FAULTS FITS: there are at most 1,088
+-- EVERY REPORT OF FAULTS FITS: there are at most 1,025
 report-long : (l : List Fault) → reportLength (map fault l) ≡ length l * 3
 unfolding reportLength recordLength
 report-long [] = refl
 report-long (f ∷ l) = omega (arith, report-long l)
 
 module _ (s : List ℕ) (B : Bytes s) (b : Bundle) (v : read s ≡ value b) where
-  pub faults-few : (l : List Fault) → linkBundle b ≡ faulty l → length l ≤ 1088
+  pub faults-few : (l : List Fault) → linkBundle b ≡ faulty l → length l ≤ 1025
   faults-few l e = go (faults-only s b v l e .from)
     where
-      go : FaultsFrom b l → length l ≤ 1088
+      go : FaultsFrom b l → length l ≤ 1025
       go (of-discovery q) = omega (arith, discovery-faults b (w s B b v), ap length q)
-      go (of-step5 o h q) = omega (arith, step5-faults b (w s B b v) o h (units-few s B b v), ap length q)
+      go (of-step5 o h q) = omega (arith, step5-faults b (w s B b v) o h, ap length q)
 
   -- so 14 is never told of the program's report buffer
   pub report-fits : (l : List Fault) → linkBundle b ≡ faulty l → reportLength (map fault l) ≤ report-size

@@ -1,10 +1,8 @@
 -- THE PRINTED CASE, computed from the bytes. Assumes nothing.
 use Prim.Native.String.{String}
 use mathlib.Core.Path.{_≡_, refl}
-use mathlib.Core.Bool.{cond}
-use mathlib.Core.List.{List, [], _∷_, _++_, map}
-use lib.Dec.{eqb}
-use lib.ListN.{length, getD}
+use mathlib.Core.List.{List, [], _∷_, _++_}
+use lib.ListN.{length}
 use Rattle.names.specs.Bytes.{ascii, same, member, all}
 use Rattle.names.specs.Decimal.{digits, decimal, unitName}
 use Rattle.names.specs.Path.{isPath, isComponent, wellFormed, split, onto, components}
@@ -12,29 +10,29 @@ use Rattle.names.specs.Prefix.{directlyIn, startsWith, begins, child, childFile
 use Rattle.names.specs.Identifier.{isIdentifier, class, letter, digit}
 use Rattle.names.specs.Keywords.{isCrate, isMain, isKeyword, keywords}
 use Rattle.names.specs.Packed.{word, packed, sameName}
-use Rattle.bundle.specs.Bundle.{Text, Element, Items, none, named, use-of, module-of, File, Bundle}
+use Rattle.bundle.specs.Bundle.{Text, none, named, use-of, File, Bundle}
 use Rattle.bundle.specs.Encode.{two, string, joined, counted, sized, element, items, remapping, file, fields, encode}
 use Rattle.bundle.specs.Scan.{times, scanString, scanFormed, scanAlias, scanField, scanCount, scanList, scanUse, scanLength, scanMark, scanHead, scanBody, scanEnd, scanItemWith, siblings, scanModule, scanFile, scanFiles, scanHeader}
 use Rattle.bundle.specs.Decode.{each, far, elementAt, remappingAt, itemAt, itemsBy, itemsAt, fileAt, decode}
 use Rattle.bundle.specs.Conflicts.{placedAt, placedRemappingAt, any, listed, located, sameRemapping, remapped, conflicts}
 use Rattle.bundle.specs.Conflicts as conflict
-use Rattle.bundle.specs.Read.{Reading, value, refused, form, lists, files, verdict, read}
+use Rattle.bundle.specs.Read.{form, lists, files, verdict, read}
 use Rattle.resolution.specs.Longest.{insert, longestFirst, firstOf}
 use Rattle.resolution.specs.Resolution.{getPackageRoot, applies, remappingFor, buildAndVerifyPath, resolveCratePath, checkLocalFileImportedAsExternal, resolvePathInternal}
 use Rattle.resolution.specs.Call.{position}
-use Rattle.discovery.specs.Discovery.{Fault, uses, programOf, useCache, lookupFaults, validImports, holds, addOnce, load, loadAll, turn, turns, discoverDependencies}
+use Rattle.discovery.specs.Discovery.{uses, programOf, useCache, lookupFaults, validImports, holds, addOnce, load, loadAll, turn, turns, discoverDependencies}
 use Rattle.graph.specs.Linearize.{linearize, visit, memb, from}
 use Rattle.graph.specs.Linearize as graph
-use Rattle.order.specs.Run.{ordered, unitsOf}
+use Rattle.order.specs.Run.{ordered}
 use Rattle.scopes.specs.Step.{shared, any-main, nav, stage, step}
 use Rattle.scopes.specs.Step as tree
-use Rattle.scopes.specs.Flat.{Entry, none as no-entry, look, stack-names}
+use Rattle.scopes.specs.Flat.{look, stack-names}
 use Rattle.scopes.specs.Form.{after-strings, names-from, local-name, elements-from, string-fault, names-fault, elements-fault, after-elements, rest-fault, use-fault, use-call, call-of}
 use Rattle.scopes.specs.Form as request
 use Rattle.assembly.specs.Assemble.{rewriteUse, rewriteItems, localItems, assembled, enumDeclarations, forbidEnumDecInDeps, hasMain, mainFaults, assemblyFaults, linearizeAndAssemble}
 use Rattle.assembly.specs.Image.{itemsLength, segmentsLength, elementsLength}
 use Rattle.linker.specs.Scopes.{scopeCalls, walkFrom, scopeWalk}
-use Rattle.linker.specs.Link.{Outcome, faulty, closed, ended, linked, linkBundle}
+use Rattle.linker.specs.Link.{linkBundle}
 use Rattle.text.specs.Words.{line, lines, bytes-of, spelled}
 use Rattle.printing.specs.Lines.{module-path, has-lines, outcome-lines, reading-lines, printed}
 

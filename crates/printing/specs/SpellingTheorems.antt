@@ -9,7 +9,7 @@ use mathlib.Core.Path.{_≡_, refl, sym, ap, _∙_}
 use mathlib.Core.List.{List, [], _∷_, _++_}
 use lib.Dec.{eqb}
 use lib.ListN.{length, getD, take, drop, drop-of-length-le, List·getD-eq-default}
-use lib.Seq.{drop-cons, take-all, take-add, take-nil}
+use lib.Seq.{drop-cons, take-all, take-add}
 use borrow.Author.Tests.{eq-eqb, ne-eqb}
 use Rattle.names.specs.Identifier.{isIdentifier, identifier-short, identifier-bytes}
 use Rattle.names.specs.Packed.{Bytes, word, packed}
