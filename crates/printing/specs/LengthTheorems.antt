@@ -1,4 +1,4 @@
--- HOW LONG THE PRINTED TEXT IS: at most 440,000 bytes, whatever the bundle. Assumes nothing.
+-- HOW LONG THE PRINTED TEXT IS: at most 400,000 bytes, whatever the bundle. Assumes nothing.
 use Prim.Native.Nat.{ℕ, zero, suc, _*_, _≤_, _<_}
 use native.Mathlib.Omega.{arith}
 use mathlib.Core.Bool.{Bool, true, false, cond, _&&_}
@@ -6,7 +6,8 @@ use mathlib.Core.Logic.{⊎-elim}
 use mathlib.Core.Path.{_≡_, refl, sym, ap, subst, _∙_}
 use mathlib.Core.List.{List, [], _∷_, _++_, map, List·Memᴰ, List·Memᴰ·head, List·Memᴰ·tail, List·Memᴰ·cases-cons, List·Memᴰ·not-nil, List·Memᴰ·append-cases, Memᴰ·append-right, Memᴰ·of-map}
 use lib.Dec.{eqb, leb}
-use lib.ListN.{length, getD, take, length-map, length-take}
+use lib.ListN.{length, getD, take, length-map, length-take, drop}
+use lib.Seq.{take-at}
 use borrow.Author.Tests.{leb-true}
 use Rattle.names.specs.Bytes.{slash, and-left, and-right}
 use Rattle.names.specs.Identifier.{isIdentifier}
@@ -15,6 +16,7 @@ use Rattle.names.specs.Path.{isPath, path-limit, wellFormed, components}
 use Rattle.names.specs.Decimal.{unitName}
 use Rattle.names.specs.declared.Name.{Name}
 use Rattle.text.specs.Words.{Text, lines, no-line}
+use Rattle.text.specs.Writing.{shown, reach, shown-all}
 use Rattle.bundle.specs.Bundle.{Items, none, named, use-of, module-of, ignored, File, Bundle}
 use Rattle.bundle.specs.Form.{WellFormed, IsPath}
 use Rattle.bundle.specs.Stand.{Bytes}
@@ -177,13 +179,13 @@ module _ (s : List ℕ) (B : Bytes s) (b : Bundle) (v : read s ≡ value b) wher
       omega (arith, w .form .file-count, pigeons (discovered b .once) (pathsOf b) (λ p m. reached-file b p (discovered b .sound p m)), length-map (b .files) (λ (f : File). f .path))
 
   abbrev Fits : Outcome → Type 0
-  Fits x = length (lines (outcome-lines b x)) ≤ 440000
+  Fits x = length (lines (outcome-lines b x)) ≤ 400000
 
   faulty-fits : (l : List Fault) → length l ≤ 2000 → ((f : Fault) → List·Memᴰ f l → (f .number < 100) × (f .place < 65536)) → Fits (faulty l)
   unfolding outcome-lines
   faulty-fits l few small = go (leb (reportLength (map fault l)) report-size)
     where
-      go : (t : Bool) → length (lines (cond t (map fault-line l) (no-line 14 0 ∷ []))) ≤ 440000
+      go : (t : Bool) → length (lines (cond t (map fault-line l) (no-line 14 0 ∷ []))) ≤ 400000
       go true = faults-fit l few small
       go false = one-fits 14 0 (omega arith) (omega (arith, five-digits 0 (omega arith)))
 
@@ -211,7 +213,7 @@ module _ (s : List ℕ) (B : Bytes s) (b : Bundle) (v : read s ≡ value b) wher
           let i = getD-mem (unitsOf b) u [] h in
           (omega arith, path-255 (getD (unitsOf b) u []) (accepted-implies b w .paths (getD (unitsOf b) u []) (Memᴰ·append-right (b .folders) (reached-file b (getD (unitsOf b) u []) (discovered b .sound (getD (unitsOf b) u []) i)))))
 
-      go : (t : Bool) → length (lines (cond t (linked-lines (unitsOf b) o (x .entries)) (no-line 15 0 ∷ []))) ≤ 440000
+      go : (t : Bool) → length (lines (cond t (linked-lines (unitsOf b) o (x .entries)) (no-line 15 0 ∷ []))) ≤ 400000
       go true = linked-fits (unitsOf b) o (x .entries) (omega (arith, order-count b o (lk .files), units-few)) units (tree .few) (λ y m. let k = tree .frame .shown y m in (tree .frame .scopes y m, (omega (arith, k .1 .0), k .1 .1)))
       go false = one-fits 15 0 (omega arith) (omega (arith, five-digits 0 (omega arith)))
 
@@ -285,14 +287,24 @@ place-small-refused s B n p e =
     let i = place-within (take 65539 s) (λ j. omega (arith, front-byte 65539 s j, B j)) n p (verdict-enough s B 65539 (omega arith) ∙ v) in
     (numbers s n p v .1, omega (arith, i .0, length-take 65539 s))
 
--- THE THEOREM: whatever the bytes, the printed text has at most 440,000 bytes
-pub printed-fits : (s : List ℕ) → Bytes s → length (printed s) ≤ 440000
+-- THE THEOREM: whatever the bytes, the printed text has at most 400,000 bytes
+pub printed-short : (s : List ℕ) → Bytes s → length (printed s) ≤ 400000
 unfolding printed reading-lines
-printed-fits s B = go (read s) refl
+printed-short s B = go (read s) refl
   where
-    go : (r : Reading) → read s ≡ r → length (lines (reading-lines r)) ≤ 440000
+    go : (r : Reading) → read s ≡ r → length (lines (reading-lines r)) ≤ 400000
     go (refused n p) e =
         let k = place-small-refused s B n p e in
         let small : p < 100000 = omega (arith, k .1) in
         one-fits n p (omega (arith, k .0)) (omega (arith, width-fits 4 p small))
     go (value b) e = outcome-fits s B b e
+
+-- so the program's buffer of 440,000 bytes has room for it
+pub printed-fits : (s : List ℕ) → Bytes s → length (printed s) ≤ 440000
+printed-fits s B = omega (arith, printed-short s B)
+
+-- and holds all of it once it is written there
+pub printed-whole : (s : List ℕ) → Bytes s → (o : List ℕ) → 400000 ≤ length o → (take (length (printed s)) (shown (printed s) o) ≡ printed s) × (reach (printed s) o ≡ length (printed s))
+printed-whole s B o h =
+    let a = shown-all (printed s) o (omega (arith, printed-short s B)) in
+    (ap (take (length (printed s))) (a .0) ∙ take-at (printed s) (drop (length (printed s)) o) (length (printed s)) refl, a .1)

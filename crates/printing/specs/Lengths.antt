@@ -125,7 +125,7 @@ pub no-short : (n p : ℕ) → n < 100 → width p ≤ 20 → length (line (no-l
 no-short n p h k =
     omega (arith, line-more (ascii "no") (decimal n) (decimal p ∷ []), line-more (decimal n) (decimal p) [], line-last (decimal p), no-length, two-digits n h)
 
-pub has-short : (l : List Entry) (e : Entry) → Within 9 l (e .scope) → e .shows .kind < 10 → e .shows .mark < 65536 → length (line (has-line l e)) ≤ 400
+pub has-short : (l : List Entry) (e : Entry) → Within 9 l (e .scope) → e .shows .kind < 10 → e .shows .mark < 65536 → length (line (has-line l e)) ≤ 357
 has-short l e w k m =
     let path = module-path (length l) l (e .scope) in
     let kind = decimal (e .shows .kind) in
@@ -166,33 +166,33 @@ has-few l (e ∷ es) = go (eqb (e .scope) 0) (has-few l es)
     go true h = omega arith
     go false h = omega arith
 
-pub unit-short : (paths : List Text) (u : ℕ) → u < 100 → length (getD paths u []) ≤ 255 → length (line (unit-line paths u)) ≤ 400
+pub unit-short : (paths : List Text) (u : ℕ) → u < 100 → length (getD paths u []) ≤ 255 → length (line (unit-line paths u)) ≤ 357
 unit-short paths u h k =
     omega (arith, line-more (ascii "unit") (decimal u) (getD paths u [] ∷ []), line-more (decimal u) (getD paths u []) [], line-last (getD paths u []), unit-length, two-digits u h)
 
-ok-short : (n : ℕ) → n < 100 → length (line (ascii "ok" ∷ decimal n ∷ [])) ≤ 400
+ok-short : (n : ℕ) → n < 100 → length (line (ascii "ok" ∷ decimal n ∷ [])) ≤ 357
 ok-short n h = omega (arith, line-more (ascii "ok") (decimal n) [], line-last (decimal n), ok-length, two-digits n h)
 
 -- LINKED
 pub linked-fits : (paths : List Text) (o : List ℕ) (l : List Entry) → length o ≤ 64 → ((u : ℕ) → List·Memᴰ u o → (u < 100) × (length (getD paths u []) ≤ 255)) → length l ≤ 1024
-    → ((e : Entry) → List·Memᴰ e l → Within 9 l (e .scope) × ((e .shows .kind < 10) × (e .shows .mark < 65536))) → length (lines (linked-lines paths o l)) ≤ 440000
+    → ((e : Entry) → List·Memᴰ e l → Within 9 l (e .scope) × ((e .shows .kind < 10) × (e .shows .mark < 65536))) → length (lines (linked-lines paths o l)) ≤ 400000
 linked-fits paths o l few units most entries =
-    let n = lines-length 400 (linked-lines paths o l) each in
+    let n = lines-length 357 (linked-lines paths o l) each in
     omega (arith, length-append (map (unit-line paths) o) (has-lines l l), length-map o (unit-line paths), has-few l l)
   where
-    of-units : (w : List Text) → List·Memᴰ w (map (unit-line paths) o) → length (line w) ≤ 400
-    of-units w m = let t = Memᴰ·of-map (unit-line paths) o m in let u = units (t .0) (t .1) in subst (λ (x : List Text). length (line x) ≤ 400) (t .2) (unit-short paths (t .0) (u .0) (u .1))
+    of-units : (w : List Text) → List·Memᴰ w (map (unit-line paths) o) → length (line w) ≤ 357
+    of-units w m = let t = Memᴰ·of-map (unit-line paths) o m in let u = units (t .0) (t .1) in subst (λ (x : List Text). length (line x) ≤ 357) (t .2) (unit-short paths (t .0) (u .0) (u .1))
 
-    of-entries : (w : List Text) → List·Memᴰ w (has-lines l l) → length (line w) ≤ 400
-    of-entries w m = let t = has-from l l w m in let u = entries (t .0) (t .1 .0) in subst (λ (x : List Text). length (line x) ≤ 400) (sym (t .1 .1)) (has-short l (t .0) (u .0) (u .1 .0) (u .1 .1))
+    of-entries : (w : List Text) → List·Memᴰ w (has-lines l l) → length (line w) ≤ 357
+    of-entries w m = let t = has-from l l w m in let u = entries (t .0) (t .1 .0) in subst (λ (x : List Text). length (line x) ≤ 357) (sym (t .1 .1)) (has-short l (t .0) (u .0) (u .1 .0) (u .1 .1))
 
-    each : (w : List Text) → List·Memᴰ w (linked-lines paths o l) → length (line w) ≤ 400
+    each : (w : List Text) → List·Memᴰ w (linked-lines paths o l) → length (line w) ≤ 357
     each w m =
-        ⊎-elim (λ q. subst (λ (x : List Text). length (line x) ≤ 400) (sym q) (ok-short (length o) (omega arith)))
+        ⊎-elim (λ q. subst (λ (x : List Text). length (line x) ≤ 357) (sym q) (ok-short (length o) (omega arith)))
         (λ k. ⊎-elim (of-units w) (of-entries w) (List·Memᴰ·append-cases (map (unit-line paths) o) k)) (List·Memᴰ·cases-cons m)
 
 -- FAULTS, at most 2,000
-pub faults-fit : (l : List Fault) → length l ≤ 2000 → ((f : Fault) → List·Memᴰ f l → (f .number < 100) × (f .place < 65536)) → length (lines (map fault-line l)) ≤ 440000
+pub faults-fit : (l : List Fault) → length l ≤ 2000 → ((f : Fault) → List·Memᴰ f l → (f .number < 100) × (f .place < 65536)) → length (lines (map fault-line l)) ≤ 400000
 faults-fit l few small = let n = lines-length 27 (map fault-line l) each in omega (arith, length-map l fault-line)
   where
     each : (w : List Text) → List·Memᴰ w (map fault-line l) → length (line w) ≤ 27
@@ -206,17 +206,17 @@ ids-short : (w : Text) (r : List ℕ) → ((u : ℕ) → List·Memᴰ u r → u 
 ids-short w [] h = omega (arith, line-last w)
 ids-short w (u ∷ r) h = omega (arith, line-more w (decimal u) (map decimal r), two-digits u (h u (List·Memᴰ·head refl)), ids-short (decimal u) r (λ x m. h x (List·Memᴰ·tail m)))
 
-pub ring-fits : (r : List ℕ) → length r ≤ 64 → ((u : ℕ) → List·Memᴰ u r → u < 100) → length (lines (ring-lines r)) ≤ 440000
+pub ring-fits : (r : List ℕ) → length r ≤ 64 → ((u : ℕ) → List·Memᴰ u r → u < 100) → length (lines (ring-lines r)) ≤ 400000
 ring-fits r few small =
-    lines-short (lines-length 400 (ring-lines r) (λ w m.
-    ⊎-elim (λ q. subst (λ (x : List Text). length (line x) ≤ 400) (sym q) (let k = no-short 26 0 (omega arith) (let d = one-digit 0 (omega arith) in omega arith) in omega arith))
-    (λ j. ⊎-elim (λ q. subst (λ (x : List Text). length (line x) ≤ 400) (sym q) (omega (arith, ids-short (ascii "ring") r small, ring-length))) (λ i. absurd (List·Memᴰ·not-nil i)) (List·Memᴰ·cases-cons j))
+    lines-short (lines-length 357 (ring-lines r) (λ w m.
+    ⊎-elim (λ q. subst (λ (x : List Text). length (line x) ≤ 357) (sym q) (let k = no-short 26 0 (omega arith) (let d = one-digit 0 (omega arith) in omega arith) in omega arith))
+    (λ j. ⊎-elim (λ q. subst (λ (x : List Text). length (line x) ≤ 357) (sym q) (omega (arith, ids-short (ascii "ring") r small, ring-length))) (λ i. absurd (List·Memᴰ·not-nil i)) (List·Memᴰ·cases-cons j))
     (List·Memᴰ·cases-cons m)))
   where
-    lines-short : length (lines (ring-lines r)) ≤ 2 * 400 → length (lines (ring-lines r)) ≤ 440000
+    lines-short : length (lines (ring-lines r)) ≤ 2 * 357 → length (lines (ring-lines r)) ≤ 400000
     lines-short h = omega arith
 
 -- ONE LINE
-pub one-fits : (n p : ℕ) → n < 100 → width p ≤ 20 → length (lines (no-line n p ∷ [])) ≤ 440000
+pub one-fits : (n p : ℕ) → n < 100 → width p ≤ 20 → length (lines (no-line n p ∷ [])) ≤ 400000
 unfolding lines
 one-fits n p h k = omega (arith, length-append (line (no-line n p)) [], no-short n p h k)
