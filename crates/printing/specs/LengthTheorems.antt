@@ -49,10 +49,10 @@ use Rattle.linker.specs.Steps.{Plain}
 use Rattle.linker.specs.Fit.{unit-plain}
 use Rattle.linker.specs.Refusals.{RefusedBy, by-form, by-rule, by-limit, refused-by, bad-small}
 use Rattle.linker.specs.Theorems.{requests, walk-stopped, faults-only, linked-always, LinkedBundle, linked-bundle}
-use Rattle.printing.specs.Lines.{fault-line, linked-lines, report-size, outcome-lines, reading-lines, printed}
+use Rattle.printing.specs.Lines.{fault-line, linked-lines, outcome-lines, reading-lines, printed}
 use Rattle.printing.specs.ReadTheorems.{verdict-enough}
 use Rattle.printing.specs.DepthTheorems.{Limited, Declares, AllDeclare, tree-limited}
-use Rattle.printing.specs.FaultCounts.{discovery-faults, step5-faults}
+use Rattle.printing.specs.Room.{discovery-few, step5-few, read-roomy}
 use Rattle.printing.specs.Lengths.{width-fits, five-digits, one-fits, faults-fit, ring-fits, linked-fits}
 
 -- KINDS AND MARKS of a program's calls
@@ -183,11 +183,7 @@ module _ (s : List ℕ) (B : Bytes s) (b : Bundle) (v : read s ≡ value b) wher
 
   faulty-fits : (l : List Fault) → length l ≤ 2000 → ((f : Fault) → List·Memᴰ f l → (f .number < 100) × (f .place < 65536)) → Fits (faulty l)
   unfolding outcome-lines
-  faulty-fits l few small = go (leb (reportLength (map fault l)) report-size)
-    where
-      go : (t : Bool) → length (lines (cond t (map fault-line l) (no-line 14 0 ∷ []))) ≤ 400000
-      go true = faults-fit l few small
-      go false = one-fits 14 0 (omega arith) (omega (arith, five-digits 0 (omega arith)))
+  faulty-fits l few small = faults-fit l few small
 
   -- THE TREE OF A LINKED BUNDLE: at most 1,024 entries, each at most 9 deep, of kind 1 to 3 and with a mark of two bytes
   pub linked-tree : (o : List ℕ) (p : Items) (x : Flat) → linkBundle b ≡ linked o p x → Limited Small x
@@ -241,14 +237,14 @@ module _ (s : List ℕ) (B : Bytes s) (b : Bundle) (v : read s ≡ value b) wher
       fifth : (o : List ℕ) → ordered b ≡ order.linked o → (fs : List Fault) → assemblyFaults b o ≡ fs → Fits (linkAfter (step5 fs o (assembled b o)))
       fifth o q [] e = sixth o q e (scopeWalk (assembled b o)) refl
       fifth o q (f ∷ fs) e =
-          faulty-fits (f ∷ fs) (omega (arith, step5-faults b w o q, ap length e)) (λ x m.
+          faulty-fits (f ∷ fs) (omega (arith, step5-few b w o q, ap length e)) (λ x m.
           let i : List·Memᴰ x (assemblyFaults b o) = subst (λ (l : List Fault). List·Memᴰ x l) (sym e) m in
           (⊎-elim (λ k. omega arith) (λ k. omega arith) (step5-numbers b o x i), step5-small b w o x i))
 
       go : (x : order.Outcome) → ordered b ≡ x → Fits (linkAfter (assembleAfter b x))
       go (order.faulty l) q =
           let e = first-half b (w .form .some-file) .faults l q .0 in
-          faulty-fits l (omega (arith, discovery-faults b w, ap length e)) (λ x m.
+          faulty-fits l (omega (arith, discovery-few b (read-roomy s B b v), ap length e)) (λ x m.
           let i = subst (λ (k : List Fault). List·Memᴰ x k) e m in
           (omega (arith, fault-numbers b x i .1), place-small b w x i))
       go (order.closed r) q =
@@ -256,23 +252,14 @@ module _ (s : List ℕ) (B : Bytes s) (b : Bundle) (v : read s ≡ value b) wher
           ring-fits r (ring-exact b w r q .1) (λ u m. omega (arith, below u m, units-few))
       go (order.linked o) q = fifth o q (assemblyFaults b o) refl
 
--- EVERY REPORT OF FAULTS FITS: there are at most 1,025
-report-long : (l : List Fault) → reportLength (map fault l) ≡ length l * 3
-unfolding reportLength recordLength
-report-long [] = refl
-report-long (f ∷ l) = omega (arith, report-long l)
-
+-- AT MOST 1,025 FAULTS are told
 module _ (s : List ℕ) (B : Bytes s) (b : Bundle) (v : read s ≡ value b) where
   pub faults-few : (l : List Fault) → linkBundle b ≡ faulty l → length l ≤ 1025
   faults-few l e = go (faults-only s b v l e .from)
     where
       go : FaultsFrom b l → length l ≤ 1025
-      go (of-discovery q) = omega (arith, discovery-faults b (w s B b v), ap length q)
-      go (of-step5 o h q) = omega (arith, step5-faults b (w s B b v) o h, ap length q)
-
-  -- so 14 is never told of the program's report buffer
-  pub report-fits : (l : List Fault) → linkBundle b ≡ faulty l → reportLength (map fault l) ≤ report-size
-  report-fits l e = omega (arith, report-long l, faults-few l e)
+      go (of-discovery q) = omega (arith, discovery-few b (read-roomy s B b v), ap length q)
+      go (of-step5 o h q) = omega (arith, step5-few b (w s B b v) o h, ap length q)
 
 -- 1 TO 13: a place lies among the first 65,539 bytes
 front-byte : (n : ℕ) (s : List ℕ) (i : ℕ) → getD (take n s) i 0 ≤ getD s i 0

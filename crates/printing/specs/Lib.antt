@@ -1,15 +1,17 @@
-pub mod ReadTheorems
+-- DEFINITIONS: the printed lines
 pub mod Lines
+-- THEOREMS to cite: the lines of what the linker answers are these, of any bytes; the printed case; how long the text is; what is read
+pub mod Whole
+pub mod PrintedCase
+pub mod Room
+pub mod LengthTheorems
+pub mod DepthTheorems
+pub mod SpellingTheorems
+pub mod ReadTheorems
+-- LAWS, for the code's proofs and for those theorems
 pub mod Reports
 pub mod Reported
-pub mod Room
 pub mod Modules
 pub mod Units
 pub mod Answers
-pub mod Whole
-pub mod PrintedCase
-pub mod DepthTheorems
 pub mod Lengths
-pub mod FaultCounts
-pub mod LengthTheorems
-pub mod SpellingTheorems

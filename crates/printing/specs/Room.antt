@@ -140,14 +140,14 @@ step5-few b w o e =
     let n = length-map (enumsOf b (a .before)) foreignEnum in
     omega (arith, length-append (map foreignEnum (enumsOf b (a .before))) (mainFault b))
 
+pub read-roomy : (s : List ℕ) → Bytes s → (b : Bundle) → read s ≡ value b → Roomy b
+unfolding read
+read-roomy s B b v = let q = value-ok (verdict s) _ b v in subst Roomy (q .1) (bytes-roomy s B (q .0))
+
 -- A REPORT OF FAULTS FITS IN 4,096 BYTES: 3 bytes a fault
 pub report-fits : (s : List ℕ) → Bytes s → (b : Bundle) → read s ≡ value b → (l : List Fault) → linkBundle b ≡ faulty l → reportLength (map fault l) ≤ 4096
-unfolding read
 report-fits s B b v l e = go (faults-only s b v l e .from)
   where
-    roomy : Roomy b
-    roomy = let q = value-ok (verdict s) _ b v in subst Roomy (q .1) (bytes-roomy s B (q .0))
-
     go : FaultsFrom b l → reportLength (map fault l) ≤ 4096
-    go (of-discovery q) = let z = ap length q in omega (arith, faults-length l, discovery-few b roomy)
+    go (of-discovery q) = let z = ap length q in omega (arith, faults-length l, discovery-few b (read-roomy s B b v))
     go (of-step5 o h q) = let z = ap length q in omega (arith, faults-length l, step5-few b (sound s B b v .1) o h)
