@@ -6,3 +6,4 @@ pub mod Modules
 pub mod Units
 pub mod Answers
 pub mod Whole
+pub mod Sent
