@@ -5,6 +5,9 @@ ghost use Prim.Native.Nat.{_<_, _^_};
 // No bundle that is longer is stored.
 const SIZE: usize = 131072;
 
+// Room for the lines of any bundle, and for the longest image.
+const TEXT: usize = 440000;
+
 fn wide(b: u8) -> usize
     ensures { λ r. ⌜ r < 256 ⌝ }
 {
@@ -25,6 +28,41 @@ fn read_some(buffer: &mut [u8], n: usize) -> usize {
     0
 }
 
+// A hexadecimal digit; 0 of what is none.
+fn digit(n: u8) -> u8 {
+    if n < 10 {
+        return 48 + n;
+    }
+    if n < 16 {
+        return 87 + n;
+    }
+    0
+}
+
+// A line `image` and the bytes in hexadecimal.
+fn put_image(out: &mut [u8], image: &[u8]) -> usize {
+    let mut to = text::put_bytes(out, 0, b"image ");
+    let mut i = 0;
+    while i < image.len() {
+        to = text::put(out, to, digit(image[i] / 16));
+        to = text::put(out, to, digit(image[i] % 16));
+        i += 1;
+    }
+    text::put(out, to, 10)
+}
+
+// The image of a bundle in hexadecimal, where it is linked; answers how many bytes that is.
+fn tell_image(s: &[u8], out: &mut [u8]) -> usize {
+    let mut report = [0u8; 4096];
+    let mut image = [0u8; 65538];
+    let r = linker::link(s, &mut report, &mut image, scopes::empty());
+    let n = r.answer.image;
+    if n == 0 {
+        return 0;
+    }
+    put_image(out, lines::part(&image, 0, n))
+}
+
 // The next bundle; false where there is none.
 fn next() -> bool {
     let mut head = [0u8; 4];
@@ -39,8 +77,11 @@ fn next() -> bool {
     let mut buffer = [0u8; SIZE];
     let n = read_some(&mut buffer, f);
     let s = lines::part(&buffer, 0, n);
-    printing::tell(s);
-    printing::tell_image(s);
+    let mut text = [0u8; TEXT];
+    let told = printing::tell(s, &mut text);
+    io::write_all(1, lines::part(&text, 0, told));
+    let shown = tell_image(s, &mut text);
+    io::write_all(1, lines::part(&text, 0, shown));
     io::write_all(1, b"--\n");
     true
 }

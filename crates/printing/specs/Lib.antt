@@ -4,6 +4,7 @@ pub mod Lines
 pub mod Whole
 pub mod PrintedCase
 pub mod Room
+pub mod Sent
 pub mod LengthTheorems
 pub mod DepthTheorems
 pub mod SpellingTheorems
