@@ -64,7 +64,13 @@ fn port(bytes: &[u8], times: u64) -> bool {
     let (mut report, mut image) = (vec![0; 1024], vec![0; 1 << 17]);
     let (mut answer, mut rows) = (vec![0; ANSWER], vec![0; ROWS]);
     (0..times).all(|_| {
-        black_box(bench_linked(bytes, &mut report, &mut image, &mut answer, &mut rows))
+        black_box(bench_linked(
+            bytes,
+            &mut report,
+            &mut image,
+            &mut answer,
+            &mut rows,
+        ))
     })
 }
 
