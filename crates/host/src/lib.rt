@@ -5,13 +5,41 @@ ghost use Rattle.bundle.specs.Read.{numberOf, verdict};
 ghost use Prim.Native.Nat.{_+_, _<_, _^_};
 ghost use Rattle.host.specs.Told.{bitOf, kindOf, placeTold, resolvedTold, orderTold, GraphTold, assembleTold};
 ghost use Rattle.assembly.specs.Call.{assembleAnswer, assembleReport, assembleImage};
-ghost use Rattle.linker.specs.Call.{linkAnswer, linkReport, linkImage};
+ghost use Rattle.host.specs.LinkTold.{answerOf, numberTold, reportTold, imageTold, answerTold, rowsTold};
 ghost use Rattle.order.specs.Call.{orderAnswer, orderReport};
 ghost use Rattle.resolution.specs.Call.{resolve};
 ghost use lib.ListN.{set, take, length};
 ghost use lib.Seq.{sets};
 ghost use Rattle.names.specs.Keywords.{isKeyword};
 ghost use Rattle.names.specs.Prefix.{startsWith};
+use assembly::Answer;
+
+// The most units, and the most entries of a tree.
+pub const FILES: usize = bundle::limits::FILES;
+
+pub const ENTRIES: usize = 1024;
+
+// The layout of `gontsamy_link`'s answer, as specs/LinkTold.antt has it: five numbers, the units' files, the ids in linked order.
+pub const ANSWER_PLACE: usize = 0;
+
+pub const ANSWER_REPORT: usize = 1;
+
+pub const ANSWER_UNITS: usize = 2;
+
+pub const ANSWER_IMAGE: usize = 3;
+
+pub const ANSWER_ENTRIES: usize = 4;
+
+pub const ANSWER_FILES: usize = 5;
+
+pub const ANSWER_IDS: usize = ANSWER_FILES + FILES;
+
+pub const ANSWER: usize = ANSWER_IDS + FILES;
+
+// Of its rows: an entry's numbers, and all of them.
+pub const ROW: usize = 11;
+
+pub const ROWS: usize = ROW * ENTRIES;
 
 // Checks a bundle: 0, or a number from 1 to 13 with its place in place[0]. Ruled out: 0 for a bundle that is refused; a place
 // written where there is none.
@@ -203,30 +231,49 @@ pub extern "C" fn gontsamy_discover(s: &[u8], out: &mut [usize]) -> u8
     }
 }
 
-// A bundle linked, steps 1 to 6: as `gontsamy_assemble`, or a number from 40 to 51 with its place in out[0]. Ruled out: an image where
-// step 6 refuses a use.
+// What `gontsamy_link` tells of an answer and of how many entries the tree has.
+fn tell_link(answer: &mut [usize], a: Answer, entries: usize)
+    ensures { λ r. ⌜ now (answer .exit) ≡ answerOf a entries (now (answer .entry)) ⌝ }
+{
+    let units = a.units;
+    tell(answer, ANSWER_PLACE, a.place);
+    tell(answer, ANSWER_REPORT, a.report);
+    tell(answer, ANSWER_UNITS, units);
+    tell(answer, ANSWER_IMAGE, a.image);
+    tell(answer, ANSWER_ENTRIES, entries);
+    tell_places(answer, ANSWER_FILES, &a.files, units);
+    tell_ids(answer, ANSWER_IDS, &a.ids, units);
+}
+
+// A bundle linked, steps 1 to 6. 14 and nothing written where `answer` is shorter than ANSWER or `rows` than ROWS; otherwise a number
+// from 1 to 15 or from 40 to 51, or 0, and in `answer` its place, the report's length, how many units there are, the image's length
+// and how many entries the tree has, each 0 where there is none, the units' files' indices and the linked order; in `rows` the tree's
+// entries where there is an image, ROW numbers each. Ruled out: an image where step 6 refuses a use; an answer or a row that is cut; a
+// tree where there is no image.
 #[no_mangle]
 pub extern "C" fn gontsamy_link(
     s: &[u8],
     report: &mut [u8],
     image: &mut [u8],
-    out: &mut [usize],
+    answer: &mut [usize],
+    rows: &mut [u64],
 ) -> u8
-    ensures { λ r. ⌜ r ≡ linkAnswer (now (s .entry)) (now (report .entry)) (now (image .entry)) .number ⌝ }
-    ensures { λ r. ⌜ now (report .exit) ≡ linkReport (now (s .entry)) (now (report .entry)) ⌝ }
-    ensures { λ r. ⌜ now (image .exit) ≡ linkImage (now (s .entry)) (now (image .entry)) ⌝ }
-    ensures { λ r. ⌜ now (out .exit) ≡ assembleTold (linkAnswer (now (s .entry)) (now (report .entry)) (now (image .entry))) (now (out .entry)) ⌝ }
+    ensures { λ r. ⌜ r ≡ numberTold (now (s .entry)) (now (report .entry)) (now (image .entry)) (now (answer .entry)) (now (rows .entry)) ⌝ }
+    ensures { λ r. ⌜ now (report .exit) ≡ reportTold (now (s .entry)) (now (report .entry)) (now (answer .entry)) (now (rows .entry)) ⌝ }
+    ensures { λ r. ⌜ now (image .exit) ≡ imageTold (now (s .entry)) (now (image .entry)) (now (answer .entry)) (now (rows .entry)) ⌝ }
+    ensures { λ r. ⌜ now (answer .exit) ≡ answerTold (now (s .entry)) (now (report .entry)) (now (image .entry)) (now (answer .entry)) (now (rows .entry)) ⌝ }
+    ensures { λ r. ⌜ now (rows .exit) ≡ rowsTold (now (s .entry)) (now (image .entry)) (now (answer .entry)) (now (rows .entry)) ⌝ }
 {
+    if answer.len() < ANSWER {
+        return 14;
+    }
+    if rows.len() < ROWS {
+        return 14;
+    }
     let l = linker::link(s, report, image, scopes::empty());
     let a = l.answer;
     let number = a.number;
-    if number != 0 {
-        tell(out, 0, a.place);
-        return number;
-    }
-    tell_both(out, a.report, a.units);
-    tell(out, 2, a.image);
-    tell_places(out, 3, &a.files, a.units);
-    tell_ids(out, 67, &a.ids, a.units);
+    let entries = scopes_c::put_tree(l.tree, rows);
+    tell_link(answer, a, entries);
     number
 }

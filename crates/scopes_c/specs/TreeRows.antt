@@ -1,4 +1,4 @@
--- The tree that a list of calls leaves, entry by entry as eleven numbers. Assumes nothing.
+-- A tree, entry by entry as eleven numbers. Assumes nothing.
 use Prim.Native.Nat.{ℕ, zero, suc, _+_, _*_, _≤_, _<_}
 use native.Mathlib.Omega.{arith}
 use native.Mathlib.Numerals.{add-one}
@@ -12,8 +12,8 @@ use Rattle.names.specs.declared.Name.{Name}
 use Rattle.scopes.specs.Step.{Came, declared, used}
 use Rattle.scopes.specs.Flat.{Body, own, copy, Entry, none}
 use Rattle.scopes.specs.Rows.{tab, length-tab, getD-tab, isOwn, row, row-at, name-at, came-of, body-of}
-use Rattle.scopes.specs.Views.{View, rows, entries-of, flat-of}
-use Rattle.scopes_c.specs.Lists.{put-at, written, left-tree}
+use Rattle.scopes.specs.Views.{View, rows, entries-of}
+use Rattle.scopes_c.specs.Lists.{put-at, written}
 
 -- 0 for a declaration, else the number of the entry copied, plus one
 abbrev pub origin-of : Came → ℕ
@@ -39,12 +39,15 @@ unfoldable pub all-numbers : List Entry → List ℕ
 all-numbers [] = []
 all-numbers (e ∷ es) = numbers e ++ all-numbers es
 
--- of the bytes s and the lent numbers o₀: how many entries the tree has, and its numbers written from the start on, as far as there is place
-pub record Listed (s o₀ : List ℕ) (r : ℕ) (o : List ℕ) : Type 0 where
-  pub count : r ≡ length (left-tree s .entries)
-  pub out : o ≡ written o₀ 0 (all-numbers (left-tree s .entries))
+-- of a tree's entries and the lent numbers o₀: how many entries there are, and their numbers written from the start on, as far as there is place
+pub record Listed (es : List Entry) (o₀ : List ℕ) (r : ℕ) (o : List ℕ) : Type 0 where
+  pub count : r ≡ length es
+  pub out : o ≡ written o₀ 0 (all-numbers es)
 
 -- LAWS
+pub listed-as : (es fs : List Entry) → es ≡ fs → (o₀ : List ℕ) (r : ℕ) (o : List ℕ) → Listed es o₀ r o → Listed fs o₀ r o
+listed-as es fs e o₀ r o h = record { count = h .count ∙ ap length e; out = h .out ∙ ap (λ (x : List Entry). written o₀ 0 (all-numbers x)) e }
+
 written-append : (o : List ℕ) (i : ℕ) (xs ys : List ℕ) → written o i (xs ++ ys) ≡ written (written o i xs) (i + length xs) ys
 unfolding written
 written-append o i [] ys = let e : i ≡ i + 0 = omega arith in ap (λ (j : ℕ). written o j ys) e
@@ -149,14 +152,12 @@ module _ (o₀ : List ℕ) (t : View) where
               ∙ ap (λ (j : ℕ). written o′ ((i + 1) * 11) (all-numbers (drop j (entries-of t)))) (sym (add-one i));
         }
 
-    pub listing-end : t .count ≤ i → (s : List ℕ) → flat-of t ≡ left-tree s → Listed s o₀ i o
+    pub listing-end : t .count ≤ i → Listed (entries-of t) o₀ i o
     unfolding all-numbers written
-    listing-end h s g =
+    listing-end h =
         let e : i ≡ t .count = omega (arith, w .within) in
         let b : length (entries-of t) ≤ i = rw length-tab h in
         record {
-          count = e ∙ sym (length-tab (rows t) (t .count)) ∙ ap (λ (x : Rattle.scopes.specs.Flat.Flat). length (x .entries)) g;
-          out =
-              sym (w .same ∙ ap (λ (x : List Entry). written o (i * 11) (all-numbers x)) (drop-of-length-le (entries-of t) b))
-              ∙ ap (λ (x : Rattle.scopes.specs.Flat.Flat). written o₀ 0 (all-numbers (x .entries))) g;
+          count = e ∙ sym (length-tab (rows t) (t .count));
+          out = sym (w .same ∙ ap (λ (x : List Entry). written o (i * 11) (all-numbers x)) (drop-of-length-le (entries-of t) b));
         }

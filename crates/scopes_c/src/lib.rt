@@ -6,8 +6,8 @@ ghost use Prim.Native.Nat.{_+_, _*_, _<_, _≤_};
 ghost use mathlib.Core.Bool.{cond};
 ghost use lib.ListN.{length, getD};
 ghost use Rattle.scopes.specs.Views.{told};
-ghost use Rattle.scopes.specs.Trees.{packed-in};
-ghost use Rattle.scopes_c.specs.Lists.{pair-at, part-of, is-declaring, is-call, order-at, after-order, shown, Turned, Tells, Called, put-at, written, Walked, Replayed};
+ghost use Rattle.scopes.specs.Trees.{packed-in, flat-of};
+ghost use Rattle.scopes_c.specs.Lists.{pair-at, part-of, is-declaring, is-call, order-at, after-order, shown, Turned, Tells, Called, put-at, written, left-tree, Walked, Replayed};
 ghost use Rattle.scopes.specs.Rows.{isOwn, row};
 ghost use Rattle.scopes_c.specs.TreeRows.{numbers, Listed};
 use names::Name;
@@ -441,16 +441,13 @@ fn put_row(
     put_all(out, at, numbers);
 }
 
-// The tree that the calls leave, eleven numbers an entry: kind, visibility, scope, mark, origin, what a copy shows (a scope and a
-// time), and the name's four words; as far as there is place. Gives how many entries there are. Ruled out: an entry of a refused
-// call; a copy that shows a later time.
-#[no_mangle]
-pub extern "C" fn scopes_rows(s: &[u8], out: &mut [u64]) -> usize
-    ensures { λ r. ⌜ Listed (now (s .entry)) (now (out .entry)) r (now (out .exit)) ⌝ }
+// A tree's entries, eleven numbers each: kind, visibility, scope, mark, origin, what a copy shows (a scope and a time), and the
+// name's four words; as far as there is place. Gives how many entries there are. Ruled out: an entry left out; a copy that shows a
+// later time.
+pub fn put_tree(t: Tree, out: &mut [u64]) -> usize
+    requires { ⌜ getD (t .opened) 9 0 ≤ 1024 ⌝ }
+    ensures { λ r. ⌜ Listed (flat-of t .entries) (now (out .entry)) r (now (out .exit)) ⌝ }
 {
-    let mut none = [0u32; 1];
-    let r = replayed(s, &mut none);
-    let t = r.tree;
     let count = scopes::count_of(&t.opened);
     let mut i: usize = 0;
     while i < count {
@@ -479,4 +476,14 @@ pub extern "C" fn scopes_rows(s: &[u8], out: &mut [u64]) -> usize
         i += 1;
     }
     i
+}
+
+// The tree that the calls leave, as `put_tree` writes it. Ruled out: an entry of a refused call.
+#[no_mangle]
+pub extern "C" fn scopes_rows(s: &[u8], out: &mut [u64]) -> usize
+    ensures { λ r. ⌜ Listed (left-tree (now (s .entry)) .entries) (now (out .entry)) r (now (out .exit)) ⌝ }
+{
+    let mut none = [0u32; 1];
+    let r = replayed(s, &mut none);
+    put_tree(r.tree, out)
 }

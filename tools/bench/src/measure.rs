@@ -19,16 +19,29 @@ extern "C" {
         report_len: usize,
         image: *mut u8,
         image_len: usize,
-        out: *mut usize,
-        out_len: usize,
+        answer: *mut usize,
+        answer_len: usize,
+        rows: *mut u64,
+        rows_len: usize,
     ) -> u8;
 }
+
+/// The lengths and the place that crates/host/src/lib.rt names so.
+const ANSWER: usize = 133;
+const ANSWER_REPORT: usize = 1;
+const ROWS: usize = 11264;
 
 /// What is counted of the port: the whole link from bytes, with answer, tree and image. Says whether it
 /// linked.
 #[no_mangle]
 #[inline(never)]
-pub fn bench_linked(bytes: &[u8], report: &mut [u8], image: &mut [u8], out: &mut [usize]) -> bool {
+pub fn bench_linked(
+    bytes: &[u8],
+    report: &mut [u8],
+    image: &mut [u8],
+    answer: &mut [usize],
+    rows: &mut [u64],
+) -> bool {
     // SAFETY: the pointers are those of slices that live over the call, with their lengths.
     let number = unsafe {
         gontsamy_link(
@@ -38,17 +51,27 @@ pub fn bench_linked(bytes: &[u8], report: &mut [u8], image: &mut [u8], out: &mut
             report.len(),
             image.as_mut_ptr(),
             image.len(),
-            out.as_mut_ptr(),
-            out.len(),
+            answer.as_mut_ptr(),
+            answer.len(),
+            rows.as_mut_ptr(),
+            rows.len(),
         )
     };
-    number == 0 && out[0] == 0
+    number == 0 && answer[ANSWER_REPORT] == 0
 }
 
 fn port(bytes: &[u8], times: u64) -> bool {
     let (mut report, mut image) = (vec![0; 1024], vec![0; 1 << 17]);
-    let mut out = [0; 3 + 64 + 64];
-    (0..times).all(|_| black_box(bench_linked(bytes, &mut report, &mut image, &mut out)))
+    let (mut answer, mut rows) = (vec![0; ANSWER], vec![0; ROWS]);
+    (0..times).all(|_| {
+        black_box(bench_linked(
+            bytes,
+            &mut report,
+            &mut image,
+            &mut answer,
+            &mut rows,
+        ))
+    })
 }
 
 /// A case by its name, or `chain-N`, `star-N`.

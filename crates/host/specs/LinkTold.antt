@@ -1,0 +1,94 @@
+-- What `gontsamy_link` is lent, and what it leaves there. Assumes nothing.
+use Prim.Native.Nat.{ℕ, _+_, _*_}
+use mathlib.Core.Bool.{Bool, false, cond}
+use mathlib.Core.List.{List, [], _∷_, _++_}
+use lib.Dec.{leb}
+use lib.ListN.{length, take, drop}
+use lib.Seq.{sets}
+use Rattle.bundle.specs.Limits.{file-limit}
+use Rattle.bundle.specs.Read.{Reading, value, refused, read}
+use Rattle.order.specs.Report.{small-buffer}
+use Rattle.assembly.specs.Image.{imaging}
+use Rattle.assembly.specs.declared.Imaged.{Imaged}
+use Rattle.assembly.specs.declared.Imaged.the-variants as imaged
+use Rattle.assembly.specs.declared.Answer.{Answer}
+use Rattle.scopes.specs.Flat.{Flat, Entry}
+use Rattle.scopes_c.specs.TreeRows.{all-numbers}
+use Rattle.linker.specs.Link.{Outcome, faulty, closed, ended, linked, linkBundle}
+use Rattle.linker.specs.Call.{linkAnswer, linkReport, linkImage}
+
+-- THE LAYOUT of the lent answer: a refusal's place, the report's length, how many units, the image's length, how many entries; then
+-- the units' files, and the ids in linked order
+abbrev pub answer-place : ℕ
+answer-place = 0
+
+abbrev pub answer-files : ℕ
+answer-files = 5
+
+abbrev pub answer-ids : ℕ
+answer-ids = answer-files + file-limit
+
+abbrev pub answer-length : ℕ
+answer-length = answer-ids + file-limit
+
+-- of the lent rows: an entry's numbers, and the most entries
+abbrev pub row-length : ℕ
+row-length = 11
+
+abbrev pub entry-limit : ℕ
+entry-limit = 1024
+
+abbrev pub rows-length : ℕ
+rows-length = row-length * entry-limit
+
+-- whether both are long enough
+abbrev pub roomy : List ℕ → List ℕ → Bool
+roomy answer rows = cond (leb answer-length (length answer)) (leb rows-length (length rows)) false
+
+-- THE TREE'S ENTRIES: step 6's, where the bundle links and the image fits into a buffer of m bytes
+abbrev pub entriesWith : Imaged → Flat → List Entry
+entriesWith (imaged.Image n) x = x .entries
+entriesWith (imaged.Refused n p) x = []
+
+abbrev pub entriesAfter : ℕ → Outcome → List Entry
+entriesAfter m (faulty l) = []
+entriesAfter m (closed r) = []
+entriesAfter m (ended n p) = []
+entriesAfter m (linked o p x) = entriesWith (imaging p m) x
+
+abbrev pub entriesTo : Reading → ℕ → List Entry
+entriesTo (refused k p) m = []
+entriesTo (value b) m = entriesAfter m (linkBundle b)
+
+unfoldable pub linkEntries : List ℕ → List ℕ → List Entry
+linkEntries s image = entriesTo (read s) (length image)
+
+-- an answer and a count of entries as they are laid out; all other places as they were
+abbrev pub answerOf : Answer → ℕ → List ℕ → List ℕ
+answerOf a n l =
+    sets
+    (sets (sets l answer-place (a .place ∷ a .report ∷ a .units ∷ a .image ∷ n ∷ [])) answer-files (take (a .units) (a .files)))
+    answer-ids
+    (take (a .units) (a .ids))
+
+-- the entries' numbers from the start on, the rest as it was
+abbrev pub rowsOf : List Entry → List ℕ → List ℕ
+rowsOf es l = all-numbers es ++ drop (row-length * length es) l
+
+-- WHAT IS TOLD. Of bytes and the four that are lent: the number, and what each holds afterwards. Where the answer or the rows are too
+-- short: 14, and all as it was
+unfoldable pub numberTold : List ℕ → List ℕ → List ℕ → List ℕ → List ℕ → ℕ
+numberTold s report image answer rows = cond (roomy answer rows) (linkAnswer s report image .number) small-buffer
+
+unfoldable pub reportTold : List ℕ → List ℕ → List ℕ → List ℕ → List ℕ
+reportTold s report answer rows = cond (roomy answer rows) (linkReport s report) report
+
+unfoldable pub imageTold : List ℕ → List ℕ → List ℕ → List ℕ → List ℕ
+imageTold s image answer rows = cond (roomy answer rows) (linkImage s image) image
+
+unfoldable pub answerTold : List ℕ → List ℕ → List ℕ → List ℕ → List ℕ → List ℕ
+answerTold s report image answer rows =
+    cond (roomy answer rows) (answerOf (linkAnswer s report image) (length (linkEntries s image)) answer) answer
+
+unfoldable pub rowsTold : List ℕ → List ℕ → List ℕ → List ℕ → List ℕ
+rowsTold s image answer rows = cond (roomy answer rows) (rowsOf (linkEntries s image) rows) rows
