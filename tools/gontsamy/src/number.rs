@@ -7,6 +7,7 @@ pub struct Number(pub u8);
 /// What is said of a number.
 #[derive(Clone, Copy, Debug, PartialEq, Eq)]
 pub struct Meaning {
+    /// The number.
     pub number: u8,
     /// Its name in one or two words.
     pub word: &'static str,

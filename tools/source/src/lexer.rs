@@ -2,12 +2,6 @@
 
 use crate::{SourceError, Span};
 
-/// The original's reserved words.
-pub const KEYWORDS: [&str; 14] = [
-    "pub", "use", "as", "fn", "let", "type", "mod", "const", "match", "enum", "crate", "simc",
-    "true", "false",
-];
-
 #[derive(Clone, Copy, Debug, PartialEq, Eq)]
 pub(crate) enum Token<'a> {
     /// An identifier or a keyword.

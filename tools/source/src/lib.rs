@@ -7,7 +7,6 @@
 mod lexer;
 mod parser;
 
-pub use lexer::KEYWORDS;
 pub use parser::read;
 
 /// A range of bytes of a source file.

@@ -1,6 +1,8 @@
 //! Tokens into items.
 
-use crate::lexer::{lex, Token, KEYWORDS};
+use bundle_format::forms::is_keyword;
+
+use crate::lexer::{lex, Token};
 use crate::{Name, SourceBody, SourceElement, SourceError, SourceItem, Span};
 
 /// Modules may be nested this deep in a file.
@@ -77,7 +79,7 @@ impl<'a> Parser<'a> {
 
     fn name(&mut self, what: &str) -> Result<Name, SourceError> {
         match self.token() {
-            Token::Word(word) if !KEYWORDS.contains(&word) => self.word(),
+            Token::Word(word) if !is_keyword(word.as_bytes()) => self.word(),
             _ => self.expected(what),
         }
     }
