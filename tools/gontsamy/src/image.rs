@@ -58,8 +58,11 @@ fn split_string(bytes: &[u8]) -> Option<(&[u8], &[u8])> {
 }
 
 impl<'a> Items<'a> {
-    pub(crate) fn new(bytes: &'a [u8]) -> Self {
-        Items { bytes }
+    /// The items of an image: what follows its header.
+    pub fn of_image(image: &'a [u8]) -> Self {
+        Items {
+            bytes: image.get(3..).unwrap_or_default(),
+        }
     }
 }
 

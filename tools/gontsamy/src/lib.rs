@@ -185,7 +185,7 @@ impl<'a> Linked<'a> {
 
     /// The items of the image: one private module for each unit.
     pub fn items(&self) -> Items<'a> {
-        Items::new(self.image.get(3..).unwrap_or_default())
+        Items::of_image(self.image)
     }
 
     /// The entries of the tree in the order made, units among them.
