@@ -38,8 +38,8 @@ pub const EXAMPLES: &[(u8, Example)] = &[
     (2, Example::Bytes("020000", 0)),
     (3, Example::Text("bundle 1\nroot /\n", 7)),
     (4, Example::Text("bundle 1\nroot \"src\"\n", 3)),
-    (5, Example::Text(main_with!("    fn \"1st\"\n"), 42)),
-    (6, Example::Bytes("01000e012f0000 01022f6d 0004 0002 0900", 17)),
+    (5, Example::Text(main_with!("    fn \"1st\"\n"), 40)),
+    (6, Example::Bytes("01000e012f0000 01022f6d 0004 0002 0900", 15)),
     (
         7,
         Example::Text(
@@ -91,34 +91,34 @@ pub const EXAMPLES: &[(u8, Example)] = &[
         15,
         Example::Words("an entry of 65,000 bytes with 256 uses of a library of one letter: each path grows by `crate::unit_1`"),
     ),
-    (20, Example::Text(main_with!("    use {f}\n"), 42)),
-    (21, Example::Text(main_with!("    use limits::daily::{check}\n"), 42)),
+    (20, Example::Text(main_with!("    use {f}\n"), 36)),
+    (21, Example::Text(main_with!("    use limits::daily::{check}\n"), 36)),
     (
         22,
         Example::Text(
             "bundle 1\nroot /r\nfolder /r\nfolder /lib\nremap /r limits = /lib\nfile /r/main.simf {\n    fn main\n    use limits::daily::{check}\n}\n",
-            62,
+            56,
         ),
     ),
     (
         23,
         Example::Text(
             "bundle 1\nroot /r\nfolder /r\nfolder /r/s\nfile /r/s/main.simf {\n    fn main\n    use crate::daily::{check}\n}\n",
-            49,
+            43,
         ),
     ),
     (
         24,
         Example::Text(
             "bundle 1\nroot /r\nfolder /r\nremap /r own = /r\nfile /r/main.simf {\n    fn main\n    use own::a::{f}\n}\nfile /r/a.simf {\n    pub fn f\n}\n",
-            52,
+            46,
         ),
     ),
     (
         25,
         Example::Text(
             "bundle 1\nroot /r\nfolder /r\nfile /main.simf {\n    fn main\n    use crate::a::{f}\n}\nfile /r/a.simf {\n    pub fn f\n}\n",
-            40,
+            34,
         ),
     ),
     (
@@ -137,34 +137,34 @@ pub const EXAMPLES: &[(u8, Example)] = &[
     ),
     (
         28,
-        Example::Text(main_with!("    use crate::a::{Side}\n", "    pub enum Side\n"), 78),
+        Example::Text(main_with!("    use crate::a::{Side}\n", "    pub enum Side\n"), 68),
     ),
     (29, Example::Words("a resolution call with an importer that the bundle doesn't list")),
     (40, Example::Words("a tree call with the path `lib::a`")),
     (
         41,
-        Example::Text(main_with!("    use crate::a::m::{f}\n", "    pub fn f\n"), 42),
+        Example::Text(main_with!("    use crate::a::m::{f}\n", "    pub fn f\n"), 36),
     ),
     (
         42,
-        Example::Text(main_with!("    use crate::a::m::{f}\n", "    mod m { pub fn f }\n"), 42),
+        Example::Text(main_with!("    use crate::a::m::{f}\n", "    mod m { pub fn f }\n"), 36),
     ),
     (
         43,
-        Example::Text(main_with!("    use crate::a::{g}\n", "    pub fn f\n"), 42),
+        Example::Text(main_with!("    use crate::a::{g}\n", "    pub fn f\n"), 36),
     ),
-    (44, Example::Text(main_with!("    use crate::a::{f}\n", "    fn f\n"), 42)),
+    (44, Example::Text(main_with!("    use crate::a::{f}\n", "    fn f\n"), 36)),
     (
         45,
-        Example::Text(main_with!("    fn f\n    use crate::a::{f}\n", "    pub fn f\n"), 48),
+        Example::Text(main_with!("    fn f\n    use crate::a::{f}\n", "    pub fn f\n"), 42),
     ),
     (
         46,
-        Example::Text(main_with!("    use crate::a::{f as main}\n", "    pub fn f\n"), 42),
+        Example::Text(main_with!("    use crate::a::{f as main}\n", "    pub fn f\n"), 36),
     ),
-    (47, Example::Text(main_with!("    mod m { }\n    mod m { }\n"), 48)),
-    (48, Example::Text(main_with!("    type T\n    enum T\n"), 48)),
-    (49, Example::Text(main_with!("    fn f\n    fn f\n"), 48)),
+    (47, Example::Text(main_with!("    mod m { }\n    mod m { }\n"), 42)),
+    (48, Example::Text(main_with!("    type T\n    enum T\n"), 42)),
+    (49, Example::Text(main_with!("    fn f\n    fn f\n"), 42)),
     (50, Example::Words("a tree call that exits where no module is open")),
     (51, Example::Words("an entry with 1,024 functions: with its unit they are 1,025 entries")),
 ];
@@ -220,4 +220,59 @@ pub fn pages() -> String {
         }
     }
     out
+}
+
+#[cfg(test)]
+mod tests {
+    use super::*;
+    use crate::card::Card;
+    use gontsamy::{link, Buffers, Refusal};
+
+    /// The number and place that a bundle is told first.
+    fn told(bytes: &[u8]) -> (u8, usize) {
+        let mut buffers = Box::new(Buffers::new());
+        match link(bytes, &mut buffers) {
+            Ok(_) => (0, 0),
+            Err(Refusal::At(number, place)) => (number.0, place),
+            Err(Refusal::Report(mut records)) => {
+                let record = records.next().expect("a report has a record");
+                (record.number.0, record.place)
+            }
+        }
+    }
+
+    fn bytes_of(hex: &str) -> Vec<u8> {
+        let digits: Vec<u8> = hex
+            .chars()
+            .filter_map(|c| c.to_digit(16))
+            .map(|digit| digit as u8)
+            .collect();
+        digits
+            .chunks(2)
+            .map(|pair| pair[0] * 16 + pair[1])
+            .collect()
+    }
+
+    #[test]
+    fn every_number_has_its_example() {
+        let mut wrong = Vec::new();
+        for meaning in gontsamy::MEANINGS {
+            let number = meaning.number;
+            let Some((_, example)) = EXAMPLES.iter().find(|(of, _)| *of == number) else {
+                panic!("{number} has no example");
+            };
+            let (answer, place) = match example {
+                Example::Text(text, place) => {
+                    let card = Card::of_text("example", text.as_bytes()).expect("the text is good");
+                    (told(&card.bytes), *place)
+                }
+                Example::Bytes(hex, place) => (told(&bytes_of(hex)), *place),
+                Example::Words(_) => continue,
+            };
+            if answer != (number, place) {
+                wrong.push(format!("{number}: {answer:?}, not {:?}", (number, place)));
+            }
+        }
+        assert!(wrong.is_empty(), "{wrong:#?}");
+    }
 }
