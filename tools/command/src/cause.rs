@@ -284,7 +284,10 @@ fn unknown_library(
         named = true;
         if !is_prefix(&remapping.context, importer) {
             let reason = format!(
-                "this one does not apply: {} is no prefix of {} by whole components",
+                "`{}:{}={}` does not apply: {} is no prefix of {} by whole components",
+                text(&remapping.context),
+                text(word),
+                text(&remapping.target),
                 text(&remapping.context),
                 text(importer)
             );
@@ -377,7 +380,11 @@ fn scope(card: &Card, bundle: &Bundle, number: u8, place: usize, finding: &mut F
             finding.location = card.at(offset).cloned().or(finding.location.take());
             finding.label = message;
             if let Some(mark) = held {
-                finding.note_at("the name is held since here", card.at(mark));
+                let text = match number {
+                    44 => "it came in here, without `pub`",
+                    _ => "the name is held since here",
+                };
+                finding.note_at(text, card.at(mark));
             }
         }
         (Cause::Held { message, held }, _) => {
