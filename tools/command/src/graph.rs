@@ -111,6 +111,7 @@ impl Graph {
     pub fn svg(&self) -> String {
         const ROW: usize = 56;
         const HEIGHT: usize = 34;
+        const TOP: usize = 36;
         const GAP: usize = 90;
         const LETTER: usize = 8;
         let columns = self.columns();
@@ -135,13 +136,13 @@ impl Graph {
         let mut rows = vec![0; last + 1];
         let mut place = Vec::new();
         for &column in &columns {
-            place.push((left(column), 20 + rows[column] * ROW));
+            place.push((left(column), TOP + rows[column] * ROW));
             rows[column] += 1;
         }
         let tallest = rows.iter().copied().max().unwrap_or(0);
-        let bottom = 20 + tallest * ROW;
+        let bottom = TOP + tallest * ROW;
         let width = left(last) + widths[last] + 60;
-        let height = bottom + self.unreached.len() * ROW + 10;
+        let height = bottom + self.unreached.len() * ROW + 20;
         let mut out = format!(
             "<svg xmlns=\"http://www.w3.org/2000/svg\" width=\"{width}\" height=\"{height}\" viewBox=\"0 0 {width} {height}\" font-family=\"monospace\" font-size=\"13\">\n"
         );
@@ -172,17 +173,27 @@ impl Graph {
                         top.saturating_sub(18),
                         start - 10
                     )
+                } else if columns[to] > columns[from] + 1 {
+                    // Past a column: over its boxes.
+                    let high = y0.min(y1).saturating_sub(44);
+                    format!(
+                        "M{start} {y0}C{} {high} {} {high} {end} {y1}",
+                        start + 60,
+                        end - 60
+                    )
                 } else if end > start {
                     let middle = (start + end) / 2;
                     format!("M{start} {y0}C{middle} {y0} {middle} {y1} {end} {y1}")
-                } else {
-                    // Back to an earlier column, or within one: around the right side.
+                } else if columns[from] == columns[to] {
+                    // Within a column: around its right side.
                     let side = start + 40;
-                    let target = x1 + widths[columns[to]];
-                    format!(
-                        "M{start} {y0}C{side} {y0} {} {y1} {target} {y1}",
-                        target + 40
-                    )
+                    format!("M{start} {y0}C{side} {y0} {side} {y1} {start} {y1}")
+                } else {
+                    // Back to an earlier column: from below to below.
+                    let (x0, x1) = (x0 + widths[columns[from]] / 2, x1 + widths[columns[to]] / 2);
+                    let (y0, y1) = (y0 + HEIGHT / 2, y1 + HEIGHT / 2);
+                    let low = y0.max(y1) + 30;
+                    format!("M{x0} {y0}C{x0} {low} {x1} {low} {x1} {y1}")
                 };
                 out += &format!("<path d=\"{path}\" fill=\"none\" stroke=\"{colour}\" stroke-width=\"1.5\" marker-end=\"url(#{marker})\"/>\n");
             }
