@@ -156,7 +156,7 @@ impl Card {
         let mut spans: Vec<Option<Location>> =
             vec![None; 1 + bundle.folders.len() + 3 * bundle.remappings.len()];
         for (path, on_disk) in files {
-            let (items, text, name) = items_of(&on_disk)?;
+            let SourceFile { name, text, items } = items_of(&on_disk)?;
             spans.push(None);
             for item in &items {
                 locate(item, &name, &text, &mut spans);
@@ -275,7 +275,14 @@ fn remapping_of(text: &str) -> Result<Remapping, InputError> {
     })
 }
 
-fn items_of(file: &Path) -> Result<(Vec<SourceItem>, Rc<str>, Rc<str>), InputError> {
+/// A source file as it was read.
+struct SourceFile {
+    name: Rc<str>,
+    text: Rc<str>,
+    items: Vec<SourceItem>,
+}
+
+fn items_of(file: &Path) -> Result<SourceFile, InputError> {
     let name: Rc<str> = file.display().to_string().into();
     let bytes = std::fs::read(file).map_err(|error| InputError::new(format!("{name}: {error}")))?;
     let text = String::from_utf8(bytes)
@@ -290,7 +297,7 @@ fn items_of(file: &Path) -> Result<(Vec<SourceItem>, Rc<str>, Rc<str>), InputErr
             end: error.span.end,
         }),
     })?;
-    Ok((items, text, name))
+    Ok(SourceFile { name, text, items })
 }
 
 /// The places of an item's fields, in the bundle's order.

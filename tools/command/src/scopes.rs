@@ -263,12 +263,11 @@ impl Walk<'_> {
             let name = quoted(&element.name);
             let mut told = None;
             let mut taken = false;
-            for kind in 1..=3 {
+            for (kind, word) in KINDS.iter().enumerate().skip(1) {
                 let entry = before
                     .iter()
                     .find(|entry| entry.kind == kind && entry.name == element.name);
                 let Some(entry) = entry else { continue };
-                let word = KINDS[kind];
                 if !entry.public {
                     let message = format!("the {word} {name} is private");
                     told = told.or(Some((44, message, Some(entry.by))));
