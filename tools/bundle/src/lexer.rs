@@ -7,6 +7,7 @@ use crate::TextError;
 pub(crate) struct Position {
     line: usize,
     column: usize,
+    pub(crate) offset: usize,
 }
 
 impl Position {
@@ -65,10 +66,16 @@ impl<'a> Lexer<'a> {
         }
     }
 
+    /// The offset after what was read.
+    pub(crate) fn at(&self) -> usize {
+        self.at
+    }
+
     fn position(&self) -> Position {
         Position {
             line: self.line,
             column: self.at - self.line_start + 1,
+            offset: self.at,
         }
     }
 

@@ -4,7 +4,7 @@ mod lexer;
 mod pack;
 mod show;
 
-pub use pack::pack;
+pub use pack::{pack, pack_with_fields, Packed};
 pub use show::show;
 
 /// What is wrong with a text, and where: line and column count from 1, columns in bytes.

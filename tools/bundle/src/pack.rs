@@ -1,6 +1,8 @@
 //! Text into a bundle. The syntax is tested here, not what the bundle says: a quoted string may
 //! break the form of its field, counts may pass their limits, and the linker refuses that.
 
+use std::ops::Range;
+
 use bundle_format::forms::{is_identifier, is_path};
 use bundle_format::{
     encode_file, encode_item, limits, Body, Bundle, Element, File, Item, Remapping,
@@ -14,12 +16,26 @@ const NESTING: usize = 64;
 /// The most that a count or a string's length can say.
 const BYTE: usize = u8::MAX as usize;
 
+/// A packed text: the bytes of the bundle, and of each field its offset in the bundle and its range in the text.
+#[derive(Clone, Debug, PartialEq, Eq)]
+pub struct Packed {
+    pub bytes: Vec<u8>,
+    pub fields: Vec<(usize, Range<usize>)>,
+}
+
 /// The bytes of the bundle that `text` describes.
 pub fn pack(text: &[u8]) -> Result<Vec<u8>, TextError> {
+    Ok(pack_with_fields(text)?.bytes)
+}
+
+/// The same, with the place of every field in the text.
+pub fn pack_with_fields(text: &[u8]) -> Result<Packed, TextError> {
     let mut parser = Parser::new(text)?;
     let bundle = parser.bundle()?;
     // Strings, counts, items and files fit, so this is about the length of the whole.
-    fits(parser.position, bundle.encode())
+    let (bytes, offsets) = fits(parser.position, bundle.encode_with_fields())?;
+    let fields = offsets.into_iter().zip(parser.fields).collect();
+    Ok(Packed { bytes, fields })
 }
 
 fn fits<T>(position: Position, result: Result<T, String>) -> Result<T, TextError> {
@@ -30,22 +46,32 @@ struct Parser<'a> {
     lexer: Lexer<'a>,
     token: Token,
     position: Position,
+    /// Where the token ends, and the one before it.
+    end: usize,
+    end_before: usize,
+    /// The ranges of strings and items, in the order of the bundle's fields.
+    fields: Vec<Range<usize>>,
 }
 
 impl<'a> Parser<'a> {
     fn new(text: &'a [u8]) -> Result<Self, TextError> {
         let mut lexer = Lexer::new(text);
         let (token, position) = lexer.next()?;
+        let end = lexer.at();
         Ok(Parser {
             lexer,
             token,
             position,
+            end,
+            end_before: 0,
+            fields: Vec::new(),
         })
     }
 
     fn advance(&mut self) -> Result<Token, TextError> {
         let (token, position) = self.lexer.next()?;
         self.position = position;
+        self.end_before = std::mem::replace(&mut self.end, self.lexer.at());
         Ok(std::mem::replace(&mut self.token, token))
     }
 
@@ -118,6 +144,7 @@ impl<'a> Parser<'a> {
     /// The bytes of the token, which has some, if its length fits a byte.
     fn string(&mut self) -> Result<Vec<u8>, TextError> {
         let position = self.position;
+        self.fields.push(position.offset..self.end);
         match self.advance()? {
             Token::Word(bytes) | Token::Path(bytes) | Token::Quoted(bytes)
                 if bytes.len() <= BYTE =>
@@ -215,6 +242,8 @@ impl<'a> Parser<'a> {
 
     fn item(&mut self, depth: usize) -> Result<Item, TextError> {
         let position = self.position;
+        let field = self.fields.len();
+        self.fields.push(position.offset..self.end);
         let public = self.take_word("pub")?;
         let body = if self.take_word("type")? {
             Body::TypeAlias(self.name("the name of a type")?)
@@ -248,6 +277,11 @@ impl<'a> Parser<'a> {
             public,
             body,
         };
+        // A module's range ends with its name.
+        self.fields[field].end = match item.body {
+            Body::Module { .. } => self.fields[field + 1].end,
+            _ => self.end_before,
+        };
         fits(position, encode_item(&item, &mut Vec::new()))?;
         Ok(item)
     }
@@ -275,6 +309,8 @@ impl<'a> Parser<'a> {
     fn element(&mut self) -> Result<Element, TextError> {
         let name = self.name("an element or `}`")?;
         if !self.take_word("as")? {
+            // An alias that isn't written has its field all the same.
+            self.fields.extend(self.fields.last().cloned());
             return Ok(Element { name, alias: None });
         }
         if self.token == Token::Quoted(Vec::new()) {

@@ -21,9 +21,14 @@ fn refuse<T>(number: u8, place: usize) -> Result<T, Refusal> {
 impl Bundle {
     /// The bundle in `bytes`, or the first of the numbers 1 to 8.
     pub fn decode(bytes: &[u8]) -> Result<Bundle, Refusal> {
-        let bundle = Reader::new(bytes)?.bundle()?;
+        let bundle = Bundle::decode_form(bytes)?;
         bundle.check_paths()?;
         Ok(bundle)
+    }
+
+    /// The bundle in `bytes`, or the first of the numbers 1 to 6: its paths may be listed twice or have no parent.
+    pub fn decode_form(bytes: &[u8]) -> Result<Bundle, Refusal> {
+        Reader::new(bytes)?.bundle()
     }
 
     /// 7 and 8, path by path, folders then files.

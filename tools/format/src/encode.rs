@@ -3,9 +3,22 @@
 
 use crate::{limits, Body, Bundle, File, Item};
 
+/// Bytes, and where each field of them begins: every string and every item, in the order written.
+#[derive(Default)]
+struct Writer {
+    bytes: Vec<u8>,
+    fields: Vec<usize>,
+}
+
 impl Bundle {
     pub fn encode(&self) -> Result<Vec<u8>, String> {
-        versioned(|out| {
+        Ok(self.encode_with_fields()?.0)
+    }
+
+    /// The bundle, and the offset of every field: the root, the folders, each remapping's context, name and target, each file's
+    /// path, then of each item its mark and its strings (an element's alias too where it is none).
+    pub fn encode_with_fields(&self) -> Result<(Vec<u8>, Vec<usize>), String> {
+        let out = versioned(|out| {
             string(&self.root, out)?;
             list("folders", &self.folders, out, |folder, out| {
                 string(folder, out)
@@ -15,32 +28,50 @@ impl Bundle {
                 string(&remapping.name, out)?;
                 string(&remapping.target, out)
             })?;
-            list("files", &self.files, out, encode_file)
-        })
+            list("files", &self.files, out, file)
+        })?;
+        Ok((out.bytes, out.fields))
     }
 }
 
 /// The image of the units, which are private modules.
 pub fn image(units: &[Item]) -> Result<Vec<u8>, String> {
-    versioned(|out| units.iter().try_for_each(|unit| encode_item(unit, out)))
+    Ok(versioned(|out| units.iter().try_for_each(|unit| item(unit, out)))?.bytes)
 }
 
 /// A file's path, the length of its items, and the items.
-pub fn encode_file(file: &File, out: &mut Vec<u8>) -> Result<(), String> {
-    string(&file.path, out)?;
-    counted("a file's items", out, |out| {
-        file.items
-            .iter()
-            .try_for_each(|item| encode_item(item, out))
-    })
+pub fn encode_file(one: &File, out: &mut Vec<u8>) -> Result<(), String> {
+    append(out, |out| file(one, out))
 }
 
 /// An item in the form that bundle and image share.
-pub fn encode_item(item: &Item, out: &mut Vec<u8>) -> Result<(), String> {
+pub fn encode_item(one: &Item, out: &mut Vec<u8>) -> Result<(), String> {
+    append(out, |out| item(one, out))
+}
+
+fn append(
+    bytes: &mut Vec<u8>,
+    write: impl FnOnce(&mut Writer) -> Result<(), String>,
+) -> Result<(), String> {
+    let mut out = Writer::default();
+    write(&mut out)?;
+    bytes.extend(out.bytes);
+    Ok(())
+}
+
+fn file(file: &File, out: &mut Writer) -> Result<(), String> {
+    string(&file.path, out)?;
+    counted("a file's items", out, |out| {
+        file.items.iter().try_for_each(|one| item(one, out))
+    })
+}
+
+fn item(one: &Item, out: &mut Writer) -> Result<(), String> {
+    out.fields.push(out.bytes.len());
     counted("an item", out, |out| {
-        out.push(item.body.kind());
-        out.push(u8::from(item.public));
-        match &item.body {
+        out.bytes.push(one.body.kind());
+        out.bytes.push(u8::from(one.public));
+        match &one.body {
             Body::TypeAlias(name) | Body::Function(name) | Body::Enum(name) => string(name, out),
             Body::Use { segments, elements } => {
                 list("segments", segments, out, |segment, out| {
@@ -53,7 +84,7 @@ pub fn encode_item(item: &Item, out: &mut Vec<u8>) -> Result<(), String> {
             }
             Body::Module { name, items } => {
                 string(name, out)?;
-                items.iter().try_for_each(|item| encode_item(item, out))
+                items.iter().try_for_each(|inner| item(inner, out))
             }
             Body::Ignored => Ok(()),
         }
@@ -61,8 +92,9 @@ pub fn encode_item(item: &Item, out: &mut Vec<u8>) -> Result<(), String> {
 }
 
 /// The version, then what `write` writes, led by its length.
-fn versioned(write: impl FnOnce(&mut Vec<u8>) -> Result<(), String>) -> Result<Vec<u8>, String> {
-    let mut out = vec![limits::VERSION];
+fn versioned(write: impl FnOnce(&mut Writer) -> Result<(), String>) -> Result<Writer, String> {
+    let mut out = Writer::default();
+    out.bytes.push(limits::VERSION);
     counted("everything after the header", &mut out, write)?;
     Ok(out)
 }
@@ -70,16 +102,16 @@ fn versioned(write: impl FnOnce(&mut Vec<u8>) -> Result<(), String>) -> Result<V
 /// What `write` writes, led by its 2-byte length.
 fn counted(
     what: &str,
-    out: &mut Vec<u8>,
-    write: impl FnOnce(&mut Vec<u8>) -> Result<(), String>,
+    out: &mut Writer,
+    write: impl FnOnce(&mut Writer) -> Result<(), String>,
 ) -> Result<(), String> {
-    let at = out.len();
-    out.extend([0, 0]);
+    let at = out.bytes.len();
+    out.bytes.extend([0, 0]);
     write(out)?;
-    let length = out.len() - at - 2;
+    let length = out.bytes.len() - at - 2;
     let field = u16::try_from(length)
         .map_err(|_| format!("{what} has {length} bytes, over {}", limits::LENGTH))?;
-    out[at..at + 2].copy_from_slice(&field.to_be_bytes());
+    out.bytes[at..at + 2].copy_from_slice(&field.to_be_bytes());
     Ok(())
 }
 
@@ -87,19 +119,20 @@ fn counted(
 fn list<T>(
     what: &str,
     values: &[T],
-    out: &mut Vec<u8>,
-    mut write: impl FnMut(&T, &mut Vec<u8>) -> Result<(), String>,
+    out: &mut Writer,
+    mut write: impl FnMut(&T, &mut Writer) -> Result<(), String>,
 ) -> Result<(), String> {
     let count = u8::try_from(values.len())
         .map_err(|_| format!("{} {what}, over {}", values.len(), u8::MAX))?;
-    out.push(count);
+    out.bytes.push(count);
     values.iter().try_for_each(|value| write(value, out))
 }
 
-fn string(bytes: &[u8], out: &mut Vec<u8>) -> Result<(), String> {
+fn string(bytes: &[u8], out: &mut Writer) -> Result<(), String> {
+    out.fields.push(out.bytes.len());
     let length = u8::try_from(bytes.len())
         .map_err(|_| format!("a string of {} bytes, over {}", bytes.len(), u8::MAX))?;
-    out.push(length);
-    out.extend(bytes);
+    out.bytes.push(length);
+    out.bytes.extend(bytes);
     Ok(())
 }

@@ -1,0 +1,278 @@
+//! `explain`: what a number means, with an example that the tests link.
+
+use gontsamy::Number;
+
+/// How a number comes about.
+pub enum Example {
+    /// A bundle in text form, and the place told.
+    Text(&'static str, usize),
+    /// A bundle's bytes in hexadecimal, and the place told.
+    Bytes(&'static str, usize),
+    /// No small bundle tells it: what does.
+    Words(&'static str),
+}
+
+/// The entry, directly in the root, with this text among its items.
+macro_rules! main_with {
+    ($items:literal) => {
+        concat!(
+            "bundle 1\nroot /r\nfolder /r\nfile /r/main.simf {\n    fn main\n",
+            $items,
+            "}\n"
+        )
+    };
+    ($items:literal, $other:literal) => {
+        concat!(
+            "bundle 1\nroot /r\nfolder /r\nfile /r/main.simf {\n    fn main\n",
+            $items,
+            "}\nfile /r/a.simf {\n",
+            $other,
+            "}\n"
+        )
+    };
+}
+
+/// An example for each number.
+pub const EXAMPLES: &[(u8, Example)] = &[
+    (1, Example::Bytes("01000100ff", 4)),
+    (2, Example::Bytes("020000", 0)),
+    (3, Example::Text("bundle 1\nroot /\n", 7)),
+    (4, Example::Text("bundle 1\nroot \"src\"\n", 3)),
+    (5, Example::Text(main_with!("    fn \"1st\"\n"), 40)),
+    (6, Example::Bytes("01000e012f0000 01022f6d 0004 0002 0900", 15)),
+    (
+        7,
+        Example::Text(
+            "bundle 1\nroot /\nfolder /a\nfolder /a\nfile /m.simf {\n    fn main\n}\n",
+            9,
+        ),
+    ),
+    (
+        8,
+        Example::Text(
+            "bundle 1\nroot /\nfolder /a/b\nfile /m.simf {\n    fn main\n}\n",
+            6,
+        ),
+    ),
+    (
+        9,
+        Example::Text("bundle 1\nroot /src\nfile /m.simf {\n    fn main\n}\n", 3),
+    ),
+    (
+        10,
+        Example::Text("bundle 1\nroot /m.simf\nfile /m.simf {\n    fn main\n}\n", 3),
+    ),
+    (
+        11,
+        Example::Text(
+            "bundle 1\nroot /\nremap / crate = /\nfile /m.simf {\n    fn main\n}\n",
+            9,
+        ),
+    ),
+    (
+        12,
+        Example::Text(
+            "bundle 1\nroot /\nremap / use = /\nfile /m.simf {\n    fn main\n}\n",
+            9,
+        ),
+    ),
+    (
+        13,
+        Example::Text(
+            "bundle 1\nroot /\nremap / lib = /\nremap / lib = /\nfile /m.simf {\n    fn main\n}\n",
+            15,
+        ),
+    ),
+    (
+        14,
+        Example::Words("the printed case of the README with an image buffer of 61 bytes: it needs 62"),
+    ),
+    (
+        15,
+        Example::Words("an entry of 65,000 bytes with 256 uses of a library of one letter: each path grows by `crate::unit_1`"),
+    ),
+    (20, Example::Text(main_with!("    use {f}\n"), 36)),
+    (21, Example::Text(main_with!("    use limits::daily::{check}\n"), 36)),
+    (
+        22,
+        Example::Text(
+            "bundle 1\nroot /r\nfolder /r\nfolder /lib\nremap /r limits = /lib\nfile /r/main.simf {\n    fn main\n    use limits::daily::{check}\n}\n",
+            56,
+        ),
+    ),
+    (
+        23,
+        Example::Text(
+            "bundle 1\nroot /r\nfolder /r\nfolder /r/s\nfile /r/s/main.simf {\n    fn main\n    use crate::daily::{check}\n}\n",
+            43,
+        ),
+    ),
+    (
+        24,
+        Example::Text(
+            "bundle 1\nroot /r\nfolder /r\nremap /r own = /r\nfile /r/main.simf {\n    fn main\n    use own::a::{f}\n}\nfile /r/a.simf {\n    pub fn f\n}\n",
+            46,
+        ),
+    ),
+    (
+        25,
+        Example::Text(
+            "bundle 1\nroot /r\nfolder /r\nfile /main.simf {\n    fn main\n    use crate::a::{f}\n}\nfile /r/a.simf {\n    pub fn f\n}\n",
+            34,
+        ),
+    ),
+    (
+        26,
+        Example::Text(
+            main_with!("    use crate::a::{f}\n    pub fn g\n", "    pub fn f\n    use crate::main::{g}\n"),
+            0,
+        ),
+    ),
+    (
+        27,
+        Example::Text(
+            "bundle 1\nroot /r\nfolder /r\nfile /r/main.simf {\n    fn start\n}\n",
+            0,
+        ),
+    ),
+    (
+        28,
+        Example::Text(main_with!("    use crate::a::{Side}\n", "    pub enum Side\n"), 68),
+    ),
+    (29, Example::Words("a resolution call with an importer that the bundle doesn't list")),
+    (40, Example::Words("a tree call with the path `lib::a`")),
+    (
+        41,
+        Example::Text(main_with!("    use crate::a::m::{f}\n", "    pub fn f\n"), 36),
+    ),
+    (
+        42,
+        Example::Text(main_with!("    use crate::a::m::{f}\n", "    mod m { pub fn f }\n"), 36),
+    ),
+    (
+        43,
+        Example::Text(main_with!("    use crate::a::{g}\n", "    pub fn f\n"), 36),
+    ),
+    (44, Example::Text(main_with!("    use crate::a::{f}\n", "    fn f\n"), 36)),
+    (
+        45,
+        Example::Text(main_with!("    fn f\n    use crate::a::{f}\n", "    pub fn f\n"), 42),
+    ),
+    (
+        46,
+        Example::Text(main_with!("    use crate::a::{f as main}\n", "    pub fn f\n"), 36),
+    ),
+    (47, Example::Text(main_with!("    mod m { }\n    mod m { }\n"), 42)),
+    (48, Example::Text(main_with!("    type T\n    enum T\n"), 42)),
+    (49, Example::Text(main_with!("    fn f\n    fn f\n"), 42)),
+    (50, Example::Words("a tree call that exits where no module is open")),
+    (51, Example::Words("an entry with 1,024 functions: with its unit they are 1,025 entries")),
+];
+
+/// The page of a number.
+pub fn page(number: u8) -> Option<String> {
+    let meaning = Number(number).meaning()?;
+    let mut out = format!(
+        "{number} {}\n\nGiven when {}.\nPlace: {}.\nWhat to do: {}.\n",
+        meaning.word, meaning.when, meaning.place, meaning.help
+    );
+    if let Some((_, example)) = EXAMPLES.iter().find(|(of, _)| *of == number) {
+        out += "\nExample:\n";
+        match example {
+            Example::Text(text, place) => {
+                for line in text.lines() {
+                    out += &format!("    {line}\n");
+                }
+                out += &format!("tells `no {number} {place}`\n");
+            }
+            Example::Bytes(hex, place) => {
+                out += &format!("    the bytes {hex}\ntell `no {number} {place}`\n");
+            }
+            Example::Words(words) => out += &format!("    {words}\n"),
+        }
+    }
+    Some(out)
+}
+
+/// docs/NUMBERS.md: the page of every number.
+pub fn pages() -> String {
+    let mut out = String::from("# Numbers\n\nEvery number that a refusal tells. Made by `gontsamy explain --all`; `gontsamy explain N` shows one.\n\n| No. | Word | Given when | Place | What to do |\n|---|---|---|---|---|\n");
+    for meaning in gontsamy::MEANINGS {
+        out += &format!(
+            "| {} | {} | {} | {} | {} |\n",
+            meaning.number, meaning.word, meaning.when, meaning.place, meaning.help
+        );
+    }
+    out += "\n## Examples\n";
+    for meaning in gontsamy::MEANINGS {
+        let Some((_, example)) = EXAMPLES.iter().find(|(of, _)| *of == meaning.number) else {
+            continue;
+        };
+        out += &format!("\n**{} {}.** ", meaning.number, meaning.word);
+        match example {
+            Example::Text(text, place) => {
+                out += &format!("Tells `no {} {place}`:\n\n```\n{text}```\n", meaning.number);
+            }
+            Example::Bytes(hex, place) => {
+                out += &format!("The bytes `{hex}` tell `no {} {place}`.\n", meaning.number);
+            }
+            Example::Words(words) => out += &format!("{words}.\n"),
+        }
+    }
+    out
+}
+
+#[cfg(test)]
+mod tests {
+    use super::*;
+    use crate::card::Card;
+    use gontsamy::{link, Buffers, Refusal};
+
+    /// The number and place that a bundle is told first.
+    fn told(bytes: &[u8]) -> (u8, usize) {
+        let mut buffers = Box::new(Buffers::new());
+        match link(bytes, &mut buffers) {
+            Ok(_) => (0, 0),
+            Err(Refusal::At(number, place)) => (number.0, place),
+            Err(Refusal::Report(mut records)) => {
+                let record = records.next().expect("a report has a record");
+                (record.number.0, record.place)
+            }
+        }
+    }
+
+    fn bytes_of(hex: &str) -> Vec<u8> {
+        let digits: Vec<u8> = hex
+            .chars()
+            .filter_map(|c| c.to_digit(16))
+            .map(|digit| digit as u8)
+            .collect();
+        digits
+            .chunks(2)
+            .map(|pair| pair[0] * 16 + pair[1])
+            .collect()
+    }
+
+    #[test]
+    fn every_number_has_its_example() {
+        let mut wrong = Vec::new();
+        for meaning in gontsamy::MEANINGS {
+            let number = meaning.number;
+            let Some((_, example)) = EXAMPLES.iter().find(|(of, _)| *of == number) else {
+                panic!("{number} has no example");
+            };
+            let (answer, place) = match example {
+                Example::Text(text, place) => {
+                    let card = Card::of_text("example", text.as_bytes()).expect("the text is good");
+                    (told(&card.bytes), *place)
+                }
+                Example::Bytes(hex, place) => (told(&bytes_of(hex)), *place),
+                Example::Words(_) => continue,
+            };
+            if answer != (number, place) {
+                wrong.push(format!("{number}: {answer:?}, not {:?}", (number, place)));
+            }
+        }
+        assert!(wrong.is_empty(), "{wrong:#?}");
+    }
+}

@@ -1,0 +1,254 @@
+//! The proved linker of SimplicityHL module files behind safe calls.
+//!
+//! [`link`] takes a bundle of whatever bytes and answers with the linked program or a refusal; it never panics and allocates nothing.
+//! What it does is proved of the library that it calls (docs/EVIDENCE.md); this crate only lends the buffers and reads the answer.
+//!
+//! ```
+//! use gontsamy::{link, Builder, Buffers};
+//!
+//! let mut bytes = [0; gontsamy::layout::BUNDLE];
+//! let mut builder = Builder::new(&mut bytes, b"/r").unwrap();
+//! builder.folder(b"/r").unwrap();
+//! builder.file(b"/r/main.simf").unwrap();
+//! let mark = builder.use_item(false, &[b"crate", b"a"], &[(b"f", None)]).unwrap();
+//! builder.function(false, b"main").unwrap();
+//! builder.file(b"/r/a.simf").unwrap();
+//! builder.function(true, b"f").unwrap();
+//! let bundle = builder.finish().unwrap();
+//! assert_eq!((mark, bundle.len()), (27, 71));
+//!
+//! let mut buffers = Buffers::new();
+//! let linked = link(bundle, &mut buffers).unwrap();
+//! let order: Vec<&[u8]> = linked.units().map(|unit| unit.path).collect();
+//! assert_eq!(order, [b"/r/a.simf".as_slice(), b"/r/main.simf"]);
+//! ```
+
+#![no_std]
+#![deny(missing_docs)]
+
+mod builder;
+mod ffi;
+mod image;
+pub mod layout;
+mod number;
+mod parts;
+
+pub use builder::{BuildError, Builder};
+pub use image::{Body, Element, Elements, Item, Items, Strings};
+pub use number::{Meaning, Number, MEANINGS};
+
+use layout::*;
+
+/// What is lent to a link. It is 230 KB; keep it in a `static` or a box where the stack is small.
+pub struct Buffers {
+    report: [u8; REPORT],
+    image: [u8; IMAGE],
+    answer: [usize; ANSWER],
+    rows: [u64; ROWS],
+}
+
+impl Buffers {
+    /// Buffers of the sizes that hold every report, image and tree.
+    pub const fn new() -> Self {
+        Buffers {
+            report: [0; REPORT],
+            image: [0; IMAGE],
+            answer: [0; ANSWER],
+            rows: [0; ROWS],
+        }
+    }
+}
+
+impl Default for Buffers {
+    fn default() -> Self {
+        Self::new()
+    }
+}
+
+/// A linked program.
+#[derive(Clone, Copy)]
+pub struct Linked<'a> {
+    bundle: &'a [u8],
+    image: &'a [u8],
+    answer: &'a [usize; ANSWER],
+    rows: &'a [u64],
+}
+
+/// A unit of a linked program.
+#[derive(Clone, Copy, Debug, PartialEq, Eq)]
+pub struct Unit<'a> {
+    /// Its id: the entry is 0.
+    pub id: usize,
+    /// The path of its file.
+    pub path: &'a [u8],
+}
+
+/// Why a bundle is refused.
+#[derive(Clone, Copy, Debug, PartialEq, Eq)]
+pub enum Refusal<'a> {
+    /// 1 to 15 and 40 to 51: a number and a place.
+    At(Number, usize),
+    /// 20 to 28: a record for each fault.
+    Report(Records<'a>),
+}
+
+/// The records of a report, one after another.
+#[derive(Clone, Copy, Debug, PartialEq, Eq)]
+pub struct Records<'a> {
+    bytes: &'a [u8],
+}
+
+/// A record of a report.
+#[derive(Clone, Copy, Debug, PartialEq, Eq)]
+pub struct Record<'a> {
+    /// 20 to 28.
+    pub number: Number,
+    /// The mark of the item; 0 of a ring and of 27.
+    pub place: usize,
+    /// The ids of a ring, each unit importing the next and the last the first.
+    pub ring: &'a [u8],
+}
+
+impl<'a> Iterator for Records<'a> {
+    type Item = Record<'a>;
+
+    fn next(&mut self) -> Option<Record<'a>> {
+        let (&[number, high, low], rest) = self.bytes.split_first_chunk::<3>()?;
+        let (ring, rest) = match (number, rest.split_first()) {
+            (26, Some((&count, ids))) => ids.split_at_checked(usize::from(count))?,
+            _ => (&[][..], rest),
+        };
+        self.bytes = rest;
+        Some(Record {
+            number: Number(number),
+            place: usize::from(u16::from_be_bytes([high, low])),
+            ring,
+        })
+    }
+}
+
+/// What an entry of the tree is.
+#[derive(Clone, Copy, Debug, PartialEq, Eq)]
+pub enum Kind {
+    /// A type alias or an enum.
+    Type,
+    /// A function.
+    Function,
+    /// A module; the units are modules of the root.
+    Module,
+}
+
+/// An entry of the tree.
+#[derive(Clone, Copy, Debug, PartialEq, Eq)]
+pub struct Entry {
+    /// What it is.
+    pub kind: Kind,
+    /// Whether it is public.
+    pub public: bool,
+    /// The entry of the module that holds it; none at the root.
+    pub scope: Option<usize>,
+    /// The mark of its declaration.
+    pub mark: usize,
+    /// The entry that it was imported from; none of a declaration.
+    pub origin: Option<usize>,
+    name: [u8; 32],
+    length: usize,
+}
+
+impl Entry {
+    /// Its name.
+    pub fn name(&self) -> &[u8] {
+        &self.name[..self.length]
+    }
+}
+
+impl<'a> Linked<'a> {
+    /// The units in linked order: each after every other that it imports.
+    pub fn units(&self) -> impl Iterator<Item = Unit<'a>> + 'a {
+        let Linked { bundle, answer, .. } = *self;
+        let count = answer[ANSWER_UNITS].min(FILES);
+        answer[ANSWER_IDS..ANSWER_IDS + count]
+            .iter()
+            .map(move |&id| Unit {
+                id,
+                path: answer
+                    .get(ANSWER_FILES + id)
+                    .and_then(|&file| parts::file_path(bundle, file))
+                    .unwrap_or_default(),
+            })
+    }
+
+    /// The image: the linked program as bytes.
+    pub fn image(&self) -> &'a [u8] {
+        self.image
+    }
+
+    /// The items of the image: one private module for each unit.
+    pub fn items(&self) -> Items<'a> {
+        Items::of_image(self.image)
+    }
+
+    /// The entries of the tree in the order made, units among them.
+    pub fn entries(&self) -> impl Iterator<Item = Entry> + 'a {
+        self.rows.chunks_exact(ROW).map(entry)
+    }
+
+    /// How many entries there are.
+    pub fn entry_count(&self) -> usize {
+        self.rows.len() / ROW
+    }
+}
+
+fn entry(row: &[u64]) -> Entry {
+    let number = |at: usize| row[at] as usize;
+    let mut name = [0; 32];
+    for (bytes, word) in name.chunks_exact_mut(8).zip(&row[ROW_NAME..]) {
+        bytes.copy_from_slice(&word.to_be_bytes());
+    }
+    Entry {
+        kind: match row[ROW_KIND] {
+            1 => Kind::Type,
+            2 => Kind::Function,
+            _ => Kind::Module,
+        },
+        public: row[ROW_PUBLIC] == 1,
+        scope: number(ROW_SCOPE).checked_sub(1),
+        mark: number(ROW_MARK),
+        origin: number(ROW_ORIGIN).checked_sub(1),
+        length: name.iter().position(|&byte| byte == 0).unwrap_or(32),
+        name,
+    }
+}
+
+/// Links a bundle: units, order, image and tree, or the refusal.
+pub fn link<'a>(bundle: &'a [u8], buffers: &'a mut Buffers) -> Result<Linked<'a>, Refusal<'a>> {
+    let Buffers {
+        report,
+        image,
+        answer,
+        rows,
+    } = buffers;
+    let number = ffi::link(bundle, report, image, answer, rows);
+    let answer: &'a [usize; ANSWER] = answer;
+    if number != 0 {
+        return Err(Refusal::At(Number(number), answer[ANSWER_PLACE]));
+    }
+    if answer[ANSWER_REPORT] != 0 {
+        let bytes = report.get(..answer[ANSWER_REPORT]).unwrap_or_default();
+        return Err(Refusal::Report(Records { bytes }));
+    }
+    Ok(Linked {
+        bundle,
+        image: image.get(..answer[ANSWER_IMAGE]).unwrap_or_default(),
+        answer,
+        rows: rows.get(..answer[ANSWER_ENTRIES] * ROW).unwrap_or_default(),
+    })
+}
+
+/// Tests a bundle by 1 to 13 alone.
+pub fn check(bundle: &[u8]) -> Result<(), (Number, usize)> {
+    match ffi::check(bundle) {
+        (0, _) => Ok(()),
+        (number, place) => Err((Number(number), place)),
+    }
+}
