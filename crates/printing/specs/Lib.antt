@@ -6,4 +6,10 @@ pub mod Modules
 pub mod Units
 pub mod Answers
 pub mod Whole
+pub mod PrintedCase
+pub mod DepthTheorems
+pub mod Lengths
+pub mod FaultCounts
+pub mod LengthTheorems
+pub mod SpellingTheorems
 pub mod Sent
