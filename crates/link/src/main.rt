@@ -1,9 +1,9 @@
-// Reads a bundle on standard input and prints document 01's lines for it.
+// Reads a bundle on standard input and prints document 01's lines for it: `printed` of its bytes (printing's specs/Lines.antt).
 //
-// Proved: the bytes handed to `io::write_all`, in one call, are `printed` of the bytes read (printing's specs/Lines.antt). READ bytes
-// are enough: the first 65,539 of any file decide what is told of it (verdict-enough and read-enough, printing's
-// specs/ReadTheorems.antt). TEXT bytes are enough: no bundle's text is longer. Trusted, not proved: that the C library gives the bytes
-// of the file from its start, and that the bytes handed to it reach the screen in order.
+// For a file of whatever bytes that follows from the contract of `printing::tell` (printing's specs/Sent.antt: program-sends). READ
+// bytes are enough: the first 65,539 decide what is told of a file (specs/ReadTheorems.antt: verdict-enough, read-enough). TEXT bytes
+// are enough: no text is longer (specs/LengthTheorems.antt: printed-fits). Trusted, not proved: that the bytes read are the file's
+// first, and that bytes handed to the C library reach the screen in order.
 const READ: usize = 66048;
 
 const TEXT: usize = 440000;

@@ -1,15 +1,17 @@
 -- What is sent of the buffer that tell wrote: as many of its first bytes as tell answers. Assumes nothing.
 use Prim.Native.Nat.{ℕ, _≤_}
 use native.Mathlib.Omega.{arith}
-use mathlib.Core.Path.{_≡_, ap, sym, _∙_}
+use mathlib.Core.Path.{_≡_, ap, sym, subst, _∙_}
 use mathlib.Core.List.{List, _++_}
-use lib.ListN.{length, take, drop, length-append, length-take, length-drop}
+use lib.ListN.{length, take, drop, replicate, length-append, length-take, length-drop, length-replicate}
 use lib.Seq.{take-all, take-append-le}
-use Rattle.bundle.specs.Read.{read}
+use Rattle.bundle.specs.Read.{Bytes, Reading, read}
 use Rattle.text.specs.Words.{Text, lines}
 use Rattle.text.specs.Writing.{shown, reach, shown-all}
 use Rattle.printing.specs.Lines.{reading-lines, printed}
 use Rattle.printing.specs.Answers.{Shows}
+use Rattle.printing.specs.ReadTheorems.{read-enough}
+use Rattle.printing.specs.LengthTheorems.{printed-fits}
 
 -- there are so many
 pub told-counts : (ls : List (List Text)) (o o₁ : List ℕ) (r : ℕ) → Shows ls o o₁ r → (r ≤ length o₁) × (r ≡ length (take r o₁))
@@ -31,3 +33,11 @@ sent-whole s o o₁ r room x =
     let e : o₁ ≡ w ++ drop (length w) o = x .0 ∙ a .0 in
     let n : r ≡ length w = x .1 ∙ a .1 in
     ap (take r) e ∙ (take-append-le r w (drop (length w) o) (omega arith) ∙ take-all r w (omega arith))
+
+-- THE PROGRAM: of a file of whatever bytes it reads the first 66,048, and its buffer has 440,000 bytes. What it sends is all that is
+-- printed of the file
+pub program-sends : (s : List ℕ) → Bytes s → (o₁ : List ℕ) (r : ℕ) → Shows (reading-lines (read (take 66048 s))) (replicate 440000 0) o₁ r → take r o₁ ≡ printed s
+program-sends s B o₁ r x =
+    sent-whole s (replicate 440000 0) o₁ r
+    (omega (arith, printed-fits s B, length-replicate {A = ℕ} 440000 0))
+    (subst (λ (z : Reading). Shows (reading-lines z) (replicate 440000 0) o₁ r) (read-enough s B 66048 (omega arith)) x)
