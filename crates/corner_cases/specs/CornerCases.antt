@@ -14,13 +14,13 @@ use Rattle.names.specs.Prefix.{begins, startsWith}
 use Rattle.bundle.specs.Encode.{encode}
 use Rattle.bundle.specs.Read.{read}
 use Rattle.resolution.specs.Call.{resolve}
-use Rattle.resolution.specs.CornerCases.{corner-rows, number-rows}
-use Rattle.resolution.specs.CornerCases as resolution
+use Rattle.resolution.specs.Cases.{corner-rows, number-rows}
+use Rattle.resolution.specs.Cases as resolution
 use Rattle.discovery.specs.Cases.{rows, rows-hold}
 use Rattle.discovery.specs.Cases as discovery
 use Rattle.graph.specs.Linearize.{linearize}
-use Rattle.graph.specs.Corners.{corners, lists, holds}
-use Rattle.graph.specs.Corners as graph
+use Rattle.graph.specs.Cases.{corners, lists, holds}
+use Rattle.graph.specs.Cases as graph
 use Rattle.order.specs.Cases as order
 use Rattle.scopes.specs.Step.{shared, any-main, nav, element, stage, step, run}
 use Rattle.scopes.specs.Register.{append, find, whole, names, registered}

@@ -21,21 +21,21 @@ use Rattle.resolution.specs.Call.{position}
 use Rattle.discovery.specs.Discovery.{Fault, uses, programOf, useCache, lookupFaults, validImports, holds, addOnce, load, loadAll, Graph, turn, turns, discoverDependencies}
 
 -- what discovery tells of bytes: units, lists and faults
-pub data Told : Type 0 where
-  told : (units : List Text) (lists : List (List ℕ)) (faults : List Fault) → Told
-  turned-back : ℕ → ℕ → Told
+pub data DiscoveryCase : Type 0 where
+  told : (units : List Text) (lists : List (List ℕ)) (faults : List Fault) → DiscoveryCase
+  turned-back : ℕ → ℕ → DiscoveryCase
 
-unfoldable pub telling : Graph → Told
+unfoldable pub telling : Graph → DiscoveryCase
 telling g = told (g .sources) (g .dependencies) (g .faults)
 
-unfoldable pub discovery : Reading → Told
+unfoldable pub discovery : Reading → DiscoveryCase
 discovery (value b) = telling (discoverDependencies b)
 discovery (refused n p) = turned-back n p
 
 -- a row: a bundle, and what is told of its bytes
 pub record Row : Type 0 where
   pub bundle : Bundle
-  pub expected : Told
+  pub expected : DiscoveryCase
 
 abbrev fault : ℕ → ℕ → Fault
 fault n p = record { number = n; place = p }

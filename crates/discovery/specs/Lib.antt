@@ -5,7 +5,7 @@ pub mod InTurn
 -- theorems to cite
 pub mod Right
 pub mod Clean
-pub mod Told
+pub mod FaultTheorems
 pub mod ItemOrder
 pub mod InTurnTheorems
 pub mod Cases

@@ -6,7 +6,7 @@ pub mod Given
 -- theorems to cite
 pub mod OrderTheorems
 pub mod GivenTheorems
-pub mod Corners
+pub mod Cases
 -- laws, for the code and for proofs
 pub mod Facts
 pub mod State

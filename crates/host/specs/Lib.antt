@@ -1,5 +1,5 @@
 -- DEFINITIONS: what contracts speak of
-pub mod Told
+pub mod Answers
 pub mod LinkTold
 -- LAWS for the code
 pub mod LinkLaws

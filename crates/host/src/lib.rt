@@ -3,7 +3,7 @@
 ghost use mathlib.Core.Path.{_≡_};
 ghost use Rattle.bundle.specs.Read.{numberOf, verdict};
 ghost use Prim.Native.Nat.{_+_, _<_, _^_};
-ghost use Rattle.host.specs.Told.{bitOf, kindOf, placeTold, resolvedTold, orderTold, GraphTold, assembleTold};
+ghost use Rattle.host.specs.Answers.{bitOf, kindOf, placeTold, resolvedTold, orderTold, GraphTold, assembleTold};
 ghost use Rattle.assembly.specs.Call.{assembleAnswer, assembleReport, assembleImage};
 ghost use Rattle.host.specs.LinkTold.{answerOf, numberTold, reportTold, imageTold, answerTold, rowsTold};
 ghost use Rattle.order.specs.Call.{orderAnswer, orderReport};

@@ -31,26 +31,26 @@ use Rattle.order.specs.declared.Reported.{Reported}
 use Rattle.order.specs.declared.Reported.the-variants as reported
 
 -- what is told of bytes: the outcome, the files of its ids, and the bytes of the report
-pub data Told : Type 0 where
-  told : (x : Outcome) (files : List Text) (report : List ℕ) → Told
-  turned-back : ℕ → ℕ → Told
+pub data OrderCase : Type 0 where
+  told : (x : Outcome) (files : List Text) (report : List ℕ) → OrderCase
+  turned-back : ℕ → ℕ → OrderCase
 
 abbrev idsOf : Outcome → List ℕ
 idsOf (faulty l) = []
 idsOf (closed r) = r
 idsOf (linked o) = o
 
-unfoldable pub telling : Bundle → Outcome → Told
+unfoldable pub telling : Bundle → Outcome → OrderCase
 telling b x = told x (filesOf b (idsOf x)) (reportBytes (recordsOf x))
 
-unfoldable pub ordering : Reading → Told
+unfoldable pub ordering : Reading → OrderCase
 ordering (value b) = telling b (ordered b)
 ordering (refused n p) = turned-back n p
 
 -- a row: a bundle, and what is told of its bytes
 pub record Row : Type 0 where
   pub bundle : Bundle
-  pub expected : Told
+  pub expected : OrderCase
 
 abbrev fault-at : ℕ → ℕ → Fault
 fault-at n p = record { number = n; place = p }

@@ -19,7 +19,7 @@ use Rattle.discovery.specs.Discovery.{Use, uses, programOf, Fault, pathsOf}
 use Rattle.discovery.specs.Facts.{cond-elim, pigeons}
 use Rattle.discovery.specs.Weight.{reached-file}
 use Rattle.discovery.specs.Right.{discovered}
-use Rattle.discovery.specs.Told.{Why, lookup, reading, fault-told}
+use Rattle.discovery.specs.FaultTheorems.{Why, lookup, reading, fault-told}
 use Rattle.graph.specs.Facts.{pigeonhole}
 use Rattle.order.specs.Run.{closed, ordered, unitsOf}
 use Rattle.order.specs.Theorems.{faultsOf, first-half}

@@ -5,7 +5,7 @@ pub mod Resolution
 pub mod Call
 pub mod Layouts
 -- THEOREMS to cite: the table of cases; what holds of any lists; the lookup and 20 to 25 exactly when; accepted bundles
-pub mod CornerCases
+pub mod Cases
 pub mod Theorems
 pub mod LookupTheorems
 pub mod AcceptedTheorems

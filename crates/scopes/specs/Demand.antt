@@ -11,7 +11,7 @@ use Rattle.scopes.specs.Chain.{In, Chain, chains, chain-from, one-entry}
 use Rattle.scopes.specs.Note.{register-of, written}
 use Rattle.scopes.specs.Named.{Added}
 use Rattle.scopes.specs.Imports.{Use, Imported, was, became, module-of, imported}
-use Rattle.scopes.specs.Once.{Once, once}
+use Rattle.scopes.specs.NoRepeats.{Once, once}
 
 -- f, the answers as′: what the calls cs left of the empty flat tree, and told
 pub record Demand (cs : List Call) (f : Flat) (as′ : List Answer) : Type 0 where

@@ -1,5 +1,5 @@
 -- `gontsamy_assemble` meets its contract. Assumes nothing.
-use Rattle.host.specs.Told.{assembleTold, assemble-refused, assemble-told}
+use Rattle.host.specs.Answers.{assembleTold, assemble-refused, assemble-told}
 use Rattle.assembly.specs.declared.Answer.{Answer}
 use mathlib.Core.Path.{ap, _∙_}
 use borrow.Author.Needs.{needs}

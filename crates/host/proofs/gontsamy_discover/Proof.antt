@@ -1,7 +1,7 @@
 -- `gontsamy_discover` meets its contract. Assumes nothing.
 use mathlib.Core.Path.{sym, _∙_}
 use borrow.Author.Needs.{needs}
-use Rattle.host.specs.Told.{told-ok, told-refused, refused, accepted, graph-told}
+use Rattle.host.specs.Answers.{told-ok, told-refused, refused, accepted, graph-told}
 use Rattle.host.proofs.gontsamy_discover.Statement.{statement}
 use Rattle.host.proofs.gontsamy_discover.Tie as tie
 

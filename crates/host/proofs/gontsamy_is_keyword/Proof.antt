@@ -1,6 +1,6 @@
 -- `host::gontsamy_is_keyword` meets its contract. Assumes nothing.
 use mathlib.Core.Path.{ap, _∙_}
-use Rattle.host.specs.Told.{bitOf}
+use Rattle.host.specs.Answers.{bitOf}
 use borrow.Author.Needs.{needs}
 use Rattle.host.proofs.gontsamy_is_keyword.Statement.{statement}
 use Rattle.host.proofs.gontsamy_is_keyword.Tie as tie

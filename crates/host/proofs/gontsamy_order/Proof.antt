@@ -2,7 +2,7 @@
 use mathlib.Core.Path.{ap, _∙_}
 use borrow.Author.Needs.{needs}
 use Rattle.order.specs.declared.Answer.{Answer}
-use Rattle.host.specs.Told.{orderTold, order-refused, order-told}
+use Rattle.host.specs.Answers.{orderTold, order-refused, order-told}
 use Rattle.host.proofs.gontsamy_order.Statement.{statement}
 use Rattle.host.proofs.gontsamy_order.Tie as tie
 

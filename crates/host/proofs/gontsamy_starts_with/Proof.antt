@@ -1,6 +1,6 @@
 -- `host::gontsamy_starts_with` meets its contract. Assumes nothing.
 use mathlib.Core.Path.{ap, _∙_}
-use Rattle.host.specs.Told.{bitOf}
+use Rattle.host.specs.Answers.{bitOf}
 use borrow.Author.Needs.{needs}
 use Rattle.host.proofs.gontsamy_starts_with.Statement.{statement}
 use Rattle.host.proofs.gontsamy_starts_with.Tie as tie

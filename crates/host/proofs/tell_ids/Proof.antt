@@ -5,7 +5,7 @@ use mathlib.Core.Path.{_≡_, ap, _∙_}
 use borrow.Author.Needs.{needs}
 use lib.ListN.{length, set, take}
 use lib.Seq.{sets, length-sets}
-use Rattle.host.specs.Told.{told-next, told-end}
+use Rattle.host.specs.Answers.{told-next, told-end}
 use Rattle.host.proofs.tell_ids.Statement.{statement}
 use Rattle.host.proofs.tell_ids.Tie as tie
 
