@@ -2,12 +2,33 @@
 use Prim.Native.Nat.{ℕ, zero, suc, _+_, _≤_, _<_}
 use native.Mathlib.Omega.{arith}
 use mathlib.Core.Path.{_≡_, refl, ap, _∙_}
-use mathlib.Core.List.{List, [], _∷_}
-use lib.ListN.{length, set, take, getD, length-set}
+use mathlib.Core.List.{List, [], _∷_, map}
+use lib.ListN.{length, set, take, drop, getD, replicate, length-set, length-append, length-drop, length-replicate, length-map}
+use borrow.Author.Tests.{le-leb}
 use lib.Seq.{sets, length-sets, length-take-le, getD-set-same, getD-set-other, getD-take}
 use Rattle.bundle.specs.Limits.{file-limit}
+use Rattle.bundle.specs.Bundle.{Text, Bundle}
+use Rattle.bundle.specs.Stand.{Bytes}
+use Rattle.bundle.specs.Read.{Reading, value, refused, read}
+use Rattle.bundle.specs.Theorems.{sound}
+use Rattle.resolution.specs.Call.{position}
+use Rattle.discovery.specs.Discovery.{pathsOf}
+use Rattle.order.specs.Run.{unitsOf}
+use Rattle.order.specs.Report.{fault, ring, reporting}
+use Rattle.order.specs.Call.{padded, unitFiles}
+use Rattle.order.specs.Theorems.{order-count}
+use Rattle.order.specs.declared.Reported.{Reported}
+use Rattle.order.specs.declared.Reported.the-variants as reported
+use Rattle.assembly.specs.Image.{imaging}
+use Rattle.assembly.specs.Call.{telling, reportedTo, imagedTo}
+use Rattle.assembly.specs.Theorems.{few-units}
+use Rattle.assembly.specs.declared.Imaged.{Imaged}
+use Rattle.assembly.specs.declared.Imaged.the-variants as imaged
 use Rattle.assembly.specs.declared.Answer.{Answer}
-use Rattle.host.specs.LinkTold.{answer-files, answer-ids, answer-length, answerOf}
+use Rattle.linker.specs.Link.{Outcome, faulty, closed, ended, linked, linkBundle}
+use Rattle.linker.specs.Call.{answering, answerTo, linkAnswer}
+use Rattle.linker.specs.Theorems.{linked-bundle}
+use Rattle.host.specs.LinkTold.{answer-files, answer-ids, answer-length, rows-length, linkEntries, answerOf, answerTold}
 
 -- A RUN OF STORES, place by place
 sets-below : (vs l : List ℕ) (i j : ℕ) → j < i → getD (sets l i vs) j 0 ≡ getD l j 0
@@ -65,8 +86,7 @@ pub record Laid (a : Answer) (n : ℕ) (l m : List ℕ) : Type 0 where
   pub no-file : (i : ℕ) → a .units ≤ i → i < file-limit → getD m (answer-files + i) 0 ≡ getD l (answer-files + i) 0
   pub no-id : (i : ℕ) → a .units ≤ i → getD m (answer-ids + i) 0 ≡ getD l (answer-ids + i) 0
 
--- each stands in its place, in every lent answer that is long enough
-pub laid : (a : Answer) (n : ℕ) (l : List ℕ) → answer-length ≤ length l → a .units ≤ file-limit → length (a .files) ≡ file-limit → length (a .ids) ≡ file-limit → Laid a n l (answerOf a n l)
+laid : (a : Answer) (n : ℕ) (l : List ℕ) → answer-length ≤ length l → a .units ≤ file-limit → length (a .files) ≡ file-limit → length (a .ids) ≡ file-limit → Laid a n l (answerOf a n l)
 laid a n l long few files ids =
     let h = a .place ∷ a .report ∷ a .units ∷ a .image ∷ n ∷ [] in
     let f = take (a .units) (a .files) in
@@ -86,3 +106,49 @@ laid a n l long few files ids =
       no-file = λ i b c. past-files l h f d long refl fb db i (omega arith) c;
       no-id = λ i b. past-ids l h f d long refl fb db i (omega arith);
     }
+
+-- THE COUNT AND THE ARRAYS of what is answered
+record Sized (a : Answer) : Type 0 where
+  pub few : a .units ≤ file-limit
+  pub files : length (a .files) ≡ file-limit
+  pub ids : length (a .ids) ≡ file-limit
+
+telling-sized : (n p r : ℕ) → Sized (telling n p r)
+telling-sized n p r = record { few = omega arith; files = length-replicate {A = ℕ} file-limit 0; ids = length-replicate {A = ℕ} file-limit 0 }
+
+reported-sized : (r : Reported) → Sized (reportedTo r)
+reported-sized (reported.Report n) = telling-sized 0 0 n
+reported-sized (reported.Refused n p) = telling-sized n p 0
+
+padded-length : (l : List ℕ) → length l ≤ file-limit → length (padded l) ≡ file-limit
+padded-length l h =
+    omega (arith, length-append l (drop (length l) (replicate file-limit 0)), length-drop {A = ℕ} (length l) (replicate file-limit 0), length-replicate {A = ℕ} file-limit 0)
+
+imaged-sized : (f o : List ℕ) → length f ≤ file-limit → length o ≤ file-limit → (i : Imaged) → Sized (imagedTo (length f) (padded f) (padded o) i)
+imaged-sized f o h k (imaged.Image n) = record { few = h; files = padded-length f h; ids = padded-length o k }
+imaged-sized f o h k (imaged.Refused n p) = telling-sized n p 0
+
+module _ (s : List ℕ) (B : Bytes s) (n m : ℕ) where
+  outcome-sized : (b : Bundle) → read s ≡ value b → (k : Outcome) → linkBundle b ≡ k → Sized (answering (unitFiles b) n m k)
+  outcome-sized b v (faulty l) e = reported-sized (reporting (map fault l) n)
+  outcome-sized b v (closed r) e = reported-sized (reporting (ring r ∷ []) n)
+  outcome-sized b v (ended j p) e = telling-sized j p 0
+  outcome-sized b v (linked o p x) e =
+      let L = linked-bundle s B b v o p x e in
+      let c = order-count b o (L .files) in
+      let t = few-units b (sound s B b v .1) o (L .program .order) in
+      let u = length-map (unitsOf b) (λ (q : Text). position q (pathsOf b)) in
+      imaged-sized (unitFiles b) o (omega arith) (omega arith) (imaging p m)
+
+  read-sized : (r : Reading) → read s ≡ r → Sized (answerTo r n m)
+  read-sized (refused k p) e = telling-sized k p 0
+  read-sized (value b) e = outcome-sized b e (linkBundle b) refl
+
+-- each part of the answer stands in its place, for every bundle and every lent answer and rows that are long enough
+pub link-laid : (s report image answer rows : List ℕ) → Bytes s → answer-length ≤ length answer → rows-length ≤ length rows
+    → Laid (linkAnswer s report image) (length (linkEntries s image)) answer (answerTold s report image answer rows)
+unfolding linkAnswer answerTold
+link-laid s report image answer rows B h k =
+    let z = read-sized s B (length report) (length image) (read s) refl in
+    rw (le-leb answer-length (length answer) h, le-leb rows-length (length rows) k)
+    (laid (linkAnswer s report image) (length (linkEntries s image)) answer h (z .few) (z .files) (z .ids))
