@@ -1,5 +1,7 @@
 -- DEFINITIONS: what contracts speak of
 pub mod Answers
 pub mod LinkTold
+-- THEOREMS to cite
+pub mod Theorems
 -- LAWS for the code
 pub mod LinkLaws
