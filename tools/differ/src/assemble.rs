@@ -109,7 +109,7 @@ impl Original {
         match self.0.judge(bytes) {
             oracle::judge::Answer::Linked(linked) => match model {
                 Told::Linked(_, order, image) => {
-                    let ids: Vec<usize> = linked.units.iter().map(|(id, _)| *id as usize).collect();
+                    let ids: Vec<usize> = linked.units.iter().map(|(id, _)| *id).collect();
                     ids != *order || linked.image != *image
                 }
                 _ => true,

@@ -58,7 +58,9 @@ pub fn compare(seed: u64, count: u64) -> u64 {
 /// All pairs of 64 paths `times` over, then every keyword.
 pub fn measure(who: &str, times: u64) -> u64 {
     let paths = inputs(1, 64);
-    let (starts_with, is_keyword): (fn(&[u8], &[u8]) -> bool, fn(&[u8]) -> bool) = match who {
+    type Prefix = fn(&[u8], &[u8]) -> bool;
+    type Keyword = fn(&[u8]) -> bool;
+    let (starts_with, is_keyword): (Prefix, Keyword) = match who {
         "port" => (host::starts_with, host::is_keyword),
         "original" => (starts_with, is_keyword),
         _ => return 1,

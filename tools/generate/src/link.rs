@@ -41,9 +41,12 @@ pub fn run(bytes: &[u8], largest: usize) -> Run {
     }
 }
 
+/// The files of the units by id, the ids in linked order, and the image.
+pub type Assembled = (Vec<usize>, Vec<usize>, Vec<u8>);
+
 /// Steps 1 to 5 and the image, without step 6: the report's lines, or the units in linked order and
 /// the image; 15 where it is too long.
-pub fn assemble(bytes: &[u8]) -> Result<(Vec<usize>, Vec<usize>, Vec<u8>), String> {
+pub fn assemble(bytes: &[u8]) -> Result<Assembled, String> {
     let bundle = Bundle::decode(bytes).map_err(|refusal| format!("{refusal}\n"))?;
     if let Some(refusal) = bundle.check() {
         return Err(format!("{refusal}\n"));

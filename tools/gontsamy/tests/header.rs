@@ -23,7 +23,7 @@ fn header() -> BTreeMap<String, usize> {
         };
         let value = value.split("/*").next().unwrap_or_default();
         let mut words = value.trim().trim_matches(['(', ')']).split(' ');
-        let mut number = |word: Option<&str>| {
+        let number = |word: Option<&str>| {
             let word = word.unwrap_or_default();
             match word.strip_prefix("GONTSAMY_") {
                 Some(name) => constants[name],
@@ -44,8 +44,8 @@ fn header() -> BTreeMap<String, usize> {
     constants
 }
 
-/// The constants of a source file in Rust or Rattle, `pub const NAME: TYPE = VALUE;`, computed.
-fn constants(text: &str) -> BTreeMap<String, usize> {
+/// The constants of a source file in Rust or Rattle, `pub const NAME: TYPE = VALUE;`, computed; `outside` are those of other files.
+fn constants(text: &str, outside: &BTreeMap<String, usize>) -> BTreeMap<String, usize> {
     let mut constants: BTreeMap<String, usize> = BTreeMap::new();
     for line in text.lines() {
         let line = line.trim();
@@ -60,8 +60,9 @@ fn constants(text: &str) -> BTreeMap<String, usize> {
             continue;
         };
         let value = value.trim_end_matches(';').replace('_', "");
-        let known: BTreeMap<String, usize> = constants
+        let known: BTreeMap<String, usize> = outside
             .iter()
+            .chain(&constants)
             .map(|(name, value)| (name.replace('_', ""), *value))
             .collect();
         let number = |word: &str| word.parse().ok().or_else(|| known.get(word).copied());
@@ -82,13 +83,31 @@ fn constants(text: &str) -> BTreeMap<String, usize> {
 #[test]
 fn layouts() {
     let header = header();
-    let crate_constants = constants(&read("tools/gontsamy/src/layout.rs"));
+    let crate_constants = constants(&read("tools/gontsamy/src/layout.rs"), &BTreeMap::new());
     assert!(crate_constants.len() >= 20, "{crate_constants:?}");
     for (name, value) in &crate_constants {
         assert_eq!(header.get(name), Some(value), "{name}");
     }
-    let exports = constants(&read("crates/host/src/lib.rt"));
-    for name in ["ANSWER", "ANSWER_FILES", "ANSWER_IDS", "ROW", "ROWS"] {
+    let limits = constants(&read("crates/bundle/src/limits.rt"), &BTreeMap::new());
+    let limits = limits
+        .into_iter()
+        .map(|(name, value)| (format!("bundle::limits::{name}"), value))
+        .collect();
+    let exports = constants(&read("crates/host/src/lib.rt"), &limits);
+    for name in [
+        "FILES",
+        "ENTRIES",
+        "ANSWER_PLACE",
+        "ANSWER_REPORT",
+        "ANSWER_UNITS",
+        "ANSWER_IMAGE",
+        "ANSWER_ENTRIES",
+        "ANSWER_FILES",
+        "ANSWER_IDS",
+        "ANSWER",
+        "ROW",
+        "ROWS",
+    ] {
         assert_eq!(exports.get(name), header.get(name), "{name} of crates/host");
     }
 }
