@@ -33,7 +33,7 @@ use Rattle.bundle.specs.declared.Checked.the-variants.{Ok, Refused}
 
 -- THE SCAN
 -- a number from 1 to 6, and a place before the end, or for 1 at the end
-pub record Told (end n p : ℕ) : Type 0 where
+pub record ToldWithin (end n p : ℕ) : Type 0 where
   pub least : 1 ≤ n
   pub most : n ≤ 6
   pub within : p ≤ end
@@ -41,23 +41,23 @@ pub record Told (end n p : ℕ) : Type 0 where
 
 abbrev Right : ℕ → Scan → Type 0
 Right end (Next at) = at ≤ end
-Right end (Bad n p) = Told end n p
+Right end (Bad n p) = ToldWithin end n p
 
 abbrev RightWalk : ℕ → Walk → Type 0
 RightWalk end (Past at c u) = at ≤ end
-RightWalk end (Fault n p) = Told end n p
+RightWalk end (Fault n p) = ToldWithin end n p
 
 abbrev pub RightForm : ℕ → Checked → Type 0
 RightForm end Ok = Unit {0}
-RightForm end (Refused n p) = Told end n p
+RightForm end (Refused n p) = ToldWithin end n p
 
-cut : (end p : ℕ) → p ≤ end → Told end 1 p
+cut : (end p : ℕ) → p ≤ end → ToldWithin end 1 p
 cut end p h = record { least = omega arith; most = omega arith; within = h; inside = λ f. absurd (f refl) }
 
-tells : (end n p : ℕ) → 1 ≤ n → n ≤ 6 → p < end → Told end n p
+tells : (end n p : ℕ) → 1 ≤ n → n ≤ 6 → p < end → ToldWithin end n p
 tells end n p l m h = record { least = l; most = m; within = omega arith; inside = λ f. h }
 
-told-more : (end last n p : ℕ) → end ≤ last → Told end n p → Told last n p
+told-more : (end last n p : ℕ) → end ≤ last → ToldWithin end n p → ToldWithin last n p
 told-more end last n p h t =
     let w = t .within in
     record { least = t .least; most = t .most; within = omega arith; inside = λ f. let i = t .inside f in omega arith }

@@ -128,7 +128,7 @@ module _ (files : List Text) (cache : Text → List ResolvedUse) where
 
 -- THE THEOREM
 -- a use of a reached file that has the fault's place and is told for a reason
-pub record Told (b : Bundle) (x : Fault) : Type 0 where
+pub record FaultTold (b : Bundle) (x : Fault) : Type 0 where
   pub file : Text
   pub reached : Reached b file
   pub by : Use
@@ -136,7 +136,7 @@ pub record Told (b : Bundle) (x : Fault) : Type 0 where
   pub place : x .place ≡ by .mark
   pub why : Why (pathsOf b) (resolvePathInternal (listsOf b) file (by .segments)) (x .number)
 
-pub fault-told : (b : Bundle) (x : Fault) → List·Memᴰ x (discoverDependencies b .faults) → Told b x
+pub fault-told : (b : Bundle) (x : Fault) → List·Memᴰ x (discoverDependencies b .faults) → FaultTold b x
 unfolding discoverDependencies useCache
 fault-told b x m =
     let t = turns-from (pathsOf b) (useCache b) (length (b .files)) (start (pathsOf b)) (λ y w. absurd (List·Memᴰ·not-nil w)) x m in

@@ -41,15 +41,15 @@ pub record Ring (deps : ℕ → List ℕ) (r : List ℕ) : Type 0 where
   pub reached : (x : ℕ) → List·Memᴰ x r → Reaches deps 0 x
 
 -- each of l lists the next, another unit
-pub data Linked (deps : ℕ → List ℕ) : List ℕ → Type 0 where
-  one : {u : ℕ} → Linked deps (u ∷ [])
-  next : {u v : ℕ} {l : List ℕ} → Edge deps u v → Linked deps (v ∷ l) → Linked deps (u ∷ (v ∷ l))
+pub data EachLists (deps : ℕ → List ℕ) : List ℕ → Type 0 where
+  one : {u : ℕ} → EachLists deps (u ∷ [])
+  next : {u v : ℕ} {l : List ℕ} → Edge deps u v → EachLists deps (v ∷ l) → EachLists deps (u ∷ (v ∷ l))
 
 -- l is where a walk stands: it begins with unit 0, each lists the next, and no unit is there twice
 pub record Walk (deps : ℕ → List ℕ) (l : List ℕ) : Type 0 where
   pub after-first : List ℕ
   pub begins : l ≡ 0 ∷ after-first
-  pub linked : Linked deps l
+  pub linked : EachLists deps l
   pub once : Once l
 
 -- a ring as it is named: it is the end of a walk, so that it starts with the one of its units that the walk came to first

@@ -9,7 +9,7 @@ use lib.Dec.{eqb}
 use lib.ListN.{length, length-append}
 use borrow.Author.Tests.{eqb-true, eqb-false}
 use Rattle.graph.specs.Linearize.{Out, order, ring, memb, from, andThen, each, visit, linearize}
-use Rattle.graph.specs.Order.{Edge, Reaches, here, step, Chain, last, link, Once, none, more, Ring, Linked, one, next, Walk, Named, Ordered, Cyclic, Within}
+use Rattle.graph.specs.Order.{Edge, Reaches, here, step, Chain, last, link, Once, none, more, Ring, EachLists, one, next, Walk, Named, Ordered, Cyclic, Within}
 use Rattle.graph.specs.Facts.{cond-elim, memb-true, memb-false, mem-snoc, once-snoc, pigeonhole, chain-snoc, chain-join, path-join, chain-path, path-chain}
 
 -- how a list with one more at its end is split at a member: at the last, or before it
@@ -124,7 +124,7 @@ module _ (deps : ℕ → List ℕ) where
       (λ h. ring-of u x l (eqb-true u x h) (more f on) r (t .0))
       (λ h. from-ring u on (⊎-elim (λ q. absurd (eqb-false u x h q)) (λ m'. m') (List·Memᴰ·cases-cons m)) (λ y k. r y (List·Memᴰ·tail k)) (t .1))
 
-  chain-linked : {d u : ℕ} {l : List ℕ} → Chain deps d l u → Linked deps (d ∷ l)
+  chain-linked : {d u : ℕ} {l : List ℕ} → Chain deps d l u → EachLists deps (d ∷ l)
   chain-linked (last e) = one
   chain-linked (link e c) = next e (chain-linked c)
 

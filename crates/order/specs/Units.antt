@@ -13,7 +13,7 @@ use Rattle.discovery.specs.Discovery.{Graph, pathsOf}
 use Rattle.discovery.specs.Reached.{Imports, Reached, entry, imported, Once, none, more}
 use Rattle.discovery.specs.Facts.{getD-mem, mem-getD, once-place, pathsAt, paths-mem, mem-paths}
 use Rattle.discovery.specs.Right.{Discovered, imports-sound, imports-complete}
-use Rattle.graph.specs.Order.{Edge, Reaches, here, step, Chain, last, link, Ring, Linked, one, next, Walk, Named, Ordered, Cyclic, Within}
+use Rattle.graph.specs.Order.{Edge, Reaches, here, step, Chain, last, link, Ring, EachLists, one, next, Walk, Named, Ordered, Cyclic, Within}
 use Rattle.graph.specs.Order as graph
 use Rattle.graph.specs.Facts.{path-join}
 use Rattle.order.specs.Run.{listOf}
@@ -201,13 +201,13 @@ module _ (b : Bundle) (g : Graph) (d : Discovered b g) where
   chain-files h (last e) = file.last (edge-imports h e)
   chain-files h (link e c) = file.link (edge-imports h e) (chain-files (edge-below h e) c)
 
-  linked-each : {l : List ℕ} → ((u : ℕ) → List·Memᴰ u l → Unit-id u) → Linked (listOf g) l → EachImports b (pathsAt (g .sources) l)
+  linked-each : {l : List ℕ} → ((u : ℕ) → List·Memᴰ u l → Unit-id u) → EachLists (listOf g) l → EachImports b (pathsAt (g .sources) l)
   unfolding pathsAt
   linked-each h one = file.one
   linked-each h (next {u} e c) = file.next (edge-imports (h u (List·Memᴰ·head refl)) e) (linked-each (λ v m. h v (List·Memᴰ·tail m)) c)
 
   -- each of a chain of imports is a unit
-  linked-below : {l : List ℕ} {u : ℕ} {k : List ℕ} → l ≡ u ∷ k → Unit-id u → Linked (listOf g) l → (v : ℕ) → List·Memᴰ v l → Unit-id v
+  linked-below : {l : List ℕ} {u : ℕ} {k : List ℕ} → l ≡ u ∷ k → Unit-id u → EachLists (listOf g) l → (v : ℕ) → List·Memᴰ v l → Unit-id v
   linked-below {u = u} q h (one {u = w}) v m =
       let e : w ≡ u = cc in
       ⊎-elim (λ x. subst Unit-id (sym (x ∙ e)) h) (λ x. absurd (List·Memᴰ·not-nil x)) (List·Memᴰ·cases-cons m)
