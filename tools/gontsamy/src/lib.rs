@@ -39,7 +39,7 @@ pub use number::{Meaning, Number, MEANINGS};
 
 use layout::*;
 
-/// What is lent to a link. It is 230 KB; keep it in a `static` or a box where the stack is small.
+/// What is lent to a link. It is 161 KB; keep it in a `static` or a box where the stack is small.
 pub struct Buffers {
     report: [u8; REPORT],
     image: [u8; IMAGE],
