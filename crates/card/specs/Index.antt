@@ -1,6 +1,7 @@
 -- An index by hash with chains: a lookup visits the indices of one hash, from the last to ever earlier ones. Assumes nothing.
 use Prim.Native.Nat.{ℕ, zero, suc, _+_, _*_, _%_, _/_, _≤_, _<_}
 use native.Mathlib.Omega.{arith}
+use native.Mathlib.Nat.{le-of-lt, lt-of-le-of-lt, mul-le-mul-right}
 use native.Mathlib.Numerals.{add-one}
 use native.Mathlib.Decide.{decLt}
 use mathlib.Core.Bool.{Bool, true, false, cond}
@@ -160,3 +161,13 @@ hash-more m x i t h = rw (add-one, drop-cons t i 0 h)
 pub hash-end : (m x i : ℕ) (t : List ℕ) → length t ≤ i → hashed m x (drop i t) ≡ x
 unfolding hashed
 hash-end m x i t h = rw (drop-of-length-le t h)
+
+-- a hash times a multiplier is below 2^61, and so a hash stays below 2^32
+pub product : (x m : ℕ) → x < 4294967296 → m < 536870912 → x * m < 2305843009213693952
+product x m h l =
+    let a : x * m ≤ 4294967296 * m = mul-le-mul-right m (le-of-lt h) in
+    let b : 4294967296 * m < 2305843009213693952 = omega arith in
+    lt-of-le-of-lt a b
+
+pub fold-small : (y : ℕ) → y < 2305843009213694208 → folded y < 4294967296
+fold-small y h = omega arith

@@ -10,7 +10,7 @@ ghost use Rattle.card.specs.Layout.{node-limit, card-size, parentAt, sta
 ghost use Rattle.card.specs.Tree.{ascends};
 ghost use Rattle.card.specs.Laws.{nearest, near};
 ghost use Rattle.card.specs.Index.{Looked};
-ghost use Rattle.card.specs.Card.{IndexOf, CardIs, Above, nodesIn, isAt, hit, cutOf, sought};
+ghost use Rattle.card.specs.Card.{IndexOf, CardIs, Above, nodesIn, isAt, hit, met, cutOf, sought};
 use crate::hash::hash_of;
 use crate::hash::mix;
 use crate::layout::BUCKETS;
