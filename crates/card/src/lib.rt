@@ -4,6 +4,8 @@ mod fill;
 mod hash;
 mod layout;
 mod look;
+mod maps;
+mod paths;
 
 pub use layout::CARD;
 pub use look::Near;
