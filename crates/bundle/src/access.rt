@@ -1,12 +1,12 @@
 // Access by position to the parts of a bundle. A position is where a part stands; the contracts say which part of the decoded
 // value that is. None of them needs a checked bundle: of other bytes they give the parts of what `decode` makes of them.
 ghost use mathlib.Core.Path.{_≡_};
-ghost use Prim.Native.Nat.{ℕ, suc, _+_, _*_, _<_, _≤_, _^_};
+ghost use Prim.Native.Nat.{ℕ, suc, _+_, _<_, _≤_, _^_};
 ghost use lib.ListN.{length, getD};
 ghost use Rattle.bundle.specs.Bundle.{Text, Remapping, File};
-ghost use Rattle.bundle.specs.Limits.{capacity, count-limit, string-size, element-size, remapping-size, file-size, depth-limit, use-kind, module-kind, ignored-kind};
+ghost use Rattle.bundle.specs.Limits.{capacity, count-limit, string-size, element-size, file-size, depth-limit, use-kind, module-kind, ignored-kind};
 ghost use Rattle.bundle.specs.Scan.{text, count, pastCount};
-ghost use Rattle.bundle.specs.Decode.{each, far, after, afterElement, afterRemapping, afterFile, elementAt, remappingAt, fileAt, itemsAt, decode, folderFirst, folderCount, remappingFirst, remappingCount, fileFirst, fileCount};
+ghost use Rattle.bundle.specs.Decode.{each, after, afterElement, afterRemapping, afterFile, elementAt, remappingAt, fileAt, itemsAt, decode, folderFirst, folderCount, remappingFirst, remappingCount, fileFirst, fileCount};
 ghost use Rattle.bundle.specs.Parts.{kindOf, markOf, visibilityOf, nameOf, segmentsOf, elementsOf, innerOf, restOf};
 use crate::Width;
 use crate::bytes::after_length;
@@ -20,8 +20,8 @@ use crate::limits::file_width;
 use crate::limits::folder_width;
 use crate::limits::width_bytes;
 use crate::steps::after_files;
+use crate::steps::after_remappings;
 use crate::steps::after_strings;
-use crate::steps::next_remapping;
 
 // A counted list: the position of its first value, and how many there are.
 pub struct Listed {
@@ -45,20 +45,6 @@ fn listed_at(s: &[u8], at: usize, width: Width) -> Listed
         first: at + width_bytes(width),
         count: n,
     }
-}
-
-// Past n remappings.
-fn after_remappings(s: &[u8], at: usize, n: usize) -> usize
-    requires { ⌜ (at < 2 ^ 60) × (n < count-limit) ⌝ }
-    ensures { λ r. ⌜ (r ≡ far (afterRemapping (now (s .entry))) n at) × (r ≤ at + n * remapping-size) ⌝ }
-{
-    let mut a = at;
-    let mut i = 0;
-    while i < n {
-        a = next_remapping(s, a);
-        i += 1;
-    }
-    a
 }
 
 // The three lists, each after the one before it.

@@ -1,9 +1,6 @@
-// The bundle reader: any bytes are a bundle, or are refused by a number from 1 to 13 and a place.
+// A bundle: what it is, and access to its parts by position. Crate form tells 1 to 6 of any bytes, crate card 7 to 13.
 mod access;
 mod bytes;
-mod fields;
-mod form;
-mod items;
 pub mod limits;
 mod steps;
 
@@ -13,8 +10,8 @@ pub use access::element_alias;
 pub use access::element_name;
 pub use access::file_at;
 pub use access::file_items;
-pub use access::file_path;
 pub use access::file_list;
+pub use access::file_path;
 pub use access::files;
 pub use access::folder_at;
 pub use access::folder_list;
@@ -29,17 +26,20 @@ pub use access::next_item;
 pub use access::next_string;
 pub use access::remapping_at;
 pub use access::remapping_context;
+pub use access::remapping_list;
 pub use access::remapping_name;
 pub use access::remapping_target;
-pub use access::remapping_list;
 pub use access::remappings;
 pub use access::root;
 pub use access::string;
 pub use access::use_elements;
 pub use access::use_segments;
+pub use bytes::byte_at;
+pub use bytes::count_at;
+pub use bytes::text_at;
+pub use bytes::version_of;
+pub use bytes::word_at;
 pub use steps::next_remapping;
-ghost use mathlib.Core.Path.{_≡_};
-ghost use Rattle.bundle.specs.Read.{form as Read·form};
 
 // What the check of a bundle answers: a refusal has document 01's number, 1 to 13, and the place.
 pub enum Checked {
@@ -71,11 +71,4 @@ pub enum Field {
     Name,
     Element,
     Remapping,
-}
-
-// 1 to 6. Ruled out: `Ok` for bytes that the header's length does not count.
-pub fn check_form(s: &[u8]) -> Checked
-    ensures { λ r. ⌜ r ≡ Read·form (now (s .entry)) ⌝ }
-{
-    form::form(s)
 }

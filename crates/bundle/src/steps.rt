@@ -1,6 +1,7 @@
 // Steps over the values of a list.
 ghost use mathlib.Core.Path.{_≡_};
 ghost use Prim.Native.Nat.{_+_, _*_, _<_, _≤_, _^_};
+ghost use Rattle.bundle.specs.Limits.{count-limit, string-size, remapping-size, file-size};
 ghost use Rattle.bundle.specs.Decode.{far, after, afterFile, afterRemapping};
 ghost use Rattle.bundle.specs.Lists.{skip};
 use crate::bytes::after_length;
@@ -9,7 +10,7 @@ use crate::bytes::after_string;
 // Past the folder, or the file, at `at`.
 pub fn next_path(s: &[u8], files: bool, at: usize) -> usize
     requires { ⌜ at < 2 ^ 62 ⌝ }
-    ensures { λ r. ⌜ (r ≡ skip files (now (s .entry)) at) × (r ≤ at + 66000) ⌝ }
+    ensures { λ r. ⌜ (r ≡ skip files (now (s .entry)) at) × (r ≤ at + file-size) ⌝ }
 {
     let e = after_string(s, at);
     if files {
@@ -21,7 +22,7 @@ pub fn next_path(s: &[u8], files: bool, at: usize) -> usize
 // Past the remapping at `at`.
 pub fn next_remapping(s: &[u8], at: usize) -> usize
     requires { ⌜ at < 2 ^ 61 ⌝ }
-    ensures { λ r. ⌜ (r ≡ afterRemapping (now (s .entry)) at) × (r ≤ at + 768) ⌝ }
+    ensures { λ r. ⌜ (r ≡ afterRemapping (now (s .entry)) at) × (r ≤ at + remapping-size) ⌝ }
 {
     let a = after_string(s, at);
     let b = after_string(s, a);
@@ -30,8 +31,8 @@ pub fn next_remapping(s: &[u8], at: usize) -> usize
 
 // Past n strings.
 pub fn after_strings(s: &[u8], at: usize, n: usize) -> usize
-    requires { ⌜ (at < 2 ^ 60) × (n < 1024) ⌝ }
-    ensures { λ r. ⌜ (r ≡ far (after (now (s .entry))) n at) × (r ≤ at + n * 256) ⌝ }
+    requires { ⌜ (at < 2 ^ 60) × (n < count-limit) ⌝ }
+    ensures { λ r. ⌜ (r ≡ far (after (now (s .entry))) n at) × (r ≤ at + n * string-size) ⌝ }
 {
     let mut a = at;
     let mut i = 0;
@@ -42,10 +43,24 @@ pub fn after_strings(s: &[u8], at: usize, n: usize) -> usize
     a
 }
 
+// Past n remappings.
+pub fn after_remappings(s: &[u8], at: usize, n: usize) -> usize
+    requires { ⌜ (at < 2 ^ 60) × (n < count-limit) ⌝ }
+    ensures { λ r. ⌜ (r ≡ far (afterRemapping (now (s .entry))) n at) × (r ≤ at + n * remapping-size) ⌝ }
+{
+    let mut a = at;
+    let mut i = 0;
+    while i < n {
+        a = next_remapping(s, a);
+        i += 1;
+    }
+    a
+}
+
 // Past n files.
 pub fn after_files(s: &[u8], at: usize, n: usize) -> usize
-    requires { ⌜ (at < 2 ^ 60) × (n < 1024) ⌝ }
-    ensures { λ r. ⌜ (r ≡ far (afterFile (now (s .entry))) n at) × (r ≤ at + n * 66000) ⌝ }
+    requires { ⌜ (at < 2 ^ 60) × (n < count-limit) ⌝ }
+    ensures { λ r. ⌜ (r ≡ far (afterFile (now (s .entry))) n at) × (r ≤ at + n * file-size) ⌝ }
 {
     let mut a = at;
     let mut i = 0;

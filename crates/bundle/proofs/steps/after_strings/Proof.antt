@@ -3,13 +3,14 @@ use borrow.Author.Needs.{needs}
 use mathlib.Core.Path.{_≡_, refl, sym, _∙_}
 use native.Mathlib.Omega.{arith}
 use Prim.Native.Nat.{_+_, _-_, _*_, _≤_}
+use Rattle.bundle.specs.Limits.{string-size}
 use Rattle.bundle.specs.Decode.{far, after}
 use Rattle.bundle.specs.ListLaws.{far-more}
 use Rattle.bundle.proofs.steps.after_strings.Statement.{statement}
 use Rattle.bundle.proofs.steps.after_strings.Tie as tie
 
 abbrev Inv-loop : tie.InvT-loop
-Inv-loop s at n a₀ i₀ a i = ((i ≤ n) × (a ≤ at + i * 256)) × (a ≡ far (after s) i at)
+Inv-loop s at n a₀ i₀ a i = ((i ≤ n) × (a ≤ at + i * string-size)) × (a ≡ far (after s) i at)
 
 abbrev μ-loop : tie.MeasureT-loop
 μ-loop s at n a₀ i₀ a i = n - i
