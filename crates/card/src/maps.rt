@@ -8,7 +8,6 @@ ghost use Rattle.bundle.specs.Limits.{remapping-limit};
 ghost use Rattle.card.specs.Layout.{node-limit, card-size};
 ghost use Rattle.card.specs.Card.{IndexOf, nodesIn};
 ghost use Rattle.card.specs.Mapping.{Located, MapsTo, put, Unmapped, MapsOf};
-use bundle::Checked;
 use crate::layout::CARD;
 use crate::layout::CONTEXTS;
 use crate::layout::MARKS;
@@ -17,6 +16,7 @@ use crate::layout::TARGETS;
 use crate::look::Near;
 use crate::look::find_path;
 use crate::look::folder_of;
+use bundle::Checked;
 
 // Where a root, context or target is: the index of a folder, or 9 or 10.
 pub enum Place {
@@ -144,7 +144,13 @@ fn put_map(card: &mut [u32; CARD], j: usize, c: usize, t: usize, a: usize)
 }
 
 // 9 to 13 of the n remappings from first on; and what the card has of them.
-pub fn map_names(s: &[u8], card: &mut [u32; CARD], folders: usize, first: usize, n: usize) -> Checked
+pub fn map_names(
+    s: &[u8],
+    card: &mut [u32; CARD],
+    folders: usize,
+    first: usize,
+    n: usize,
+) -> Checked
     requires { ⌜ Unmapped (now s) (now card) folders first n ⌝ }
     ensures { λ r. ⌜ MapsOf (now (s .entry)) (now (card .entry)) (now (card .exit)) first n r ⌝ }
 {

@@ -10,7 +10,6 @@ ghost use Rattle.names.specs.Prefix.{parent};
 ghost use Rattle.bundle.specs.Decode.{decode};
 ghost use Rattle.card.specs.Card.{IndexOf, nodesIn, InFolder};
 ghost use Rattle.card.specs.Linking.{Indexed, Linked};
-use bundle::Checked;
 use crate::layout::CARD;
 use crate::layout::HASHES;
 use crate::layout::NEXTS;
@@ -20,6 +19,7 @@ use crate::look::Near;
 use crate::look::far;
 use crate::look::folder_of;
 use crate::look::walk;
+use bundle::Checked;
 
 // Whether the path p of index i is `/` or listed before.
 fn is_again<'a>(s: &'a [u8], card: &'a [u32; CARD], i: usize, p: &'a [u8]) -> bool
