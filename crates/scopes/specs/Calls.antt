@@ -78,7 +78,7 @@ got-function t s = record { tree = λ g. got-step t s 2 g get-function (λ n. re
 -- EXIT
 abbrev pub popped : View → View
 popped t =
-    record { count = t .count; kinds = t .kinds; visible = t .visible; scopes = t .scopes; marks = t .marks; n0 = t .n0; n1 = t .n1; n2 = t .n2; n3 = t .n3; origins = t .origins; targets = t .targets; times = t .times; heads = t .heads; links = t .links; depth = t .depth - 1; stack = t .stack }
+    record { count = t .count; kinds = t .kinds; visible = t .visible; scopes = t .scopes; marks = t .marks; n0 = t .n0; n1 = t .n1; n2 = t .n2; n3 = t .n3; origins = t .origins; targets = t .targets; times = t .times; index = t .index; depth = t .depth - 1; stack = t .stack }
 
 exit-names : (l : List Entry) (ss : List ℕ) (x : Flat) → (length ss ≡ 0 → ⊥) → close flat x (stack-names l ss) ≡ (flat .closed x, ok)
 exit-names l ss x h = go (stack-names l ss) (length-names l ss)

@@ -53,7 +53,7 @@ decided-yes t s r z d c k h q m =
 -- a view with the count and the depth that the code read
 abbrev pub counted : View → ℕ → ℕ → View
 counted t c d =
-    record { count = c; kinds = t .kinds; visible = t .visible; scopes = t .scopes; marks = t .marks; n0 = t .n0; n1 = t .n1; n2 = t .n2; n3 = t .n3; origins = t .origins; targets = t .targets; times = t .times; heads = t .heads; links = t .links; depth = d; stack = t .stack }
+    record { count = c; kinds = t .kinds; visible = t .visible; scopes = t .scopes; marks = t .marks; n0 = t .n0; n1 = t .n1; n2 = t .n2; n3 = t .n3; origins = t .origins; targets = t .targets; times = t .times; index = t .index; depth = d; stack = t .stack }
 
 pub at-counts : (t : View) (c d : ℕ) (s : List ℕ) (r : Staged) → c ≡ t .count → d ≡ t .depth → Decided (counted t c d) s r → Decided t s r
 at-counts t c d s r p q x = subst (λ (u : View). Decided u s r) (λ j. counted t (p j) (q j)) x

@@ -191,13 +191,13 @@ unfoldable pub barred : ℕ → Bool → Bool
 barred v led = not (eqb v 1) && not led
 
 -- AS THE CODE HAS IT: the arrays but for the marks, which a walk does not read
-module _ (ks vs ss n0 n1 n2 n3 os ts us hs ls : List ℕ) (total : ℕ) (stack : List ℕ) (depth : ℕ) (s : List ℕ) (at n : ℕ) where
+module _ (ks vs ss n0 n1 n2 n3 os ts us xs : List ℕ) (total : ℕ) (stack : List ℕ) (depth : ℕ) (s : List ℕ) (at n : ℕ) where
   abbrev with-marks : List ℕ → Arrays
-  with-marks m = arrays ks vs ss m n0 n1 n2 n3 os ts us hs ls
+  with-marks m = arrays ks vs ss m n0 n1 n2 n3 os ts us xs
 
   -- where the path leads: the definition's place or number, whatever the marks
   pub record Arrived (r : Way) : Type 0 where
-    pub same : total ≤ 1024 → Indexed hs ls ss ks n0 n1 n2 n3 total → Doors stack depth total → (m : List ℕ) → way (row-at (with-marks m)) r ≡ walked (with-marks m) total stack depth s at n
+    pub same : total ≤ 1024 → Indexed xs ss ks n0 n1 n2 n3 total → Doors stack depth total → (m : List ℕ) → way (row-at (with-marks m)) r ≡ walked (with-marks m) total stack depth s at n
     pub time : r .time ≤ total
     pub next : r .number ≡ 0 → r .next ≡ after-strings s n at
     pub below : r .next ≤ at + 256 * n
@@ -207,7 +207,7 @@ module _ (ks vs ss n0 n1 n2 n3 os ts us hs ls : List ℕ) (total : ℕ) (stack :
     pub below : p ≤ at + 256 * i
     pub early : time ≤ total
     pub after : after-strings s n at ≡ after-strings s (n - i) p
-    pub same : total ≤ 1024 → Indexed hs ls ss ks n0 n1 n2 n3 total → Doors stack depth total → (m : List ℕ) → On-way (with-marks m) total stack depth s at n i p scope time led
+    pub same : total ≤ 1024 → Indexed xs ss ks n0 n1 n2 n3 total → Doors stack depth total → (m : List ℕ) → On-way (with-marks m) total stack depth s at n i p scope time led
 
   pub walking-start : Walking 0 at 0 total true
   walking-start =
@@ -224,7 +224,7 @@ module _ (ks vs ss n0 n1 n2 n3 os ts us hs ls : List ℕ) (total : ℕ) (stack :
     number-first : {k : ℕ} → 0 < k → {y : Type 0} → k ≡ 0 → y
     number-first l z = absurd (omega arith)
 
-    pub walking-missing : (r : Spot) → r ≡ spot-in hs ls ss ks n0 n1 n2 n3 scope time 3 x → r ≡ Nothing → Arrived (wayed 41 0 0 0)
+    pub walking-missing : (r : Spot) → r ≡ spot-in xs ss ks n0 n1 n2 n3 scope time 3 x → r ≡ Nothing → Arrived (wayed 41 0 0 0)
     walking-missing r f z =
         record {
           same = λ c ix d m. no-module (with-marks m) total stack depth s at n (w .same c ix d m) h r (f ∙ rw q (spot-first ix c scope time 3 (packed (string s p)) (w .early))) z;
@@ -233,8 +233,8 @@ module _ (ks vs ss n0 n1 n2 n3 os ts us hs ls : List ℕ) (total : ℕ) (stack :
           below = omega arith;
         }
 
-    module _ (e : ℕ) (f : At e ≡ spot-in hs ls ss ks n0 n1 n2 n3 scope time 3 x) where
-      f' : total ≤ 1024 → Indexed hs ls ss ks n0 n1 n2 n3 total → At e ≡ first-in (looked ss ks n0 n1 n2 n3 scope 3 (packed (string s p))) scope time
+    module _ (e : ℕ) (f : At e ≡ spot-in xs ss ks n0 n1 n2 n3 scope time 3 x) where
+      f' : total ≤ 1024 → Indexed xs ss ks n0 n1 n2 n3 total → At e ≡ first-in (looked ss ks n0 n1 n2 n3 scope 3 (packed (string s p))) scope time
       f' c ix = f ∙ rw q (spot-first ix c scope time 3 (packed (string s p)) (w .early))
 
       pub walking-private : (b : Bool) → b ≡ barred (getD vs e 0) led → b ≡ true → Arrived (wayed 42 0 0 0)
@@ -252,7 +252,7 @@ module _ (ks vs ss n0 n1 n2 n3 os ts us hs ls : List ℕ) (total : ℕ) (stack :
           both false true y = let o : _≡_ {A = ℕ} 0 1 = cc in absurd (omega arith)
           both false false y = (refl, refl)
 
-          go : not (eqb (getD vs e 0) 1) && not led ≡ true → total ≤ 1024 → Indexed hs ls ss ks n0 n1 n2 n3 total → Doors stack depth total → (m : List ℕ) → way (row-at (with-marks m)) (wayed 42 0 0 0) ≡ walked (with-marks m) total stack depth s at n
+          go : not (eqb (getD vs e 0) 1) && not led ≡ true → total ≤ 1024 → Indexed xs ss ks n0 n1 n2 n3 total → Doors stack depth total → (m : List ℕ) → way (row-at (with-marks m)) (wayed 42 0 0 0) ≡ walked (with-marks m) total stack depth s at n
           go y t ix d m =
               let c = both (eqb (getD vs e 0) 1) led y in
               private-module (with-marks m) total stack depth s at n (w .same t ix d m) h e (f' t ix) (borrow.Author.Tests.eqb-false (getD vs e 0) 1 (c .0)) (c .1)

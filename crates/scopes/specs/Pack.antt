@@ -11,14 +11,14 @@ use Rattle.names.specs.declared.Name.{Name}
 use Rattle.scopes.specs.Views.{View, pushed-under, pushed, opened-last}
 use Rattle.scopes.specs.Views.{Sized as ViewSized}
 use Rattle.scopes.specs.Views as views
-use Rattle.scopes.specs.Index.{bucket, bucket-below, place-in, spot-in, within}
+use Rattle.scopes.specs.Index.{free-slot, place-in, spot-in, within}
 use Rattle.scopes.specs.Nav.{current-of}
 use Rattle.scopes.specs.Staging.{is-at}
 use Rattle.scopes.specs.declared.look.Spot.{Spot}
 use Rattle.scopes.specs.Rows.{isRow, Arrays, site}
 use Rattle.scopes.specs.declared.look.Place.{Place as Site}
 use Rattle.scopes.specs.Batches.{slot}
-use Rattle.scopes.specs.Trees.{part, doors-of, view, cleared, Sized}
+use Rattle.scopes.specs.Trees.{part, index-of, doors-of, view, cleared, Sized}
 use Rattle.scopes.specs.declared.Tree.{Tree}
 use Rattle.scopes.specs.declared.lent.Entry.{Entry}
 
@@ -87,6 +87,33 @@ pub part-clear : (p n : ℕ) → p + 1024 ≤ n → part p (replicate n zero) �
 unfolding part
 part-clear = window-clear 1024
 
+-- the index
+pub index-get : (xs : List ℕ) (i : ℕ) → getD (index-of xs) i 0 ≡ getD xs (4096 + i) 0
+unfolding index-of
+index-get xs i = getD-drop 4096 xs i 0
+
+pub index-same : (xs : List ℕ) (i v : ℕ) → index-of (set xs (4096 + i) v) ≡ set (index-of xs) i v
+unfolding index-of
+index-same xs i v = drop-set-add 4096 xs i v
+
+pub index-before : (xs : List ℕ) (j v : ℕ) → j < 4096 → index-of (set xs j v) ≡ index-of xs
+unfolding index-of
+index-before xs j v h = drop-set-lt 4096 xs j v h
+
+pub index-length : (xs : List ℕ) → length xs ≡ 7168 → length (index-of xs) ≡ 3072
+unfolding index-of
+index-length xs h = rw length-drop (omega arith)
+
+pub index-clear : index-of (replicate 7168 zero) ≡ replicate 3072 zero
+unfolding index-of
+index-clear = drop-clear 4096 7168 (omega arith)
+
+-- nothing in what is cleared
+pub clear-get : (n i : ℕ) → getD (replicate n zero) i 0 ≡ 0
+clear-get zero i = refl
+clear-get (suc n) zero = refl
+clear-get (suc n) (suc i) = clear-get n i
+
 -- a part of what is staged
 pub slot-get : (p : ℕ) (xs : List ℕ) (i : ℕ) → i < 96 → getD (slot p xs) i 0 ≡ getD xs (p + i) 0
 unfolding slot
@@ -110,42 +137,35 @@ slot-clear = window-clear 96
 
 -- THE PUSH
 abbrev pub cells-of : List ℕ → ℕ → ℕ → ℕ → ℕ → ℕ → ℕ → List ℕ
-cells-of c at b k o a u =
-    set (set (set (set (set (set c at k) (1024 + at) o) (2048 + at) a) (3072 + at) u) (4096 + at) (getD c (5120 + b) 0)) (5120 + b) (at + 1)
+cells-of c at b k o a u = set (set (set (set (set c at k) (1024 + at) o) (2048 + at) a) (3072 + at) u) (4096 + b) (at + 1)
 
-module _ (c : List ℕ) (at b k o a u : ℕ) (h : at < 1024) (l : b < 1024) where
+module _ (c : List ℕ) (at b k o a u : ℕ) (h : at < 1024) where
   kinds-set : part 0 (cells-of c at b k o a u) ≡ set (part 0 c) at k
   kinds-set =
-      part-after 0 _ (5120 + b) _ (omega arith) ∙ part-after 0 _ (4096 + at) _ (omega arith) ∙ part-after 0 _ (3072 + at) _ (omega arith) ∙ part-after 0 _ (2048 + at) _ (omega arith) ∙ part-after 0 _ (1024 + at) _ (omega arith)
+      part-after 0 _ (4096 + b) _ (omega arith) ∙ part-after 0 _ (3072 + at) _ (omega arith) ∙ part-after 0 _ (2048 + at) _ (omega arith) ∙ part-after 0 _ (1024 + at) _ (omega arith)
       ∙ ap (λ (i : ℕ). part 0 (set c i k)) (sym (zero-add at)) ∙ part-same 0 c at k h
 
   origins-set : part 1024 (cells-of c at b k o a u) ≡ set (part 1024 c) at o
   origins-set =
-      part-after 1024 _ (5120 + b) _ (omega arith) ∙ part-after 1024 _ (4096 + at) _ (omega arith) ∙ part-after 1024 _ (3072 + at) _ (omega arith) ∙ part-after 1024 _ (2048 + at) _ (omega arith)
+      part-after 1024 _ (4096 + b) _ (omega arith) ∙ part-after 1024 _ (3072 + at) _ (omega arith) ∙ part-after 1024 _ (2048 + at) _ (omega arith)
       ∙ part-same 1024 _ at o h ∙ ap (λ (x : List ℕ). set x at o) (part-before 1024 c at k (omega arith))
 
   targets-set : part 2048 (cells-of c at b k o a u) ≡ set (part 2048 c) at a
   targets-set =
-      part-after 2048 _ (5120 + b) _ (omega arith) ∙ part-after 2048 _ (4096 + at) _ (omega arith) ∙ part-after 2048 _ (3072 + at) _ (omega arith)
+      part-after 2048 _ (4096 + b) _ (omega arith) ∙ part-after 2048 _ (3072 + at) _ (omega arith)
       ∙ part-same 2048 _ at a h ∙ ap (λ (x : List ℕ). set x at a) (part-before 2048 _ (1024 + at) o (omega arith) ∙ part-before 2048 c at k (omega arith))
 
   times-set : part 3072 (cells-of c at b k o a u) ≡ set (part 3072 c) at u
   times-set =
-      part-after 3072 _ (5120 + b) _ (omega arith) ∙ part-after 3072 _ (4096 + at) _ (omega arith)
+      part-after 3072 _ (4096 + b) _ (omega arith)
       ∙ part-same 3072 _ at u h ∙ ap (λ (x : List ℕ). set x at u) (part-before 3072 _ (2048 + at) a (omega arith) ∙ part-before 3072 _ (1024 + at) o (omega arith) ∙ part-before 3072 c at k (omega arith))
 
-  links-set : part 4096 (cells-of c at b k o a u) ≡ set (part 4096 c) at (getD (part 5120 c) b 0)
-  links-set =
-      part-after 4096 _ (5120 + b) _ (omega arith) ∙ part-same 4096 _ at (getD c (5120 + b) 0) h
-      ∙ ap (λ (x : List ℕ). set x at (getD c (5120 + b) 0)) (part-before 4096 _ (3072 + at) u (omega arith) ∙ part-before 4096 _ (2048 + at) a (omega arith) ∙ part-before 4096 _ (1024 + at) o (omega arith) ∙ part-before 4096 c at k (omega arith))
-      ∙ ap (λ (x : ℕ). set (part 4096 c) at x) (sym (part-get 5120 c b l))
+  index-set : index-of (cells-of c at b k o a u) ≡ set (index-of c) b (at + 1)
+  index-set =
+      index-same _ b (at + 1)
+      ∙ ap (λ (x : List ℕ). set x b (at + 1)) (index-before _ (3072 + at) u (omega arith) ∙ index-before _ (2048 + at) a (omega arith) ∙ index-before _ (1024 + at) o (omega arith) ∙ index-before c at k (omega arith))
 
-  heads-set : part 5120 (cells-of c at b k o a u) ≡ set (part 5120 c) b (at + 1)
-  heads-set =
-      part-same 5120 _ b (at + 1) l
-      ∙ ap (λ (x : List ℕ). set x b (at + 1)) (part-before 5120 _ (4096 + at) _ (omega arith) ∙ part-before 5120 _ (3072 + at) u (omega arith) ∙ part-before 5120 _ (2048 + at) a (omega arith) ∙ part-before 5120 _ (1024 + at) o (omega arith) ∙ part-before 5120 c at k (omega arith))
-
--- an entry at a place, under a hash
+-- an entry at a place, in a slot
 abbrev pub put-at : ℕ → ℕ → Tree → Entry → Tree
 put-at at b t e =
     record {
@@ -164,7 +184,7 @@ abbrev pub added-under : ℕ → Tree → Entry → Tree
 added-under b t e = put-at (getD (t .opened) 9 0) b t e
 
 abbrev pub pushed-in : ℕ → Tree → Entry → Tree
-pushed-in at t e = put-at at (bucket (e .scope) (e .kind) (e .name)) t e
+pushed-in at t e = put-at at (free-slot (index-of (t .cells)) (e .scope) (e .kind) (e .name)) t e
 
 -- a module opened: c is its scope, d the depth
 abbrev pub opened-at : ℕ → ℕ → Tree → Tree
@@ -178,18 +198,18 @@ opened-in c t = opened-at c (getD (t .opened) 10 0) t
 unfoldable pub added : ℕ → Tree → Entry → Tree
 added at t e = cond (e .opens) (opened-at (at + 1) (getD (t .opened) 10 0) (pushed-in at t e)) (pushed-in at t e)
 
-pub added-shut : (t : Tree) (e : Entry) (at b : ℕ) → b ≡ bucket (e .scope) (e .kind) (e .name) → e .opens ≡ false → put-at at b t e ≡ added at t e
+pub added-shut : (t : Tree) (e : Entry) (at b : ℕ) → b ≡ free-slot (index-of (t .cells)) (e .scope) (e .kind) (e .name) → e .opens ≡ false → put-at at b t e ≡ added at t e
 unfolding added
 added-shut t e at b q o = rw (o, q)
 
-pub added-open : (t : Tree) (e : Entry) (at b d : ℕ) → b ≡ bucket (e .scope) (e .kind) (e .name) → d ≡ getD (t .opened) 10 0 → e .opens ≡ true → opened-at (at + 1) d (put-at at b t e) ≡ added at t e
+pub added-open : (t : Tree) (e : Entry) (at b d : ℕ) → b ≡ free-slot (index-of (t .cells)) (e .scope) (e .kind) (e .name) → d ≡ getD (t .opened) 10 0 → e .opens ≡ true → opened-at (at + 1) d (put-at at b t e) ≡ added at t e
 unfolding added
 added-open t e at b d q w o = rw (o, w, q)
 
 pub view-sized : (t : Tree) → Sized t → ViewSized (view t)
 unfolding doors-of
 view-sized t z =
-    record { kinds = part-length 0 (t .cells) (omega (arith, z .cells)); visible = z .visible; scopes = z .scopes; marks = z .marks; n0 = z .n0; n1 = z .n1; n2 = z .n2; n3 = z .n3; origins = part-length 1024 (t .cells) (omega (arith, z .cells)); targets = part-length 2048 (t .cells) (omega (arith, z .cells)); times = part-length 3072 (t .cells) (omega (arith, z .cells)); heads = part-length 5120 (t .cells) (omega (arith, z .cells)); links = part-length 4096 (t .cells) (omega (arith, z .cells)); stack = length-take-le 9 (t .opened) (omega (arith, z .opened)) }
+    record { kinds = part-length 0 (t .cells) (omega (arith, z .cells)); visible = z .visible; scopes = z .scopes; marks = z .marks; n0 = z .n0; n1 = z .n1; n2 = z .n2; n3 = z .n3; origins = part-length 1024 (t .cells) (omega (arith, z .cells)); targets = part-length 2048 (t .cells) (omega (arith, z .cells)); times = part-length 3072 (t .cells) (omega (arith, z .cells)); index = index-length (t .cells) (z .cells); stack = length-take-le 9 (t .opened) (omega (arith, z .opened)) }
 
 pub push-sized : (at b : ℕ) (t : Tree) (e : Entry) → Sized t → Sized (put-at at b t e)
 push-sized at b t e z =
@@ -207,20 +227,19 @@ added-sized at t e z = go (e .opens)
     go false = push-sized at _ t e z
 
 -- THE LAWS: the writer in the view
-pub push-view : (b : ℕ) (t : Tree) (e : Entry) → Sized t → getD (t .opened) 9 0 < 1024 → b < 1024
+pub push-view : (b : ℕ) (t : Tree) (e : Entry) → Sized t → getD (t .opened) 9 0 < 1024
     → view (added-under b t e) ≡ pushed-under b (view t) (e .kind) (e .visible) (e .scope) (e .mark) (e .name) (e .origin) (e .target) (e .moment)
 unfolding doors-of
-push-view b t e z h l =
+push-view b t e z h =
     let at = getD (t .opened) 9 0 in
     let count : getD (set (t .opened) 9 (at + 1)) 9 0 ≡ at + 1 = getD-set-same (t .opened) 9 (at + 1) 0 (omega (arith, z .opened)) in
     let depth : getD (set (t .opened) 9 (at + 1)) 10 0 ≡ getD (t .opened) 10 0 = getD-set-other (t .opened) 9 10 (at + 1) 0 (λ q. omega arith) in
     let stack : take 9 (set (t .opened) 9 (at + 1)) ≡ take 9 (t .opened) = take-set-le 9 (t .opened) 9 (at + 1) (omega arith) in
-    let ks = kinds-set (t .cells) at b (e .kind) (e .origin) (e .target) (e .moment) h l in
-    let os = origins-set (t .cells) at b (e .kind) (e .origin) (e .target) (e .moment) h l in
-    let ts = targets-set (t .cells) at b (e .kind) (e .origin) (e .target) (e .moment) h l in
-    let us = times-set (t .cells) at b (e .kind) (e .origin) (e .target) (e .moment) h l in
-    let ls = links-set (t .cells) at b (e .kind) (e .origin) (e .target) (e .moment) h l in
-    let hs = heads-set (t .cells) at b (e .kind) (e .origin) (e .target) (e .moment) h l in
+    let ks = kinds-set (t .cells) at b (e .kind) (e .origin) (e .target) (e .moment) h in
+    let os = origins-set (t .cells) at b (e .kind) (e .origin) (e .target) (e .moment) h in
+    let ts = targets-set (t .cells) at b (e .kind) (e .origin) (e .target) (e .moment) h in
+    let us = times-set (t .cells) at b (e .kind) (e .origin) (e .target) (e .moment) h in
+    let xs = index-set (t .cells) at b (e .kind) (e .origin) (e .target) (e .moment) h in
     λ i. record {
       count = count i;
       kinds = ks i;
@@ -234,8 +253,7 @@ push-view b t e z h l =
       origins = os i;
       targets = ts i;
       times = us i;
-      heads = hs i;
-      links = ls i;
+      index = xs i;
       depth = depth i;
       stack = stack i;
     }
@@ -250,14 +268,14 @@ open-view c t z w h =
     let depth : getD (set (set (t .opened) d c) 10 (d + 1)) 10 0 ≡ d + 1 = getD-set-same (set (t .opened) d c) 10 (d + 1) 0 (omega arith) in
     let stack : take 9 (set (set (t .opened) d c) 10 (d + 1)) ≡ set (take 9 (t .opened)) d (getD (t .opened) 9 0) =
     take-set-le 9 (set (t .opened) d c) 10 (d + 1) (omega arith) ∙ take-set-lt 9 (t .opened) d c (omega arith) ∙ ap (λ (x : ℕ). set (take 9 (t .opened)) d x) w in
-    λ i. record { count = count i; kinds = part 0 (t .cells); visible = t .visible; scopes = t .scopes; marks = t .marks; n0 = t .n0; n1 = t .n1; n2 = t .n2; n3 = t .n3; origins = part 1024 (t .cells); targets = part 2048 (t .cells); times = part 3072 (t .cells); heads = part 5120 (t .cells); links = part 4096 (t .cells); depth = depth i; stack = stack i }
+    λ i. record { count = count i; kinds = part 0 (t .cells); visible = t .visible; scopes = t .scopes; marks = t .marks; n0 = t .n0; n1 = t .n1; n2 = t .n2; n3 = t .n3; origins = part 1024 (t .cells); targets = part 2048 (t .cells); times = part 3072 (t .cells); index = index-of (t .cells); depth = depth i; stack = stack i }
 
 abbrev viewed : View → Entry → View
 viewed v e = pushed v (e .kind) (e .visible) (e .scope) (e .mark) (e .name) (e .origin) (e .target) (e .moment)
 
 pub shut-view : (at : ℕ) (t : Tree) (e : Entry) → at ≡ getD (t .opened) 9 0 → Sized t → at < 1024 → e .opens ≡ false → view (added at t e) ≡ viewed (view t) e
 unfolding added
-shut-view at t e p z h o = rw (o, p) (push-view (bucket (e .scope) (e .kind) (e .name)) t e z (omega (arith, p)) (bucket-below (e .scope) (e .kind) (e .name)))
+shut-view at t e p z h o = rw (o, p) (push-view (free-slot (index-of (t .cells)) (e .scope) (e .kind) (e .name)) t e z (omega (arith, p)))
 
 pub opened-view : (c : ℕ) (t : Tree) (e : Entry) → c ≡ getD (t .opened) 9 0 → Sized t → c < 1024 → getD (t .opened) 10 0 < 9 → e .opens ≡ true → view (added c t e) ≡ opened-last (viewed (view t) e)
 unfolding added
@@ -268,19 +286,18 @@ opened-view c t e p z h d o =
     rw (o, p)
     (ap (λ (d : ℕ). view (opened-at (at + 1) d (pushed-in at t e))) (sym depth)
     ∙ open-view (at + 1) (pushed-in at t e) (push-sized at _ t e z) (sym count) (omega (arith, depth))
-    ∙ ap opened-last (push-view (bucket (e .scope) (e .kind) (e .name)) t e z (omega (arith, p)) (bucket-below (e .scope) (e .kind) (e .name))))
+    ∙ ap opened-last (push-view (free-slot (index-of (t .cells)) (e .scope) (e .kind) (e .name)) t e z (omega (arith, p))))
 
 pub cleared-view : view cleared ≡ views.cleared
 unfolding doors-of
 cleared-view =
-    let p : (p : ℕ) → p + 1024 ≤ 6144 → part p (replicate 6144 zero) ≡ replicate 1024 zero = λ p h. part-clear p 6144 h in
+    let p : (p : ℕ) → p + 1024 ≤ 7168 → part p (replicate 7168 zero) ≡ replicate 1024 zero = λ p h. part-clear p 7168 h in
     let k = p 0 (omega arith) in
     let o = p 1024 (omega arith) in
     let t = p 2048 (omega arith) in
     let u = p 3072 (omega arith) in
-    let l = p 4096 (omega arith) in
-    let h = p 5120 (omega arith) in
-    λ i. record { count = 0; kinds = k i; visible = replicate 1024 0; scopes = replicate 1024 0; marks = replicate 1024 0; n0 = replicate 1024 0; n1 = replicate 1024 0; n2 = replicate 1024 0; n3 = replicate 1024 0; origins = o i; targets = t i; times = u i; heads = h i; links = l i; depth = 0; stack = replicate 9 0 }
+    let x = index-clear in
+    λ i. record { count = 0; kinds = k i; visible = replicate 1024 0; scopes = replicate 1024 0; marks = replicate 1024 0; n0 = replicate 1024 0; n1 = replicate 1024 0; n2 = replicate 1024 0; n3 = replicate 1024 0; origins = o i; targets = t i; times = u i; index = x i; depth = 0; stack = replicate 9 0 }
 
 -- what was read by way of a cell
 pub via-place : {x y e l : ℕ} → x ≡ y → (e ≡ place-in x l) × (e ≤ l) → (e ≡ place-in y l) × (e ≤ l)
@@ -289,11 +306,11 @@ via-place {x} {y} {e} {l} q p = (p .0 ∙ ap (λ (z : ℕ). place-in z l) q, p .
 pub via-sought : (s t i es k : ℕ) (en n : Name) {x y : ℕ} {f : Bool} → x ≡ y → f ≡ (within s t i && isRow es x en s k n) → f ≡ (within s t i && isRow es y en s k n)
 via-sought s t i es k en n q p = p ∙ ap (λ (z : ℕ). within s t i && isRow es z en s k n) q
 
-pub via-held : (hs ls ss ks a b c d : List ℕ) (s k : ℕ) (n : Name) {t u : ℕ} {o : Bool} → t ≡ u → o ≡ is-at (spot-in hs ls ss ks a b c d s t k n) → o ≡ is-at (spot-in hs ls ss ks a b c d s u k n)
-via-held hs ls ss ks a b c d s k n q p = p ∙ ap (λ (x : ℕ). is-at (spot-in hs ls ss ks a b c d s x k n)) q
+pub via-held : (xs ss ks a b c d : List ℕ) (s k : ℕ) (n : Name) {t u : ℕ} {o : Bool} → t ≡ u → o ≡ is-at (spot-in xs ss ks a b c d s t k n) → o ≡ is-at (spot-in xs ss ks a b c d s u k n)
+via-held xs ss ks a b c d s k n q p = p ∙ ap (λ (x : ℕ). is-at (spot-in xs ss ks a b c d s x k n)) q
 
-pub via-spot : (hs ls ss ks a b c d : List ℕ) (s k : ℕ) (n : Name) {t u : ℕ} {o : Spot} → t ≡ u → o ≡ spot-in hs ls ss ks a b c d s t k n → o ≡ spot-in hs ls ss ks a b c d s u k n
-via-spot hs ls ss ks a b c d s k n q p = p ∙ ap (λ (x : ℕ). spot-in hs ls ss ks a b c d s x k n) q
+pub via-spot : (xs ss ks a b c d : List ℕ) (s k : ℕ) (n : Name) {t u : ℕ} {o : Spot} → t ≡ u → o ≡ spot-in xs ss ks a b c d s t k n → o ≡ spot-in xs ss ks a b c d s u k n
+via-spot xs ss ks a b c d s k n q p = p ∙ ap (λ (x : ℕ). spot-in xs ss ks a b c d s x k n) q
 
 pub via-current : (a : List ℕ) {d e h : ℕ} → d ≡ e → h ≡ current-of a d → h ≡ current-of a e
 via-current a q p = p ∙ ap (λ (x : ℕ). current-of a x) q
@@ -312,4 +329,4 @@ via-site i t p q r s e = e ∙ (λ j. site i (p j) (q j) (r j) (s j) t)
 -- the arrays of the view, from the lists
 abbrev pub arrays-in : List ℕ → List ℕ → List ℕ → List ℕ → List ℕ → List ℕ → List ℕ → List ℕ → Arrays
 arrays-in c v s m a b d e =
-    record { kinds = part 0 c; visible = v; scopes = s; marks = m; n0 = a; n1 = b; n2 = d; n3 = e; origins = part 1024 c; targets = part 2048 c; times = part 3072 c; heads = part 5120 c; links = part 4096 c }
+    record { kinds = part 0 c; visible = v; scopes = s; marks = m; n0 = a; n1 = b; n2 = d; n3 = e; origins = part 1024 c; targets = part 2048 c; times = part 3072 c; index = index-of c }

@@ -86,12 +86,11 @@ pub record Arrays : Type 0 where
   pub origins : List ℕ
   pub targets : List ℕ
   pub times : List ℕ
-  pub heads : List ℕ
-  pub links : List ℕ
+  pub index : List ℕ
 
-abbrev pub arrays : List ℕ → List ℕ → List ℕ → List ℕ → List ℕ → List ℕ → List ℕ → List ℕ → List ℕ → List ℕ → List ℕ → List ℕ → List ℕ → Arrays
-arrays k v s m a b c d o f t hs ls =
-    record { kinds = k; visible = v; scopes = s; marks = m; n0 = a; n1 = b; n2 = c; n3 = d; origins = o; targets = f; times = t; heads = hs; links = ls }
+abbrev pub arrays : List ℕ → List ℕ → List ℕ → List ℕ → List ℕ → List ℕ → List ℕ → List ℕ → List ℕ → List ℕ → List ℕ → List ℕ → Arrays
+arrays k v s m a b c d o f t xs =
+    record { kinds = k; visible = v; scopes = s; marks = m; n0 = a; n1 = b; n2 = c; n3 = d; origins = o; targets = f; times = t; index = xs }
 
 abbrev pub name-at : List ℕ → List ℕ → List ℕ → List ℕ → ℕ → Name
 name-at a b c d i = record { w0 = getD a i 0; w1 = getD b i 0; w2 = getD c i 0; w3 = getD d i 0 }

@@ -149,7 +149,7 @@ module _ (A : Arrays) (total here scope time : ℕ) (ss : List ℕ) (hh : top ss
   kind-of : (k : ℕ) (n : Name) (e : ℕ) → sought A total here scope time k n ≡ At e → getD (A .kinds) e 0 ≡ k
   unfolding sought isRow
   kind-of k n e q =
-      let f = spot-found (A .heads) (A .links) (A .scopes) (A .kinds) (A .n0) (A .n1) (A .n2) (A .n3) scope time k n e q in
+      let f = spot-found (A .index) (A .scopes) (A .kinds) (A .n0) (A .n1) (A .n2) (A .n3) scope time k n e q in
       eqb-true (getD (A .kinds) e 0) k (part (eqb (getD (A .scopes) e 0) scope) (eqb (getD (A .kinds) e 0) k) _ (f .holds))
     where
       part : (a b c : Bool) → a && (b && c) ≡ true → b ≡ true

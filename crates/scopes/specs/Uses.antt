@@ -127,7 +127,7 @@ module _ (t : View) (s : List ℕ) (v : Bool) where
       use-no-crate z = refused-meets t (resolves-use s v) 40 (λ g. stepped ∙ rw (led, z))
 
       module _ (bz : b ≡ true) (a : ℕ) (aq : (a ≡ after-string s 1) × (a ≤ 1 + 256)) (w : Way)
-          (wq : Arrived (t .kinds) (t .visible) (t .scopes) (t .n0) (t .n1) (t .n2) (t .n3) (t .origins) (t .targets) (t .times) (t .heads) (t .links) (t .count) (t .stack) (t .depth) s a (n - 1) w) where
+          (wq : Arrived (t .kinds) (t .visible) (t .scopes) (t .n0) (t .n1) (t .n2) (t .n3) (t .origins) (t .targets) (t .times) (t .index) (t .count) (t .stack) (t .depth) s a (n - 1) w) where
         walk : Good t → nav flat (shared (flat .names (flat-of t)) path) 0 path (flat .root (flat-of t)) ≡ way (rows t) w
         walk g =
             let p : pred (getD s 0 0) ≡ n - 1 = omega (arith, nq .0) in

@@ -2,7 +2,7 @@
 use Prim.Native.Nat.{ℕ, zero, suc, _+_, _≤_, _<_}
 use native.Mathlib.Omega.{arith}
 use native.Mathlib.Numerals.{add-one}
-use mathlib.Core.Path.{_≡_, refl, ap, sym, _∙_}
+use mathlib.Core.Path.{_≡_, refl, ap, sym, subst, _∙_}
 use mathlib.Core.Bool.{Bool, true, false, cond}
 use mathlib.Core.List.{List, [], _∷_, _++_, append-assoc, append-nil}
 use lib.Dec.{eqb, ltb, leb}
@@ -20,12 +20,11 @@ use Rattle.scopes.specs.Flat.{Entry, Flat, flat}
 use Rattle.scopes.specs.Form.{Request, call-of}
 use Rattle.scopes.specs.Note.{accepted}
 use Rattle.scopes.specs.Rows.{tab, tab-agree, Arrays, row, row-at, name-at}
-use Rattle.scopes.specs.Index.{bucket, bucket-below, look-up, key-at, last-of, last-agree, IndexOf}
+use Rattle.scopes.specs.Index.{bucket, bucket-below, mix, turn, turn-below, reach, free-slot, look-up, start-at, way-at, Walked, walked-agree, walked-more, IndexOf}
 use Rattle.scopes.specs.Nav.{stack-of, current-of, Doors}
 use Rattle.scopes.specs.Staging.{Staged, is-at}
 
--- THE VIEW of a tree: entries in the order made, the index by a hash of scope, kind and name (for each hash its last entry, for each
--- entry the one before it of the same hash, plus one; 0 for none), and the scopes of the open modules, outermost first
+-- THE VIEW of a tree: entries in the order made, the index (specs/Index.antt), and the scopes of the open modules, outermost first
 pub record View : Type 0 where
   pub count : ℕ
   -- 1 type, 2 function, 3 module
@@ -43,8 +42,7 @@ pub record View : Type 0 where
   -- what is inside a copy: that scope, among the first so many entries
   pub targets : List ℕ
   pub times : List ℕ
-  pub heads : List ℕ
-  pub links : List ℕ
+  pub index : List ℕ
   pub depth : ℕ
   pub stack : List ℕ
 
@@ -56,7 +54,7 @@ pub record ViewOutcome : Type 0 where
 -- 1,024 cleared places, no module open
 abbrev pub cleared : View
 cleared =
-    record { count = 0; kinds = replicate 1024 0; visible = replicate 1024 0; scopes = replicate 1024 0; marks = replicate 1024 0; n0 = replicate 1024 0; n1 = replicate 1024 0; n2 = replicate 1024 0; n3 = replicate 1024 0; origins = replicate 1024 0; targets = replicate 1024 0; times = replicate 1024 0; heads = replicate 1024 0; links = replicate 1024 0; depth = 0; stack = replicate 9 0 }
+    record { count = 0; kinds = replicate 1024 0; visible = replicate 1024 0; scopes = replicate 1024 0; marks = replicate 1024 0; n0 = replicate 1024 0; n1 = replicate 1024 0; n2 = replicate 1024 0; n3 = replicate 1024 0; origins = replicate 1024 0; targets = replicate 1024 0; times = replicate 1024 0; index = replicate 3072 0; depth = 0; stack = replicate 9 0 }
 
 abbrev pub bit-of : Bool → ℕ
 bit-of true = 1
@@ -71,7 +69,7 @@ told (Refused n) = refused n
 -- THE FLAT TREE OF A RECORD
 abbrev pub arrays-of : View → Arrays
 arrays-of t =
-    record { kinds = t .kinds; visible = t .visible; scopes = t .scopes; marks = t .marks; n0 = t .n0; n1 = t .n1; n2 = t .n2; n3 = t .n3; origins = t .origins; targets = t .targets; times = t .times; heads = t .heads; links = t .links }
+    record { kinds = t .kinds; visible = t .visible; scopes = t .scopes; marks = t .marks; n0 = t .n0; n1 = t .n1; n2 = t .n2; n3 = t .n3; origins = t .origins; targets = t .targets; times = t .times; index = t .index }
 
 abbrev pub rows : View → ℕ → Entry
 rows t = row-at (arrays-of t)
@@ -102,16 +100,11 @@ pub record Sized (t : View) : Type 0 where
   pub origins : length (t .origins) ≡ 1024
   pub targets : length (t .targets) ≡ 1024
   pub times : length (t .times) ≡ 1024
-  pub heads : length (t .heads) ≡ 1024
-  pub links : length (t .links) ≡ 1024
+  pub index : length (t .index) ≡ 3072
   pub stack : length (t .stack) ≡ 9
 
-last-more : (key : ℕ → ℕ) (b n : ℕ) → last-of key b (suc n) ≡ cond (eqb (key n) b) (suc n) (last-of key b n)
-unfolding last-of
-last-more key b n = refl
-
 -- AN ENTRY MORE
--- under the hash b
+-- in the slot b
 abbrev pub pushed-under : ℕ → View → ℕ → ℕ → ℕ → ℕ → Name → ℕ → ℕ → ℕ → View
 pushed-under b t k v s m n o a u =
     record {
@@ -127,15 +120,14 @@ pushed-under b t k v s m n o a u =
       origins = set (t .origins) (t .count) o;
       targets = set (t .targets) (t .count) a;
       times = set (t .times) (t .count) u;
-      heads = set (t .heads) b (t .count + 1);
-      links = set (t .links) (t .count) (getD (t .heads) b 0);
+      index = set (t .index) b (t .count + 1);
       depth = t .depth;
       stack = t .stack;
     }
 
 -- kind, visibility, scope, mark, name, origin, from scope, from time
 abbrev pub pushed : View → ℕ → ℕ → ℕ → ℕ → Name → ℕ → ℕ → ℕ → View
-pushed t k v s m n o a u = pushed-under (bucket s k n) t k v s m n o a u
+pushed t k v s m n o a u = pushed-under (free-slot (t .index) s k n) t k v s m n o a u
 
 same-set : (xs : List ℕ) (i a : ℕ) → length xs ≡ 1024 → i < 1024 → getD (set xs i a) i 0 ≡ a
 same-set xs i a z l = getD-set-same xs i a 0 (rw z l)
@@ -168,57 +160,52 @@ module _ (t : View) (k v s m : ℕ) (n : Name) (o a u : ℕ) where
         origins = simp length-set (z .origins);
         targets = simp length-set (z .targets);
         times = simp length-set (z .times);
-        heads = simp length-set (z .heads);
-        links = simp length-set (z .links);
+        index = simp length-set (z .index);
         stack = z .stack;
       }
 
   -- the index holds the entry too
   pub push-indexed : Sized t → t .count < 1024 → IndexOf (arrays-of t) (t .count) → IndexOf (arrays-of (pushed t k v s m n o a u)) (t .count + 1)
-  push-indexed z l w = record { heads = heads; links = links }
+  unfolding free-slot
+  push-indexed z l w =
+      let r = pushed t k v s m n o a u in
+      let w′ = walked-agree (t .index) start start′ way way′ (t .count) kept-start kept-way (w .walked) in
+      let e : start′ (t .count) ≡ bucket s k n = last-start in
+      let f : way′ (t .count) ≡ turn s k n = last-way in
+      let g = walked-more (t .index) start′ way′ (t .count) (z .index) l (rw e (bucket-below s k n)) (rw f (turn-below (mix s k n) s k n)) w′ in
+      let h : Walked (set (t .index) (reach (t .index) (turn s k n) 1024 0 (bucket s k n)) (suc (t .count))) start′ way′ (suc (t .count)) =
+      subst (λ (x : ℕ). Walked (set (t .index) x (suc (t .count))) start′ way′ (suc (t .count))) (λ j. reach (t .index) (f j) 1024 0 (e j)) g in
+      record { walked = subst (λ (x : ℕ). Walked (set (t .index) (reach (t .index) (turn s k n) 1024 0 (bucket s k n)) x) start′ way′ x) (sym (add-one (t .count))) h }
     where
-      before : ℕ → ℕ
-      before = key-at (t .scopes) (t .kinds) (t .n0) (t .n1) (t .n2) (t .n3)
+      start : ℕ → ℕ
+      start = start-at (t .scopes) (t .kinds) (t .n0) (t .n1) (t .n2) (t .n3)
 
-      after : ℕ → ℕ
-      after i = let r = pushed t k v s m n o a u in key-at (r .scopes) (r .kinds) (r .n0) (r .n1) (r .n2) (r .n3) i
+      way : ℕ → ℕ → ℕ
+      way = way-at (t .scopes) (t .kinds) (t .n0) (t .n1) (t .n2) (t .n3)
 
-      kept : (i : ℕ) → i < t .count → after i ≡ before i
-      kept i h =
+      start′ : ℕ → ℕ
+      start′ i = let r = pushed t k v s m n o a u in start-at (r .scopes) (r .kinds) (r .n0) (r .n1) (r .n2) (r .n3) i
+
+      way′ : ℕ → ℕ → ℕ
+      way′ i = let r = pushed t k v s m n o a u in way-at (r .scopes) (r .kinds) (r .n0) (r .n1) (r .n2) (r .n3) i
+
+      kept-start : (i : ℕ) → i < t .count → start′ i ≡ start i
+      kept-start i h =
           let ne : i ≡ t .count → ⊥ = λ e. omega arith in
           simp getD-set-other
 
-      last : after (t .count) ≡ bucket s k n
-      last =
+      kept-way : (i : ℕ) → i < t .count → way′ i ≡ way i
+      kept-way i h =
+          let ne : i ≡ t .count → ⊥ = λ e. omega arith in
+          simp getD-set-other
+
+      last-start : start′ (t .count) ≡ bucket s k n
+      last-start =
           simp (same-set (t .kinds) (t .count) k (z .kinds) l, same-set (t .scopes) (t .count) s (z .scopes) l, same-set (t .n0) (t .count) (n .w0) (z .n0) l, same-set (t .n1) (t .count) (n .w1) (z .n1) l, same-set (t .n2) (t .count) (n .w2) (z .n2) l, same-set (t .n3) (t .count) (n .w3) (z .n3) l)
 
-      agree : (b i : ℕ) → i ≤ t .count → last-of after b i ≡ last-of before b i
-      agree b i h = last-agree after before b i (λ j y. kept j (omega arith))
-
-      heads : (h : ℕ) → h < 1024 → getD (set (t .heads) (bucket s k n) (t .count + 1)) h 0 ≡ last-of after h (t .count + 1)
-      heads h y = rw (add-one, head-step) (go (eqb (bucket s k n) h) refl)
-        where
-          head-step : last-of after h (suc (t .count)) ≡ cond (eqb (after (t .count)) h) (suc (t .count)) (last-of after h (t .count))
-          head-step = last-more after h (t .count)
-
-          go : (u : Bool) → eqb (bucket s k n) h ≡ u → getD (set (t .heads) (bucket s k n) (suc (t .count))) h 0 ≡ cond (eqb (after (t .count)) h) (suc (t .count)) (last-of after h (t .count))
-          go true e =
-              let q = borrow.Author.Tests.eqb-true (bucket s k n) h e in
-              rw (last, e, ← q) (same-set (t .heads) (bucket s k n) (suc (t .count)) (z .heads) (bucket-below s k n))
-          go false e =
-              let ne : h ≡ bucket s k n → ⊥ = λ q. borrow.Author.Tests.eqb-false (bucket s k n) h e (sym q) in
-              rw (last, e) (getD-set-other (t .heads) (bucket s k n) h (suc (t .count)) 0 ne ∙ w .heads h y ∙ sym (agree h (t .count) (omega arith)))
-
-      links : (i : ℕ) → i < t .count + 1 → getD (set (t .links) (t .count) (getD (t .heads) (bucket s k n) 0)) i 0 ≡ last-of after (after i) i
-      links i y = go (native.Mathlib.Decide.decLt i (t .count))
-        where
-          go : Dec (i < t .count) → getD (set (t .links) (t .count) (getD (t .heads) (bucket s k n) 0)) i 0 ≡ last-of after (after i) i
-          go (yes b) =
-              let ne : i ≡ t .count → ⊥ = λ e. omega arith in
-              getD-set-other (t .links) (t .count) i (getD (t .heads) (bucket s k n) 0) 0 ne ∙ w .links i b ∙ ap (λ (h : ℕ). last-of before h i) (sym (kept i b)) ∙ sym (agree (after i) i (omega arith))
-          go (no b) =
-              let e : i ≡ t .count = omega arith in
-              rw (e, last) (same-set (t .links) (t .count) (getD (t .heads) (bucket s k n) 0) (z .links) l ∙ w .heads (bucket s k n) (bucket-below s k n) ∙ sym (agree (bucket s k n) (t .count) (omega arith)))
+      last-way : way′ (t .count) ≡ turn s k n
+      last-way =
+          simp (same-set (t .kinds) (t .count) k (z .kinds) l, same-set (t .scopes) (t .count) s (z .scopes) l, same-set (t .n0) (t .count) (n .w0) (z .n0) l, same-set (t .n1) (t .count) (n .w1) (z .n1) l, same-set (t .n2) (t .count) (n .w2) (z .n2) l, same-set (t .n3) (t .count) (n .w3) (z .n3) l)
 
 -- DECLARATIONS
 abbrev pub refusing : ℕ → View → ViewOutcome
@@ -263,7 +250,7 @@ ended fin a = cond (eqb (a .number) 0) (accepting (fin (a .tree))) (refusing (a 
 -- the last entry opened
 abbrev pub opened-last : View → View
 opened-last t =
-    record { count = t .count; kinds = t .kinds; visible = t .visible; scopes = t .scopes; marks = t .marks; n0 = t .n0; n1 = t .n1; n2 = t .n2; n3 = t .n3; origins = t .origins; targets = t .targets; times = t .times; heads = t .heads; links = t .links; depth = t .depth + 1; stack = set (t .stack) (t .depth) (t .count) }
+    record { count = t .count; kinds = t .kinds; visible = t .visible; scopes = t .scopes; marks = t .marks; n0 = t .n0; n1 = t .n1; n2 = t .n2; n3 = t .n3; origins = t .origins; targets = t .targets; times = t .times; index = t .index; depth = t .depth + 1; stack = set (t .stack) (t .depth) (t .count) }
 
 abbrev pub mark-at : View → Spot → Told
 mark-at t Nothing = Refused 43

@@ -16,8 +16,7 @@ use crate::Answer;
 use crate::CELLS;
 use crate::COUNT;
 use crate::DEPTH;
-use crate::HEADS;
-use crate::LINKS;
+use crate::INDEX;
 use crate::OPENED;
 use crate::ORIGINS;
 use crate::TARGETS;
@@ -59,8 +58,7 @@ fn add(
     ensures { λ _. ⌜ packed-in (now (opened .exit)) (now (cells .exit)) (now (visible .exit)) (now (scopes .exit)) (now (marks .exit)) (now (n0 .exit)) (now (n1 .exit)) (now (n2 .exit)) (now (n3 .exit)) ≡ added at (packed-in (now (opened .entry)) (now (cells .entry)) (now (visible .entry)) (now (scopes .entry)) (now (marks .entry)) (now (n0 .entry)) (now (n1 .entry)) (now (n2 .entry)) (now (n3 .entry))) entry ⌝ }
 {
     let d = look::wide(opened[DEPTH]);
-    let b = look::bucket(entry.scope, entry.kind, entry.name);
-    let old = cells[HEADS + b];
+    let b = look::free_slot(&*cells, entry.scope, entry.kind, entry.name);
     let next = (at + 1) as u16;
     visible[at] = entry.visible;
     scopes[at] = entry.scope;
@@ -73,8 +71,7 @@ fn add(
     cells[ORIGINS + at] = entry.origin;
     cells[TARGETS + at] = entry.target;
     cells[TIMES + at] = entry.moment;
-    cells[LINKS + at] = old;
-    cells[HEADS + b] = next;
+    cells[INDEX + b] = next;
     opened[COUNT] = next;
     if entry.opens {
         opened[d] = next;

@@ -1,17 +1,16 @@
 // Lookups. Nothing here changes a tree.
 ghost use mathlib.Core.Path.{_≡_};
-ghost use Prim.Native.Nat.{_+_, _*_, _<_, _≤_};
+ghost use Prim.Native.Nat.{_+_, _*_, _%_, _<_, _≤_};
 ghost use mathlib.Core.Bool.{_&&_};
 ghost use lib.ListN.{getD};
 ghost use Rattle.scopes.specs.Rows.{isRow, isOwn, site};
-ghost use Rattle.scopes.specs.Index.{bucket, within, spot-of, place-in, spot-in};
+ghost use Rattle.scopes.specs.Index.{mix, word-at, turn-of, below, within, place-in, free-slot, spot-in};
 ghost use Rattle.scopes.specs.Staging.{is-at};
 ghost use Rattle.scopes.specs.Nav.{barred, current-of, leads-on, wayed, Arrived};
-ghost use Rattle.scopes.specs.Trees.{part, doors-of};
+ghost use Rattle.scopes.specs.Trees.{part, index-of, doors-of};
 use crate::CELLS;
-use crate::HEADS;
+use crate::INDEX;
 use crate::KINDS;
-use crate::LINKS;
 use crate::OPENED;
 use crate::ORIGINS;
 use crate::TARGETS;
@@ -28,7 +27,7 @@ pub enum Spot {
 
 // A number of a part of the cells.
 pub fn cell(cells: &[u16; CELLS], p: usize, i: usize) -> u16
-    requires { ⌜ (i < 1024) × (p + 1024 ≤ 6144) ⌝ }
+    requires { ⌜ (i < 1024) × (p + 1024 ≤ 7168) ⌝ }
     ensures { λ r. ⌜ r ≡ getD (part p (now (cells .entry))) i 0 ⌝ }
 {
     cells[p + i]
@@ -46,16 +45,61 @@ pub fn is_row(scope0: u16, kind0: u16, name0: Name, scope: u16, kind: u16, name:
     same_name(name0, name)
 }
 
-// The hash of a scope, a kind and a name, by which the index finds entries.
-pub fn bucket(scope: u16, kind: u16, name: Name) -> usize
-    ensures { λ r. ⌜ (r ≡ bucket scope kind name) × (r < 1024) ⌝ }
+// Scope, kind and name mixed into 36 bits, of which the lowest ten are the hash.
+pub fn mixed(scope: u16, kind: u16, name: Name) -> u64
+    ensures { λ r. ⌜ r ≡ mix scope kind name ⌝ }
 {
-    let words = name.w0 % 4294967291
-        + name.w1 % 4294967279
-        + name.w2 % 4294967231
-        + name.w3 % 4294967197;
-    let all = words + (scope as u64) * 65537 + (kind as u64) * 19;
-    (all * 2654435 / 65536 % 1024) as usize
+    let a = name.w0 / 4294967296 % 4294967296 * 165902239 + name.w0 % 4294967296 * 189812533;
+    let b = name.w1 / 4294967296 % 4294967296 * 232471937 + name.w1 % 4294967296 * 220889051;
+    let c = name.w2 / 4294967296 % 4294967296 * 176714393 + name.w2 % 4294967296 * 215493451;
+    let d = name.w3 / 4294967296 % 4294967296 * 150740719 + name.w3 % 4294967296 * 182388329;
+    let e = (scope as u64) * 7000208109065 + (kind as u64) * 3387945472435;
+    (a + b + c + d + e) / 268435456
+}
+
+// The words of a name, and one of scope and kind: all that two entries of one name can differ in.
+fn word_at(scope: u16, kind: u16, name: Name, i: usize) -> u64
+    ensures { λ r. ⌜ r ≡ word-at scope kind name i ⌝ }
+{
+    if i == 0 {
+        return name.w0;
+    }
+    if i == 1 {
+        return name.w1;
+    }
+    if i == 2 {
+        return name.w2;
+    }
+    if i == 3 {
+        return name.w3;
+    }
+    (scope as u64) + (kind as u64) * 65536
+}
+
+// The bit by which a walk goes on at a depth: those of the mix that aren't the hash, then those of the words.
+fn turn(mix: u64, scope: u16, kind: u16, name: Name, depth: usize) -> usize
+    ensures { λ r. ⌜ (r ≡ turn-of mix scope kind name depth) × (r < 2) ⌝ }
+{
+    if depth < 26 {
+        return ((mix >> (depth + 10)) % 2) as usize;
+    }
+    let at = depth - 26;
+    ((word_at(scope, kind, name, at / 64) >> (at % 64)) % 2) as usize
+}
+
+// The slot below entry i where a walk goes on.
+fn slot_below(mix: u64, scope: u16, kind: u16, name: Name, depth: usize, i: usize) -> usize
+    requires { ⌜ i < 1024 ⌝ }
+    ensures { λ r. ⌜ (r ≡ below (turn-of mix scope kind name) depth i) × (r < 3072) ⌝ }
+{
+    1024 + 2 * i + turn(mix, scope, kind, name, depth)
+}
+
+// The slot of a mix's hash, where a walk begins.
+fn first_slot(mix: u64) -> usize
+    ensures { λ r. ⌜ (r ≡ mix % 1024) × (r < 3072) ⌝ }
+{
+    (mix % 1024) as usize
 }
 
 // A place of the index: an entry's number plus one, 0 for none. One past the limit, which no tree has, is none.
@@ -67,6 +111,32 @@ fn place_in(place: u16, limit: usize) -> usize
         return 0;
     }
     p
+}
+
+// What a slot of the index holds.
+fn held_at(cells: &[u16; CELLS], slot: usize) -> usize
+    requires { ⌜ slot < 3072 ⌝ }
+    ensures { λ r. ⌜ (r ≡ place-in (getD (index-of (now (cells .entry))) slot 0) 1024) × (r ≤ 1024) ⌝ }
+{
+    place_in(cells[INDEX + slot], 1024)
+}
+
+// The slot for one more entry of a scope, a kind and a name: the empty one that a walk ends at.
+pub fn free_slot(cells: &[u16; CELLS], scope: u16, kind: u16, name: Name) -> usize
+    ensures { λ r. ⌜ (r ≡ free-slot (index-of (now (cells .entry))) scope kind name) × (r < 3072) ⌝ }
+{
+    let mix = mixed(scope, kind, name);
+    let mut slot = first_slot(mix);
+    let mut depth: usize = 0;
+    while depth < 1024 {
+        let e = held_at(cells, slot);
+        if e == 0 {
+            return slot;
+        }
+        slot = slot_below(mix, scope, kind, name, depth, e - 1);
+        depth += 1;
+    }
+    slot
 }
 
 // Whether entry i is the one looked for: of those from the scope's first on and below the time.
@@ -91,17 +161,8 @@ fn is_sought(
     false
 }
 
-fn spot_of(place: usize) -> Spot
-    ensures { λ r. ⌜ r ≡ spot-of place ⌝ }
-{
-    if place == 0 {
-        return Spot::Nothing;
-    }
-    Spot::At(place - 1)
-}
-
-// The first entry of a kind and a name in a scope, among the first `time` entries: the index leads from the last entry of the hash to
-// ever earlier ones.
+// The first entry of a kind and a name in a scope, among the first `time` entries: a walk through the index from the slot of the hash.
+// It ends at an empty slot; an earlier entry stands before a later one of the same scope, kind and name.
 pub fn find_in<'a>(
     cells: &'a [u16; CELLS],
     scopes: &'a [u16; 1024],
@@ -114,12 +175,16 @@ pub fn find_in<'a>(
     kind: u16,
     name: Name,
 ) -> Spot
-    ensures { λ r. ⌜ r ≡ spot-in (part 5120 (now (cells .entry))) (part 4096 (now (cells .entry))) (now (scopes .entry)) (part 0 (now (cells .entry))) (now (n0 .entry)) (now (n1 .entry)) (now (n2 .entry)) (now (n3 .entry)) scope time kind name ⌝ }
+    ensures { λ r. ⌜ r ≡ spot-in (index-of (now (cells .entry))) (now (scopes .entry)) (part 0 (now (cells .entry))) (now (n0 .entry)) (now (n1 .entry)) (now (n2 .entry)) (now (n3 .entry)) scope time kind name ⌝ }
 {
-    let b = bucket(scope, kind, name);
-    let mut e = place_in(cell(cells, HEADS, b), 1024);
-    let mut first: usize = 0;
-    while 0 < e {
+    let mix = mixed(scope, kind, name);
+    let mut slot = first_slot(mix);
+    let mut depth: usize = 0;
+    while depth < 1024 {
+        let e = held_at(cells, slot);
+        if e == 0 {
+            return Spot::Nothing;
+        }
         let i = e - 1;
         let n = Name {
             w0: n0[i],
@@ -127,14 +192,14 @@ pub fn find_in<'a>(
             w2: n2[i],
             w3: n3[i],
         };
-        let to = place_in(cell(cells, LINKS, i), i);
         let k = cell(cells, KINDS, i);
         if is_sought(i, scopes[i], k, n, scope, time, kind, name) {
-            first = e;
+            return Spot::At(i);
         }
-        e = to;
+        slot = slot_below(mix, scope, kind, name, depth, i);
+        depth += 1;
     }
-    spot_of(first)
+    Spot::Nothing
 }
 
 // Whether a scope holds a kind and a name, among the first `time` entries.
@@ -150,7 +215,7 @@ pub fn is_held<'a>(
     kind: u16,
     name: Name,
 ) -> bool
-    ensures { λ r. ⌜ r ≡ is-at (spot-in (part 5120 (now (cells .entry))) (part 4096 (now (cells .entry))) (now (scopes .entry)) (part 0 (now (cells .entry))) (now (n0 .entry)) (now (n1 .entry)) (now (n2 .entry)) (now (n3 .entry)) scope time kind name) ⌝ }
+    ensures { λ r. ⌜ r ≡ is-at (spot-in (index-of (now (cells .entry))) (now (scopes .entry)) (part 0 (now (cells .entry))) (now (n0 .entry)) (now (n1 .entry)) (now (n2 .entry)) (now (n3 .entry)) scope time kind name) ⌝ }
 {
     let found = find_in(cells, scopes, n0, n1, n2, n3, scope, time, kind, name);
     if let Spot::At(_) = found {
@@ -314,7 +379,7 @@ pub fn navigate<'a>(
     count: usize,
 ) -> Way
     requires { ⌜ (total ≤ 1024) × ((depth ≤ 9) × (at + 256 * count < 16384)) ⌝ }
-    ensures { λ r. ⌜ Arrived (part 0 (now (cells .entry))) (now (visible .entry)) (now (scopes .entry)) (now (n0 .entry)) (now (n1 .entry)) (now (n2 .entry)) (now (n3 .entry)) (part 1024 (now (cells .entry))) (part 2048 (now (cells .entry))) (part 3072 (now (cells .entry))) (part 5120 (now (cells .entry))) (part 4096 (now (cells .entry))) total (doors-of (now (opened .entry))) depth (now (decl .entry)) at count r ⌝ }
+    ensures { λ r. ⌜ Arrived (part 0 (now (cells .entry))) (now (visible .entry)) (now (scopes .entry)) (now (n0 .entry)) (now (n1 .entry)) (now (n2 .entry)) (now (n3 .entry)) (part 1024 (now (cells .entry))) (part 2048 (now (cells .entry))) (part 3072 (now (cells .entry))) (index-of (now (cells .entry))) total (doors-of (now (opened .entry))) depth (now (decl .entry)) at count r ⌝ }
 {
     let mut scope: u16 = 0;
     let mut time = total;
