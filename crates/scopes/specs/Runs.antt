@@ -5,19 +5,19 @@ use Prim.Native.Nat.{ℕ, zero}
 use mathlib.Core.Path.{_≡_, refl, ap, sym, subst, _∙_}
 use mathlib.Core.List.{List, [], _∷_}
 use lib.ListN.{length, replicate, length-replicate}
-use Rattle.scopes.specs.declared.Tree.{Tree}
-use Rattle.scopes.specs.declared.Answer.{Answer as Told}
+use Rattle.scope_tree.specs.declared.Tree.{Tree}
+use Rattle.scope_tree.specs.declared.Answer.{Answer as Told}
 use Rattle.scopes.specs.declared.Outcome.{Outcome}
-use Rattle.scopes.specs.Step.{Answer, step, run}
-use Rattle.scopes.specs.Flat.{Flat, flat, first-flat, flattened}
-use Rattle.scopes.specs.Form.{Request, call-of, calls-of}
-use Rattle.scopes.specs.Rows.{tab}
-use Rattle.scopes.specs.Index.{walked-none}
-use Rattle.scopes.specs.Nav.{stack-of}
-use Rattle.scopes.specs.Views.{told}
-use Rattle.scopes.specs.Views as views
-use Rattle.scopes.specs.Trees.{cleared, Good, flat-of}
-use Rattle.scopes.specs.Pack.{cleared-view, clear-get}
+use Rattle.scope_tree.specs.Step.{Answer, step, run}
+use Rattle.scope_tree.specs.Flat.{Flat, flat, first-flat, flattened}
+use Rattle.scope_tree.specs.Form.{Request, call-of, calls-of}
+use Rattle.scope_tree.specs.Rows.{tab}
+use Rattle.scope_tree.specs.Index.{walked-none}
+use Rattle.scope_tree.specs.Nav.{stack-of}
+use Rattle.scope_tree.specs.Views.{told}
+use Rattle.scope_tree.specs.Views as views
+use Rattle.scope_tree.specs.Trees.{cleared, Good, flat-of}
+use Rattle.scope_tree.specs.Pack.{cleared-view, clear-get}
 use Rattle.scopes.specs.Meets.{Meets, Answers}
 use Rattle.scopes.specs.Demand.{Demand, demand}
 

@@ -4,41 +4,28 @@ ghost use mathlib.Core.Path.{_≡_};
 ghost use mathlib.Core.Bool.{true};
 ghost use lib.ListN.{getD};
 ghost use Prim.Native.Nat.{_+_, _<_, _≤_};
-ghost use Rattle.scopes.specs.Form.{resolves-use};
-ghost use Rattle.scopes.specs.Views.{bit-of};
-ghost use Rattle.scopes.specs.Trees.{packed-in};
-ghost use Rattle.scopes.specs.Pack.{added};
+ghost use Rattle.scope_tree.specs.Form.{resolves-use};
+ghost use Rattle.scope_tree.specs.Views.{bit-of};
+ghost use Rattle.scope_tree.specs.Trees.{packed-in};
+ghost use Rattle.scope_tree.specs.Pack.{added};
 ghost use Rattle.scopes.specs.Commits.{filled};
-ghost use Rattle.scopes.specs.Batches.{staged-of};
+ghost use Rattle.scope_tree.specs.Batches.{staged-of};
 ghost use Rattle.scopes.specs.Meets.{Meets, request, left, Leaves};
 ghost use Rattle.scopes.specs.Declares.{Declares, kind-of, asked-of};
-use crate::Answer;
-use crate::CELLS;
-use crate::COUNT;
-use crate::DEPTH;
-use crate::INDEX;
-use crate::OPENED;
-use crate::ORIGINS;
-use crate::TARGETS;
-use crate::TIMES;
 use crate::decide;
-use crate::look;
-use crate::stage::Batch;
-use crate::stage::entry_at;
-use names::Name;
-
-pub struct Entry {
-    pub kind: u16,
-    pub visible: u8,
-    pub scope: u16,
-    pub mark: u16,
-    pub name: Name,
-    pub origin: u16,
-    pub target: u16,
-    pub moment: u16,
-    // whether a module opens
-    pub opens: bool,
-}
+use scope_tree::Answer;
+use scope_tree::CELLS;
+use scope_tree::COUNT;
+use scope_tree::DEPTH;
+use scope_tree::Entry;
+use scope_tree::INDEX;
+use scope_tree::OPENED;
+use scope_tree::ORIGINS;
+use scope_tree::TARGETS;
+use scope_tree::TIMES;
+use scope_tree::look;
+use scope_tree::stage::Batch;
+use scope_tree::stage::entry_at;
 
 // An entry at the tree's end, and a module opened with it.
 fn add(

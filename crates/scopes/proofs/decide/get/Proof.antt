@@ -3,9 +3,9 @@ use native.Mathlib.Omega.{arith}
 use Rattle.scopes.proofs.decide.get.Statement.{statement}
 use Rattle.scopes.proofs.decide.get.Tie as tie
 use mathlib.Core.Path.{_∙_, sym, ap}
-use Rattle.scopes.specs.Pack.{via-spot, via-current}
-use Rattle.scopes.specs.Views.{mark-at, get-bad, get-many, get-deep, get-found}
-use Rattle.scopes.specs.Index.{spot-found}
+use Rattle.scope_tree.specs.Pack.{via-spot, via-current}
+use Rattle.scope_tree.specs.Views.{mark-at, get-bad, get-many, get-deep, get-found}
+use Rattle.scope_tree.specs.Index.{spot-found}
 
 is-identifier-requires : tie.Need-is-identifier-requires
 is-identifier-requires c κs = search needs

@@ -4,7 +4,7 @@ use Rattle.scopes.proofs.decide.planned.Statement.{statement}
 use Rattle.scopes.proofs.decide.planned.Tie as tie
 use mathlib.Core.Path.{_∙_, subst}
 use Prim.Native.Nat.{ℕ, _<_, _≤_}
-use Rattle.scopes.specs.Pack.{via-held, via-current}
+use Rattle.scope_tree.specs.Pack.{via-held, via-current}
 use Rattle.scopes.specs.Plan.{plan-bad, plan-many, plan-deep, plan-held, plan-full, plan-open, plan-made}
 
 is-identifier-requires : tie.Need-is-identifier-requires

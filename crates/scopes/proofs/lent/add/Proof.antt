@@ -2,7 +2,7 @@ use borrow.Author.Needs.{needs}
 use native.Mathlib.Omega.{arith}
 use Rattle.scopes.proofs.lent.add.Statement.{statement}
 use Rattle.scopes.proofs.lent.add.Tie as tie
-use Rattle.scopes.specs.Pack.{added-shut, added-open}
+use Rattle.scope_tree.specs.Pack.{added-shut, added-open}
 
 element-copy-out-wide : tie.Need-element-copy-out-wide
 element-copy-out-wide c = search needs
