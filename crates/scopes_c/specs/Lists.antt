@@ -10,20 +10,20 @@ use lib.Dec.{eqb, ltb}
 use lib.ListN.{length, getD, set, take, drop, drop-of-length-le, replicate, length-replicate}
 use lib.Seq.{take-all}
 use borrow.Author.Tests.{eq-eqb, ne-eqb, lt-ltb, le-ltb}
-use Rattle.scopes.specs.declared.Tree.{Tree}
+use Rattle.scope_tree.specs.declared.Tree.{Tree}
 use Rattle.scopes_c.specs.declared.Step.{Step}
-use Rattle.scopes.specs.declared.Answer.{Answer as Told}
+use Rattle.scope_tree.specs.declared.Answer.{Answer as Told}
 use Rattle.scopes.specs.declared.Outcome.{Outcome}
-use Rattle.scopes.specs.declared.Answer.the-variants.{Done, Mark, Refused}
-use Rattle.scopes.specs.Step.{Answer, ok, marked, refused, step}
-use Rattle.scopes.specs.Flat.{Flat, flat, first-flat}
-use Rattle.scopes.specs.Form.{Request, enters, exits, inserts-alias, inserts-enum, inserts-function, resolves-use, gets-alias, gets-function, call-of}
-use Rattle.scopes.specs.Rows.{tab}
-use Rattle.scopes.specs.Index.{walked-none}
-use Rattle.scopes.specs.Nav.{stack-of}
-use Rattle.scopes.specs.Views.{told}
-use Rattle.scopes.specs.Trees.{part, cleared, flat-of, Good}
-use Rattle.scopes.specs.Pack.{index-clear, clear-get}
+use Rattle.scope_tree.specs.declared.Answer.the-variants.{Done, Mark, Refused}
+use Rattle.scope_tree.specs.Step.{Answer, ok, marked, refused, step}
+use Rattle.scope_tree.specs.Flat.{Flat, flat, first-flat}
+use Rattle.scope_tree.specs.Form.{Request, enters, exits, inserts-alias, inserts-enum, inserts-function, resolves-use, gets-alias, gets-function, call-of}
+use Rattle.scope_tree.specs.Rows.{tab}
+use Rattle.scope_tree.specs.Index.{walked-none}
+use Rattle.scope_tree.specs.Nav.{stack-of}
+use Rattle.scope_tree.specs.Views.{told}
+use Rattle.scope_tree.specs.Trees.{part, cleared, flat-of, Good}
+use Rattle.scope_tree.specs.Pack.{index-clear, clear-get}
 use Rattle.scopes.specs.Meets.{Meets, Answers, request, declares}
 use Rattle.scopes.specs.Meets as meets
 use Rattle.scopes.specs.Runs.{first-is, first-good}
