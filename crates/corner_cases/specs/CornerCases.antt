@@ -22,9 +22,9 @@ use Rattle.graph.specs.Linearize.{linearize}
 use Rattle.graph.specs.Cases.{corners, lists, holds}
 use Rattle.graph.specs.Cases as graph
 use Rattle.order.specs.Cases as order
-use Rattle.scopes.specs.Step.{shared, any-main, nav, element, stage, step, run}
-use Rattle.scopes.specs.Register.{append, find, whole, names, registered}
-use Rattle.scopes.specs.Form.{Request, exits, string, after-strings, names-from, local-name, elements-from, string-fault, names-fault, elements-fault, after-elements, rest-fault, use-fault, use-call, call-of, calls-of}
+use Rattle.scope_tree.specs.Step.{shared, any-main, nav, element, stage, step, run}
+use Rattle.scope_tree.specs.Register.{append, find, whole, names, registered}
+use Rattle.scope_tree.specs.Form.{Request, exits, string, after-strings, names-from, local-name, elements-from, string-fault, names-fault, elements-fault, after-elements, rest-fault, use-fault, use-call, call-of, calls-of}
 use Rattle.scopes.specs.Cases.{Case, answers, expected, text, texts, elements, uses, module-in}
 use Rattle.scopes.specs.Cases as scopes
 

@@ -14,11 +14,11 @@ use Rattle.assembly.specs.Image.{imaging}
 use Rattle.assembly.specs.declared.Imaged.{Imaged}
 use Rattle.assembly.specs.declared.Imaged.the-variants as imaged
 use Rattle.assembly.specs.declared.Answer.{Answer}
-use Rattle.scopes.specs.declared.Tree.{Tree}
-use Rattle.scopes.specs.Flat.{Flat, Entry}
-use Rattle.scopes.specs.Rows.{length-tab}
-use Rattle.scopes.specs.Views.{rows as row-of}
-use Rattle.scopes.specs.Trees.{view, cleared, flat-of}
+use Rattle.scope_tree.specs.declared.Tree.{Tree}
+use Rattle.scope_tree.specs.Flat.{Flat, Entry}
+use Rattle.scope_tree.specs.Rows.{length-tab}
+use Rattle.scope_tree.specs.Views.{rows as row-of}
+use Rattle.scope_tree.specs.Trees.{view, cleared, flat-of}
 use Rattle.scopes.specs.Runs.{first-is, first-good}
 use Rattle.scopes_c.specs.Lists.{put-at, written}
 use Rattle.scopes_c.specs.TreeRows.{numbers, all-numbers, Listed}

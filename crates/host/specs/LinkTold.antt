@@ -12,7 +12,7 @@ use Rattle.assembly.specs.Image.{imaging}
 use Rattle.assembly.specs.declared.Imaged.{Imaged}
 use Rattle.assembly.specs.declared.Imaged.the-variants as imaged
 use Rattle.assembly.specs.declared.Answer.{Answer}
-use Rattle.scopes.specs.Flat.{Flat, Entry}
+use Rattle.scope_tree.specs.Flat.{Flat, Entry}
 use Rattle.scopes_c.specs.TreeRows.{all-numbers}
 use Rattle.linker.specs.Link.{Outcome, faulty, closed, ended, linked, linkBundle}
 use Rattle.linker.specs.Call.{linkAnswer, linkReport, linkImage}

@@ -11,9 +11,9 @@ use Rattle.assembly.specs.Call.{refusing, reportedTo, imagedTo}
 use Rattle.assembly.specs.declared.Imaged.{Imaged}
 use Rattle.assembly.specs.declared.Imaged.the-variants as imaged
 use Rattle.assembly.specs.declared.Answer.{Answer}
-use Rattle.scopes.specs.Flat.{Flat}
-use Rattle.scopes.specs.Trees.{Good, flat-of}
-use Rattle.scopes.specs.declared.Tree.{Tree}
+use Rattle.scope_tree.specs.Flat.{Flat}
+use Rattle.scope_tree.specs.Trees.{Good, flat-of}
+use Rattle.scope_tree.specs.declared.Tree.{Tree}
 use Rattle.linker.specs.Link.{Outcome, faulty, closed, ended, linked, linkBundle}
 
 -- one record per fault, or one for the ring alone; otherwise there is no report

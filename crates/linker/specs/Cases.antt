@@ -28,11 +28,11 @@ use Rattle.graph.specs.Linearize.{linearize, visit, memb, from}
 use Rattle.graph.specs.Linearize as graph
 use Rattle.order.specs.Run.{ordered}
 use Rattle.order.specs.Report.{reporting, reportLength, recordLength}
-use Rattle.scopes.specs.Step.{shared, any-main, nav, stage, step}
-use Rattle.scopes.specs.Step as tree
-use Rattle.scopes.specs.Flat.{Entry, look, stack-names}
-use Rattle.scopes.specs.Form.{after-strings, names-from, local-name, elements-from, string-fault, names-fault, elements-fault, after-elements, rest-fault, use-fault, use-call, call-of}
-use Rattle.scopes.specs.Form as request
+use Rattle.scope_tree.specs.Step.{shared, any-main, nav, stage, step}
+use Rattle.scope_tree.specs.Step as tree
+use Rattle.scope_tree.specs.Flat.{Entry, look, stack-names}
+use Rattle.scope_tree.specs.Form.{after-strings, names-from, local-name, elements-from, string-fault, names-fault, elements-fault, after-elements, rest-fault, use-fault, use-call, call-of}
+use Rattle.scope_tree.specs.Form as request
 use Rattle.assembly.specs.Assemble.{rewriteUse, rewriteItems, localItems, assembled, enumDeclarations, forbidEnumDecInDeps, hasMain, mainFaults, assemblyFaults, linearizeAndAssemble}
 use Rattle.assembly.specs.Image.{imageBytes, itemsLength, segmentsLength, elementsLength, imaging}
 use Rattle.assembly.specs.declared.Answer.{Answer}

@@ -20,7 +20,7 @@ use Rattle.bundle.specs.Access.{kindOf, restOf, innerOf, first-rest, items-end}
 use Rattle.discovery.specs.Discovery.{Use}
 use Rattle.discovery.specs.Walk.{UseMark}
 use Rattle.resolution.specs.declared.Layout.{Layout}
-use Rattle.scopes.specs.Form.{enters, exits, resolves-use}
+use Rattle.scope_tree.specs.Form.{enters, exits, resolves-use}
 use Rattle.scopes.specs.Meets.{declares}
 use Rattle.assembly.specs.Assemble.{fileOf, itemsOf}
 use Rattle.assembly.specs.Given.{OrderGiven}

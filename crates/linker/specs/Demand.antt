@@ -21,9 +21,9 @@ use Rattle.order.specs.Call.{padded, unitFiles, pathsOfIds, Wrote}
 use Rattle.order.specs.Demand.{ReportEnds, too-small, whole, report-ends, wrote, fault-some, ring-some, files-linked}
 use Rattle.order.specs.declared.Reported.{Reported}
 use Rattle.order.specs.declared.Reported.the-variants as reported
-use Rattle.scopes.specs.Flat.{Flat, flat, first-flat}
-use Rattle.scopes.specs.Trees.{Good, flat-of}
-use Rattle.scopes.specs.declared.Tree.{Tree}
+use Rattle.scope_tree.specs.Flat.{Flat, flat, first-flat}
+use Rattle.scope_tree.specs.Trees.{Good, flat-of}
+use Rattle.scope_tree.specs.declared.Tree.{Tree}
 use Rattle.assembly.specs.Assemble.{linearizeAndAssemble}
 use Rattle.assembly.specs.Assemble as assembly
 use Rattle.assembly.specs.Image.{small-buffer, imageLength, imaging, lentImage}

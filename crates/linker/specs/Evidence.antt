@@ -24,15 +24,15 @@ use Rattle.order.specs.Files.{LinkedFiles}
 use Rattle.order.specs.Report.{reportLength}
 use Rattle.order.specs.Call.{unitFiles, pathsOfIds, padded}
 use Rattle.order.specs.Theorems.{order-count}
-use Rattle.scopes.specs.Step.{Answer, ok, refused as refused-with}
-use Rattle.scopes.specs.Step as tree
-use Rattle.scopes.specs.Flat.{Flat, flat, first-flat}
-use Rattle.scopes.specs.Form.{Request, resolves-use, call-of}
-use Rattle.scopes.specs.Views.{rows, told as told-of}
-use Rattle.scopes.specs.Trees.{Good, view, flat-of, cleared}
-use Rattle.scopes.specs.Rows.{length-tab}
+use Rattle.scope_tree.specs.Step.{Answer, ok, refused as refused-with}
+use Rattle.scope_tree.specs.Step as tree
+use Rattle.scope_tree.specs.Flat.{Flat, flat, first-flat}
+use Rattle.scope_tree.specs.Form.{Request, resolves-use, call-of}
+use Rattle.scope_tree.specs.Views.{rows, told as told-of}
+use Rattle.scope_tree.specs.Trees.{Good, view, flat-of, cleared}
+use Rattle.scope_tree.specs.Rows.{length-tab}
 use Rattle.scopes.specs.Meets.{Meets}
-use Rattle.scopes.specs.declared.Tree.{Tree}
+use Rattle.scope_tree.specs.declared.Tree.{Tree}
 use Rattle.scopes.specs.declared.Outcome.{Outcome}
 use Rattle.assembly.specs.Image.{small-buffer, image-limit, itemsLength, imageLength}
 use Rattle.assembly.specs.Image as image

@@ -25,8 +25,8 @@ use Rattle.order.specs.Writing.{faultRecords}
 use Rattle.order.specs.declared.Answer as ordering
 use Rattle.order.specs.declared.Reported.{Reported}
 use Rattle.order.specs.declared.Reported.the-variants as reported
-use Rattle.scopes.specs.Trees.{flat-of}
-use Rattle.scopes.specs.declared.Tree.{Tree}
+use Rattle.scope_tree.specs.Trees.{flat-of}
+use Rattle.scope_tree.specs.declared.Tree.{Tree}
 use Rattle.assembly.specs.Assemble.{assembled, assemblyFaults, step5, assembleAfter, linearizeAndAssemble}
 use Rattle.assembly.specs.Image.{imaging, lentImage}
 use Rattle.assembly.specs.Call.{telling, reportedTo, imagedTo}

@@ -3,7 +3,7 @@ use Prim.Native.Nat.{ℕ}
 use mathlib.Core.List.{List}
 use Rattle.bundle.specs.Bundle.{Items, Bundle}
 use Rattle.discovery.specs.Discovery.{Fault}
-use Rattle.scopes.specs.Flat.{Flat}
+use Rattle.scope_tree.specs.Flat.{Flat}
 use Rattle.assembly.specs.Assemble.{linearizeAndAssemble}
 use Rattle.assembly.specs.Assemble as assembly
 use Rattle.linker.specs.Scopes.{Walked, done, stopped, scopeWalk}

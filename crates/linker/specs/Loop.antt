@@ -8,11 +8,11 @@ use lib.Dec.{eqb}
 use lib.ListN.{length, take}
 use borrow.Author.Tests.{eqb-true, eqb-false}
 use Rattle.bundle.specs.Decode.{decode}
-use Rattle.scopes.specs.Form.{Request}
+use Rattle.scope_tree.specs.Form.{Request}
 use Rattle.scopes.specs.Meets.{Meets, number-of, left}
-use Rattle.scopes.specs.declared.Answer.{Answer as Told}
-use Rattle.scopes.specs.Trees.{cleared}
-use Rattle.scopes.specs.declared.Tree.{Tree}
+use Rattle.scope_tree.specs.declared.Answer.{Answer as Told}
+use Rattle.scope_tree.specs.Trees.{cleared}
+use Rattle.scope_tree.specs.declared.Tree.{Tree}
 use Rattle.linker.specs.Scopes.{Asked, asked}
 use Rattle.linker.specs.Steps.{Stop, Walks, walks-as, walks-none, walks-one, walks-then, walks-stop}
 use Rattle.linker.specs.Units.{programCalls}

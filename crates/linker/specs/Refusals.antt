@@ -10,11 +10,11 @@ use lib.ListN.{length, getD, length-append}
 use borrow.Author.Tests.{ltb-true}
 use Rattle.names.specs.declared.Name.{Name}
 use Rattle.names.specs.Identifier.{isIdentifier}
-use Rattle.scopes.specs.Step.{Head, Elem, Call, enter, exit, alias, enum, function, use′, get-alias, get-function, bad, Answer, ok, refused, Found, missing, got, Tried, fail, is-done, number, after, first-told, head, declared, told-mark, any-main, shared, bind, held, full, deep, pass, nav, import, attempt, element, stage, use-of, fresh, settle, close, step}
-use Rattle.scopes.specs.Step as tree
-use Rattle.scopes.specs.Flat.{Flat, Place, copy, top, flat, stack-names}
+use Rattle.scope_tree.specs.Step.{Head, Elem, Call, enter, exit, alias, enum, function, use′, get-alias, get-function, bad, Answer, ok, refused, Found, missing, got, Tried, fail, is-done, number, after, first-told, head, declared, told-mark, any-main, shared, bind, held, full, deep, pass, nav, import, attempt, element, stage, use-of, fresh, settle, close, step}
+use Rattle.scope_tree.specs.Step as tree
+use Rattle.scope_tree.specs.Flat.{Flat, Place, copy, top, flat, stack-names}
 use Rattle.scopes.specs.Calls.{length-names}
-use Rattle.scopes.specs.Form.{led-by-crate, names-from, Request, enters, exits, inserts-alias, inserts-enum, inserts-function, resolves-use, gets-alias, gets-function, named, or-else, after-string, after-element, string-fault, names-fault, elements-fault, after-elements, after-strings, rest-fault, use-fault, use-call, elements-from, call-of}
+use Rattle.scope_tree.specs.Form.{led-by-crate, names-from, Request, enters, exits, inserts-alias, inserts-enum, inserts-function, resolves-use, gets-alias, gets-function, named, or-else, after-string, after-element, string-fault, names-fault, elements-fault, after-elements, after-strings, rest-fault, use-fault, use-call, elements-from, call-of}
 
 -- NUMBERS
 abbrev Between : ℕ → ℕ → ℕ → Type 0
@@ -108,7 +108,7 @@ or-small a b h k = go (eqb a 0)
 
 string-small : (o : Bool) (s : List ℕ) (at : ℕ) → string-fault o s at ≤ 5
 unfolding string-fault
-string-small o s at = go (ltb at (length s)) (leb (after-string s at) (length s)) ((o && eqb (getD s at 0) 0) || isIdentifier (Rattle.scopes.specs.Form.string s at))
+string-small o s at = go (ltb at (length s)) (leb (after-string s at) (length s)) ((o && eqb (getD s at 0) 0) || isIdentifier (Rattle.scope_tree.specs.Form.string s at))
   where
     go : (t u w : Bool) → cond t (cond u (cond w 0 5) 1) 1 ≤ 5
     go true true true = omega arith

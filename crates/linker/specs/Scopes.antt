@@ -5,10 +5,10 @@ use mathlib.Core.List.{List, [], _∷_, _++_}
 use lib.Dec.{eqb}
 use Rattle.bundle.specs.Bundle.{Text, Element, Items, none, named, use-of, module-of, ignored}
 use Rattle.bundle.specs.Encode.{string, counted, element}
-use Rattle.scopes.specs.Form.{Request, enters, exits, resolves-use, call-of}
+use Rattle.scope_tree.specs.Form.{Request, enters, exits, resolves-use, call-of}
 use Rattle.scopes.specs.Meets.{declares}
-use Rattle.scopes.specs.Step.{Answer, ok, marked, refused, Model, step}
-use Rattle.scopes.specs.Flat.{Flat, flat, first-flat}
+use Rattle.scope_tree.specs.Step.{Answer, ok, marked, refused, Model, step}
+use Rattle.scope_tree.specs.Flat.{Flat, flat, first-flat}
 
 -- THE CALLS
 -- a tree call, and the place that it has if it is refused: its item's mark, 0 for a unit

@@ -15,17 +15,17 @@ use Rattle.bundle.specs.Scan.{byte, text}
 use Rattle.bundle.specs.Decode.{after, afterLength, itemAt, itemsAt, decode}
 use Rattle.bundle.specs.Access.{insideOf, items-end, items-step, item-module, item-use, item-ignored, item-named, by-kind, kindOf, restOf, innerOf, visibilityOf, first-inner, first-visibility}
 use Rattle.order.specs.Writing.{started}
-use Rattle.scopes.specs.Form.{Request, enters, exits, resolves-use, call-of}
+use Rattle.scope_tree.specs.Form.{Request, enters, exits, resolves-use, call-of}
 use Rattle.scopes.specs.Meets.{Meets, number-of, request, declares, left}
-use Rattle.scopes.specs.Note.{accepted}
-use Rattle.scopes.specs.Views.{told}
-use Rattle.scopes.specs.declared.Answer.{Answer as Told}
-use Rattle.scopes.specs.declared.Answer.the-variants.{Done, Mark, Refused}
+use Rattle.scope_tree.specs.Note.{accepted}
+use Rattle.scope_tree.specs.Views.{told}
+use Rattle.scope_tree.specs.declared.Answer.{Answer as Told}
+use Rattle.scope_tree.specs.declared.Answer.the-variants.{Done, Mark, Refused}
 use Rattle.scopes.specs.declared.Outcome.{Outcome}
-use Rattle.scopes.specs.Step.{Answer, ok, marked, refused, Model, step}
-use Rattle.scopes.specs.Flat.{Flat, flat}
-use Rattle.scopes.specs.Trees.{Good, flat-of}
-use Rattle.scopes.specs.declared.Tree.{Tree}
+use Rattle.scope_tree.specs.Step.{Answer, ok, marked, refused, Model, step}
+use Rattle.scope_tree.specs.Flat.{Flat, flat}
+use Rattle.scope_tree.specs.Trees.{Good, flat-of}
+use Rattle.scope_tree.specs.declared.Tree.{Tree}
 use Rattle.resolution.specs.declared.Layout.{Layout}
 use Rattle.discovery.specs.Discovery.{Use}
 use Rattle.discovery.specs.Walk.{useAt}
@@ -43,7 +43,7 @@ item-code k = cond (eqb k 2) 5 (cond (eqb k 4) 4 3)
 pub code-declares : (k : ℕ) (s : List ℕ) (v : Bool) (m : ℕ) → request (item-code k) s v m ≡ declares k s v m
 code-declares k s v m = go (eqb k 2) (eqb k 4)
   where
-    go : (a b : Bool) → request (cond a 5 (cond b 4 3)) s v m ≡ cond a (Rattle.scopes.specs.Form.inserts-function s v m) (cond b (Rattle.scopes.specs.Form.inserts-enum s v m) (Rattle.scopes.specs.Form.inserts-alias s v m))
+    go : (a b : Bool) → request (cond a 5 (cond b 4 3)) s v m ≡ cond a (Rattle.scope_tree.specs.Form.inserts-function s v m) (cond b (Rattle.scope_tree.specs.Form.inserts-enum s v m) (Rattle.scope_tree.specs.Form.inserts-alias s v m))
     go true b = refl
     go false true = refl
     go false false = refl

@@ -13,10 +13,10 @@ use Rattle.order.specs.Run.{filesOf}
 use Rattle.order.specs.Run as order
 use Rattle.order.specs.Files.{LinkedFiles, ImportEachOther}
 use Rattle.order.specs.Theorems.{faultsOf, RingMet, first-half-read}
-use Rattle.scopes.specs.Step.{Answer, ok, marked, refused, Model, step, run}
-use Rattle.scopes.specs.Flat.{Flat, flat, first-flat, flattened}
-use Rattle.scopes.specs.Form.{Request, call-of, calls-of}
-use Rattle.scopes.specs.Note.{accepted}
+use Rattle.scope_tree.specs.Step.{Answer, ok, marked, refused, Model, step, run}
+use Rattle.scope_tree.specs.Flat.{Flat, flat, first-flat, flattened}
+use Rattle.scope_tree.specs.Form.{Request, call-of, calls-of}
+use Rattle.scope_tree.specs.Note.{accepted}
 use Rattle.scopes.specs.Demand.{Demand, demand}
 use Rattle.assembly.specs.Assemble.{linearizeAndAssemble}
 use Rattle.assembly.specs.Assemble as assembly

@@ -14,11 +14,11 @@ use Rattle.bundle.specs.Limits.{depth-limit}
 use Rattle.bundle.specs.Stand.{Bytes}
 use Rattle.bundle.specs.Decode.{decode, itemsAt}
 use Rattle.bundle.specs.Theorems.{sound, accepted}
-use Rattle.scopes.specs.Form.{enters, exits}
-use Rattle.scopes.specs.Flat.{flat}
+use Rattle.scope_tree.specs.Form.{enters, exits}
+use Rattle.scope_tree.specs.Flat.{flat}
 use Rattle.scopes.specs.Runs.{first-is, first-good}
-use Rattle.scopes.specs.Trees.{cleared, Good, flat-of}
-use Rattle.scopes.specs.declared.Tree.{Tree}
+use Rattle.scope_tree.specs.Trees.{cleared, Good, flat-of}
+use Rattle.scope_tree.specs.declared.Tree.{Tree}
 use Rattle.assembly.specs.Assemble.{fileOf, itemsOf, localItems, assembled}
 use Rattle.assembly.specs.Given.{UnitsGiven}
 use Rattle.assembly.specs.Targets.{fileUses}

@@ -11,8 +11,8 @@ use Rattle.bundle.specs.Decode.{decode}
 use Rattle.order.specs.Run.{unitsOf}
 use Rattle.assembly.specs.Given.{OneUnit}
 use Rattle.assembly.specs.declared.Answer.{Answer}
-use Rattle.scopes.specs.Trees.{flat-of}
-use Rattle.scopes.specs.declared.Tree.{Tree}
+use Rattle.scope_tree.specs.Trees.{flat-of}
+use Rattle.scope_tree.specs.declared.Tree.{Tree}
 use Rattle.linker.specs.Call.{linkAnswer, linkReport, LinkTree}
 use Rattle.printing.specs.Lines.{unit-line, has-lines}
 use Rattle.printing.specs.Reports.{ReportAt, lines-one}

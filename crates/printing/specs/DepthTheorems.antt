@@ -10,10 +10,10 @@ use lib.Dec.{eqb}
 use lib.ListN.{length, take, drop, getD, length-append, take-append-drop}
 use borrow.Author.Tests.{ltb-false}
 use Rattle.names.specs.declared.Name.{Name}
-use Rattle.scopes.specs.Step.{declared, used, Head, Elem, Call, enter, exit, alias, enum, function, use′, get-alias, get-function, bad, Answer, ok, refused, Found, missing, got, Tried, done, fail, head, held, full, deep, settle, close, step, run}
-use Rattle.scopes.specs.Flat.{Body, own, copy, Entry, Flat, Place, inside, look, top, none, stack-names, pop, push, flat, first-flat, flattened}
-use Rattle.scopes.specs.Register.{is}
-use Rattle.scopes.specs.Note.{inner, along, bring, bring-all, use-bring, fresh-done}
+use Rattle.scope_tree.specs.Step.{declared, used, Head, Elem, Call, enter, exit, alias, enum, function, use′, get-alias, get-function, bad, Answer, ok, refused, Found, missing, got, Tried, done, fail, head, held, full, deep, settle, close, step, run}
+use Rattle.scope_tree.specs.Flat.{Body, own, copy, Entry, Flat, Place, inside, look, top, none, stack-names, pop, push, flat, first-flat, flattened}
+use Rattle.scope_tree.specs.Register.{is}
+use Rattle.scope_tree.specs.Note.{inner, along, bring, bring-all, use-bring, fresh-done}
 
 -- AT MOST d STEPS OUTWARD lead from the scope s to the root: the scope suc i is the module at entry i, which lies in that entry's scope
 unfoldable pub Within : ℕ → List Entry → ℕ → Type 0

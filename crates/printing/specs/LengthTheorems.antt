@@ -34,10 +34,10 @@ use Rattle.order.specs.Run as order
 use Rattle.order.specs.Theorems.{first-half, order-count}
 use Rattle.order.specs.Exact.{fault-numbers, place-small, ring-exact}
 use Rattle.order.specs.Report.{fault, reportLength, recordLength}
-use Rattle.scopes.specs.Step.{Call, enter, alias, enum, function, bad}
-use Rattle.scopes.specs.Flat.{Flat, flat, first-flat}
-use Rattle.scopes.specs.Form.{Request, enters, exits, inserts-alias, inserts-enum, inserts-function, resolves-use, call-of, calls-of, use-call, use-fault}
-use Rattle.scopes.specs.Form as form
+use Rattle.scope_tree.specs.Step.{Call, enter, alias, enum, function, bad}
+use Rattle.scope_tree.specs.Flat.{Flat, flat, first-flat}
+use Rattle.scope_tree.specs.Form.{Request, enters, exits, inserts-alias, inserts-enum, inserts-function, resolves-use, call-of, calls-of, use-call, use-fault}
+use Rattle.scope_tree.specs.Form as form
 use Rattle.scopes.specs.Meets.{declares}
 use Rattle.assembly.specs.Image.{itemsLength, image-limit}
 use Rattle.assembly.specs.Assemble.{enum-kind, rewriteUse, rewriteItems, fileOf, itemsOf, localItems, assembled, enumDeclarations, foreignEnum, forbidEnumDecInDeps, hasMain, noMain, mainFaults, assemblyFaults, step5, assembleAfter, linearizeAndAssemble}

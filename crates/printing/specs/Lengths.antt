@@ -14,7 +14,7 @@ use Rattle.names.specs.Decimal.{decimal, width, width-one, width-more}
 use Rattle.names.specs.declared.Name.{Name}
 use Rattle.text.specs.Words.{Text, line, lines, no-line, bytes-of, spelled}
 use Rattle.discovery.specs.Discovery.{Fault}
-use Rattle.scopes.specs.Flat.{Entry, none}
+use Rattle.scope_tree.specs.Flat.{Entry, none}
 use Rattle.printing.specs.Lines.{module-path, has-line, has-lines, unit-line, fault-line, ring-lines, linked-lines}
 use Rattle.printing.specs.DepthTheorems.{Within}
 

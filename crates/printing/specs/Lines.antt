@@ -13,7 +13,7 @@ use Rattle.discovery.specs.Discovery.{Fault}
 use Rattle.order.specs.Run.{unitsOf}
 use Rattle.order.specs.Report.{ring-met}
 use Rattle.assembly.specs.Image.{itemsLength, image-limit, long-image}
-use Rattle.scopes.specs.Flat.{Entry, none}
+use Rattle.scope_tree.specs.Flat.{Entry, none}
 use Rattle.linker.specs.Link.{Outcome, faulty, closed, ended, linked, linkBundle}
 
 -- the module of a scope among the entries l: `crate` and the modules around it, outermost first. The first number bounds how deep it lies

@@ -15,9 +15,9 @@ use Rattle.names.specs.Decimal.{decimal}
 use Rattle.names.specs.declared.Name.{Name}
 use Rattle.text.specs.Words.{Text, line, lines, bytes-of, spelled}
 use Rattle.text.specs.Writing.{Put, put-none, put-then, put-as}
-use Rattle.scopes.specs.Flat.{Entry, none}
-use Rattle.scopes.specs.Rows.{tab, length-tab, getD-tab, name-at}
-use Rattle.scopes.specs.Views.{View, rows, entries-of}
+use Rattle.scope_tree.specs.Flat.{Entry, none}
+use Rattle.scope_tree.specs.Rows.{tab, length-tab, getD-tab, name-at}
+use Rattle.scope_tree.specs.Views.{View, rows, entries-of}
 use Rattle.printing.specs.Lines.{module-path, has-line, has-lines}
 use Rattle.printing.specs.Reports.{lines-append}
 

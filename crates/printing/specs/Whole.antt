@@ -33,9 +33,9 @@ use Rattle.order.specs.declared.Answer as ordering
 use Rattle.order.specs.declared.Reported.{Reported}
 use Rattle.order.specs.Call.{unitFiles, padded, orderAnswer, orderReport}
 use Rattle.order.specs.Call as call
-use Rattle.scopes.specs.Flat.{Flat, Entry}
-use Rattle.scopes.specs.Trees.{flat-of, cleared}
-use Rattle.scopes.specs.declared.Tree.{Tree}
+use Rattle.scope_tree.specs.Flat.{Flat, Entry}
+use Rattle.scope_tree.specs.Trees.{flat-of, cleared}
+use Rattle.scope_tree.specs.declared.Tree.{Tree}
 use Rattle.assembly.specs.Assemble.{enum-kind, itemsOf, enumDeclarations, foreignEnum, hasMain, noMain}
 use Rattle.assembly.specs.Image.{imaging, imageLength, itemsLength, image-limit, long-image}
 use Rattle.assembly.specs.Image as image

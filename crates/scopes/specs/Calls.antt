@@ -13,18 +13,18 @@ use borrow.Author.Tests.{ne-eqb, lt-ltb, le-ltb, le-leb, lt-leb}
 use Rattle.names.specs.declared.Name.{Name}
 use Rattle.names.specs.Packed.{packed}
 use Rattle.names.specs.Identifier.{isIdentifier}
-use Rattle.scopes.specs.declared.Answer.the-variants.{Refused}
-use Rattle.scopes.specs.declared.look.Spot.{Spot}
-use Rattle.scopes.specs.declared.look.Spot.the-variants.{At, Nothing}
-use Rattle.scopes.specs.Step.{declared, head, Call, enter, alias, enum, function, get-alias, get-function, bad, Answer, ok, refused, done, fail, is-got, told-mark, held, full, deep, fresh, settle, close, step}
-use Rattle.scopes.specs.Flat.{Body, own, copy, Entry, Flat, flat, top, stack-names, pop, push}
-use Rattle.scopes.specs.Form.{Request, enters, exits, inserts-alias, inserts-enum, inserts-function, gets-alias, gets-function, named, call-of}
-use Rattle.scopes.specs.Rows.{length-tab, body-of, isOwn, spotted, find-spot}
-use Rattle.scopes.specs.Index.{spot-first}
-use Rattle.scopes.specs.Nav.{stack-of, current-top, Doors}
-use Rattle.scopes.specs.Staging.{is-at}
-use Rattle.scopes.specs.Note.{accepted}
-use Rattle.scopes.specs.Views.{View, ViewOutcome, ViewMeets, ViewAnswers, Added, bit-of, told, rows, entries-of, flat-of, Good, Sized, push-law, push-indexed, refusing, accepting, here-of, current-spot, declared-in, no-entry, added-of, ended, opened-last, mark-at, got-of}
+use Rattle.scope_tree.specs.declared.Answer.the-variants.{Refused}
+use Rattle.scope_tree.specs.declared.look.Spot.{Spot}
+use Rattle.scope_tree.specs.declared.look.Spot.the-variants.{At, Nothing}
+use Rattle.scope_tree.specs.Step.{declared, head, Call, enter, alias, enum, function, get-alias, get-function, bad, Answer, ok, refused, done, fail, is-got, told-mark, held, full, deep, fresh, settle, close, step}
+use Rattle.scope_tree.specs.Flat.{Body, own, copy, Entry, Flat, flat, top, stack-names, pop, push}
+use Rattle.scope_tree.specs.Form.{Request, enters, exits, inserts-alias, inserts-enum, inserts-function, gets-alias, gets-function, named, call-of}
+use Rattle.scope_tree.specs.Rows.{length-tab, body-of, isOwn, spotted, find-spot}
+use Rattle.scope_tree.specs.Index.{spot-first}
+use Rattle.scope_tree.specs.Nav.{stack-of, current-top, Doors}
+use Rattle.scope_tree.specs.Staging.{is-at}
+use Rattle.scope_tree.specs.Note.{accepted}
+use Rattle.scope_tree.specs.Views.{View, ViewOutcome, ViewMeets, ViewAnswers, Added, bit-of, told, rows, entries-of, flat-of, Good, Sized, push-law, push-indexed, refusing, accepting, here-of, current-spot, declared-in, no-entry, added-of, ended, opened-last, mark-at, got-of}
 
 pub length-names : (l : List Entry) (ss : List ℕ) → length (stack-names l ss) ≡ length ss
 unfolding stack-names
@@ -78,7 +78,7 @@ got-function t s = record { tree = λ g. got-step t s 2 g get-function (λ n. re
 -- EXIT
 abbrev pub popped : View → View
 popped t =
-    record { count = t .count; kinds = t .kinds; visible = t .visible; scopes = t .scopes; marks = t .marks; n0 = t .n0; n1 = t .n1; n2 = t .n2; n3 = t .n3; origins = t .origins; targets = t .targets; times = t .times; heads = t .heads; links = t .links; depth = t .depth - 1; stack = t .stack }
+    record { count = t .count; kinds = t .kinds; visible = t .visible; scopes = t .scopes; marks = t .marks; n0 = t .n0; n1 = t .n1; n2 = t .n2; n3 = t .n3; origins = t .origins; targets = t .targets; times = t .times; index = t .index; depth = t .depth - 1; stack = t .stack }
 
 exit-names : (l : List Entry) (ss : List ℕ) (x : Flat) → (length ss ≡ 0 → ⊥) → close flat x (stack-names l ss) ≡ (flat .closed x, ok)
 exit-names l ss x h = go (stack-names l ss) (length-names l ss)

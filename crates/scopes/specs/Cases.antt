@@ -9,9 +9,9 @@ use Rattle.names.specs.Bytes.{ascii, same, all}
 use Rattle.names.specs.Keywords.{isCrate, isMain}
 use Rattle.names.specs.Identifier.{letter, digit, class, isIdentifier}
 use Rattle.names.specs.Packed.{word, packed, sameName}
-use Rattle.scopes.specs.Step.{Answer, ok, marked, refused, shared, any-main, nav, element, stage, step, run}
-use Rattle.scopes.specs.Register.{append, find, whole, names, registered}
-use Rattle.scopes.specs.Form.{Request, enters, exits, inserts-alias, inserts-enum, inserts-function, resolves-use, gets-function, string, after-strings, names-from, local-name, elements-from, string-fault, names-fault, elements-fault, after-elements, rest-fault, use-fault, use-call, call-of, calls-of}
+use Rattle.scope_tree.specs.Step.{Answer, ok, marked, refused, shared, any-main, nav, element, stage, step, run}
+use Rattle.scope_tree.specs.Register.{append, find, whole, names, registered}
+use Rattle.scope_tree.specs.Form.{Request, enters, exits, inserts-alias, inserts-enum, inserts-function, resolves-use, gets-function, string, after-strings, names-from, local-name, elements-from, string-fault, names-fault, elements-fault, after-elements, rest-fault, use-fault, use-call, call-of, calls-of}
 
 -- a string of the bundle's form
 unfoldable pub text : String → List ℕ

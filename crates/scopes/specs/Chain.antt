@@ -10,12 +10,12 @@ use lib.Dec.{eqb}
 use lib.ListN.{length, take, drop, getD, length-append, length-take, length-drop, take-append-drop, drop-of-length-le}
 use lib.Seq.{drop-append-le, getD-at, length-take-le}
 use borrow.Author.Tests.{eq-eqb}
-use Rattle.scopes.specs.Step.{declared, used, Head, Call}
-use Rattle.scopes.specs.Register.{Scope, end, node, registered, tree-of}
-use Rattle.scopes.specs.Flat.{Body, own, copy, Entry, none, flattened, build, within, pasts, write}
-use Rattle.scopes.specs.Laws.{Has, Times, copied}
-use Rattle.scopes.specs.Sim.{Origin, made, taken}
-use Rattle.scopes.specs.Same.{has-more, has-below, behind, times-front, Known, Home, at-top, in-own, Sound, alike, same-tree}
+use Rattle.scope_tree.specs.Step.{declared, used, Head, Call}
+use Rattle.scope_tree.specs.Register.{Scope, end, node, registered, tree-of}
+use Rattle.scope_tree.specs.Flat.{Body, own, copy, Entry, none, flattened, build, within, pasts, write}
+use Rattle.scope_tree.specs.Laws.{Has, Times, copied}
+use Rattle.scope_tree.specs.Sim.{Origin, made, taken}
+use Rattle.scope_tree.specs.Same.{has-more, has-below, behind, times-front, Known, Home, at-top, in-own, Sound, alike, same-tree}
 
 -- the tree holds the entry of the number i, showing h: in a module, or in one of its modules, written-out ones too
 pub data In (i : ℕ) (h : Head) : Scope → Type 0 where

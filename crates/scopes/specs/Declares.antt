@@ -10,21 +10,21 @@ use lib.Seq.{getD-set-same, getD-set-other, take-set-le}
 use borrow.Author.Tests.{eqb-true, ne-eqb}
 use Rattle.names.specs.Packed.{packed}
 use Rattle.names.specs.Identifier.{isIdentifier}
-use Rattle.scopes.specs.declared.look.Spot.{Spot}
-use Rattle.scopes.specs.declared.look.Spot.the-variants.{At, Nothing}
-use Rattle.scopes.specs.declared.Answer.{Answer as Told}
-use Rattle.scopes.specs.declared.Answer.the-variants.{Done, Refused}
-use Rattle.scopes.specs.declared.Tree.{Tree}
+use Rattle.scope_tree.specs.declared.look.Spot.{Spot}
+use Rattle.scope_tree.specs.declared.look.Spot.the-variants.{At, Nothing}
+use Rattle.scope_tree.specs.declared.Answer.{Answer as Told}
+use Rattle.scope_tree.specs.declared.Answer.the-variants.{Done, Refused}
+use Rattle.scope_tree.specs.declared.Tree.{Tree}
 use Rattle.scopes.specs.declared.decide.Plan.{Plan}
 use Rattle.scopes.specs.declared.lent.Kind.{Kind}
-use Rattle.scopes.specs.declared.lent.Entry.{Entry}
-use Rattle.scopes.specs.Note.{accepted}
-use Rattle.scopes.specs.Form.{Request, enters, exits, inserts-alias, inserts-enum, inserts-function, resolves-use, gets-alias, gets-function}
-use Rattle.scopes.specs.Views.{View, ViewOutcome, ViewMeets, told, bit-of, no-entry, pushed, added-of, ended, ended-no, ended-yes, opened-last, current-spot, mark-at, got-of}
+use Rattle.scope_tree.specs.declared.Entry.{Entry}
+use Rattle.scope_tree.specs.Note.{accepted}
+use Rattle.scope_tree.specs.Form.{Request, enters, exits, inserts-alias, inserts-enum, inserts-function, resolves-use, gets-alias, gets-function}
+use Rattle.scope_tree.specs.Views.{View, ViewOutcome, ViewMeets, told, bit-of, no-entry, pushed, added-of, ended, ended-no, ended-yes, opened-last, current-spot, mark-at, got-of}
 use Rattle.scopes.specs.Calls.{popped, exit-root, exit-module, alias-meets, enum-meets, function-meets, enter-meets, got-alias, got-function}
-use Rattle.scopes.specs.Trees.{part, doors-of, view, Sized}
+use Rattle.scope_tree.specs.Trees.{part, index-of, doors-of, view, Sized}
 use Rattle.scopes.specs.Meets.{Meets, Answers, number-of, request, left, with-opened}
-use Rattle.scopes.specs.Pack.{view-sized, added, added-sized, shut-view, opened-view}
+use Rattle.scope_tree.specs.Pack.{view-sized, added, added-sized, shut-view, opened-view}
 use Rattle.scopes.specs.Plan.{planned-of, planned-plan, carried, carried-no, carried-yes, plan-added, plan-room, Room}
 
 abbrev of-view : Told → View → ViewOutcome
@@ -145,7 +145,7 @@ leave-module t o z =
         let count : getD (set o 10 d) 9 0 ≡ getD o 9 0 = getD-set-other o 10 9 d 0 (λ q. omega arith) in
         let depth : getD (set o 10 d) 10 0 ≡ d = getD-set-same o 10 d 0 (omega (arith, s .opened)) in
         let stack : take 9 (set o 10 d) ≡ take 9 o = take-set-le 9 o 10 d (omega arith) in
-        λ i. of-view Done (record { count = count i; kinds = part 0 (t .cells); visible = t .visible; scopes = t .scopes; marks = t .marks; n0 = t .n0; n1 = t .n1; n2 = t .n2; n3 = t .n3; origins = part 1024 (t .cells); targets = part 2048 (t .cells); times = part 3072 (t .cells); heads = part 5120 (t .cells); links = part 4096 (t .cells); depth = depth i; stack = stack i })
+        λ i. of-view Done (record { count = count i; kinds = part 0 (t .cells); visible = t .visible; scopes = t .scopes; marks = t .marks; n0 = t .n0; n1 = t .n1; n2 = t .n2; n3 = t .n3; origins = part 1024 (t .cells); targets = part 2048 (t .cells); times = part 3072 (t .cells); index = index-of (t .cells); depth = depth i; stack = stack i })
 
 -- BY ITS CODE
 abbrev pub declaring : ℕ → ℕ → ℕ → Bool → Kind

@@ -3,12 +3,12 @@ use Prim.Native.Nat.{ℕ}
 use mathlib.Core.Path.{_≡_, sym, subst, _∙_}
 use mathlib.Core.Bool.{true}
 use mathlib.Core.List.{List}
-use Rattle.scopes.specs.Step.{Head, used, Call, Answer}
-use Rattle.scopes.specs.Register.{Scope, Register, registered, tree-of}
-use Rattle.scopes.specs.Flat.{Flat, flattened, write}
-use Rattle.scopes.specs.Same.{same-answers, same-tree}
+use Rattle.scope_tree.specs.Step.{Head, used, Call, Answer}
+use Rattle.scope_tree.specs.Register.{Scope, Register, registered, tree-of}
+use Rattle.scope_tree.specs.Flat.{Flat, flattened, write}
+use Rattle.scope_tree.specs.Same.{same-answers, same-tree}
 use Rattle.scopes.specs.Chain.{In, Chain, chains, chain-from, one-entry}
-use Rattle.scopes.specs.Note.{register-of, written}
+use Rattle.scope_tree.specs.Note.{register-of, written}
 use Rattle.scopes.specs.Named.{Added}
 use Rattle.scopes.specs.Imports.{Use, Imported, was, became, module-of, imported}
 use Rattle.scopes.specs.NoRepeats.{Once, once}

@@ -11,8 +11,8 @@ use borrow.Author.Tests.{eqb-true, eqb-false, eq-eqb, ne-eqb}
 use Rattle.names.specs.declared.Name.{Name}
 use Rattle.names.specs.Packed.{packed}
 use Rattle.names.specs.Identifier.{isIdentifier}
-use Rattle.scopes.specs.Step.{Call, enter, bad}
-use Rattle.scopes.specs.Form.{after-string, after-strings, after-element, or-else, string-fault, names-fault, elements-fault, after-elements, rest-fault, use-fault, Request, resolves-use, named, use-call, call-of}
+use Rattle.scope_tree.specs.Step.{Call, enter, bad}
+use Rattle.scope_tree.specs.Form.{after-string, after-strings, after-element, or-else, string-fault, names-fault, elements-fault, after-elements, rest-fault, use-fault, Request, resolves-use, named, use-call, call-of}
 
 -- THE FIELDS OF A USE in byte order, each with its own number, or 0: cut, count, form
 unfoldable pub segment-fields : List ℕ → ℕ → ℕ → List ℕ

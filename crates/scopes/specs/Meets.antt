@@ -4,15 +4,15 @@ use mathlib.Core.Path.{_≡_}
 use mathlib.Core.Bool.{Bool, true, false, cond}
 use mathlib.Core.List.{List}
 use lib.Dec.{eqb}
-use Rattle.scopes.specs.Step.{step}
-use Rattle.scopes.specs.Flat.{flat}
-use Rattle.scopes.specs.Note.{accepted}
-use Rattle.scopes.specs.Form.{Request, enters, exits, inserts-alias, inserts-enum, inserts-function, resolves-use, gets-alias, gets-function, call-of}
-use Rattle.scopes.specs.Views.{told}
-use Rattle.scopes.specs.Trees.{Good, flat-of}
-use Rattle.scopes.specs.declared.Tree.{Tree}
-use Rattle.scopes.specs.declared.Answer.{Answer as Told}
-use Rattle.scopes.specs.declared.Answer.the-variants.{Done, Mark, Refused}
+use Rattle.scope_tree.specs.Step.{step}
+use Rattle.scope_tree.specs.Flat.{flat}
+use Rattle.scope_tree.specs.Note.{accepted}
+use Rattle.scope_tree.specs.Form.{Request, enters, exits, inserts-alias, inserts-enum, inserts-function, resolves-use, gets-alias, gets-function, call-of}
+use Rattle.scope_tree.specs.Views.{told}
+use Rattle.scope_tree.specs.Trees.{Good, flat-of}
+use Rattle.scope_tree.specs.declared.Tree.{Tree}
+use Rattle.scope_tree.specs.declared.Answer.{Answer as Told}
+use Rattle.scope_tree.specs.declared.Answer.the-variants.{Done, Mark, Refused}
 use Rattle.scopes.specs.declared.Outcome.{Outcome}
 
 -- the number that a refusal tells; 0 where the call was accepted

@@ -3,10 +3,10 @@ use Prim.Native.Nat.{ℕ}
 use mathlib.Core.Path.{_≡_, refl, sym, _∙_}
 use mathlib.Core.Bool.{Bool, true, false, cond, not, _&&_}
 use mathlib.Core.List.{List, [], _∷_, List·Memᴰ, List·Memᴰ·head, List·Memᴰ·tail}
-use Rattle.scopes.specs.Step.{used, Head, head, Elem, Found, missing, got, held}
-use Rattle.scopes.specs.Register.{Scope, end, node, append, find, Register, register}
-use Rattle.scopes.specs.Laws.{append-end}
-use Rattle.scopes.specs.Note.{bring, bring-all}
+use Rattle.scope_tree.specs.Step.{used, Head, head, Elem, Found, missing, got, held}
+use Rattle.scope_tree.specs.Register.{Scope, end, node, append, find, Register, register}
+use Rattle.scope_tree.specs.Laws.{append-end}
+use Rattle.scope_tree.specs.Note.{bring, bring-all}
 
 -- h, with b inside, is what the element e of the use names in the module c
 pub record Named (c : Scope) (v : Bool) (es : List Elem) (h : Head) (b : Scope) : Type 0 where

@@ -7,9 +7,9 @@ use mathlib.Core.List.{List, [], _∷_}
 use borrow.Author.Tests.{eqb-true, eq-eqb}
 use Rattle.names.specs.declared.Name.{Name}
 use Rattle.names.specs.Packed.{sameName}
-use Rattle.scopes.specs.Step.{same-refl, Head, Call, Found, missing, got, is-got}
-use Rattle.scopes.specs.Register.{Scope, end, node, append, is, find, Opened, Register, shut, whole, leave, register, first-register, registered, tree-of}
-use Rattle.scopes.specs.Sim.{SameFound, no-one, both, Simulation, run-ok}
+use Rattle.scope_tree.specs.Step.{same-refl, Head, Call, Found, missing, got, is-got}
+use Rattle.scope_tree.specs.Register.{Scope, end, node, append, is, find, Opened, Register, shut, whole, leave, register, first-register, registered, tree-of}
+use Rattle.scope_tree.specs.Sim.{SameFound, no-one, both, Simulation, run-ok}
 
 -- each entry has none of its kind and name after it, in each module
 abbrev pub Once : Scope → Type 0

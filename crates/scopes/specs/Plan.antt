@@ -9,12 +9,12 @@ use borrow.Author.Tests.{eq-eqb, ne-eqb, lt-ltb, le-ltb, le-leb, lt-leb}
 use Rattle.names.specs.declared.Name.{Name}
 use Rattle.names.specs.Packed.{packed}
 use Rattle.names.specs.Identifier.{isIdentifier}
-use Rattle.scopes.specs.Index.{look-up}
-use Rattle.scopes.specs.Staging.{is-at}
-use Rattle.scopes.specs.Views.{View, Added, bit-of, arrays-of, pushed, here-of, current-spot, no-entry, added-of}
+use Rattle.scope_tree.specs.Index.{look-up}
+use Rattle.scope_tree.specs.Staging.{is-at}
+use Rattle.scope_tree.specs.Views.{View, Added, bit-of, arrays-of, pushed, here-of, current-spot, no-entry, added-of}
 use Rattle.scopes.specs.declared.decide.Plan.{Plan}
-use Rattle.scopes.specs.declared.Tree.{Tree}
-use Rattle.scopes.specs.Trees.{view}
+use Rattle.scope_tree.specs.declared.Tree.{Tree}
+use Rattle.scope_tree.specs.Trees.{view}
 
 abbrev pub no-name : Name
 no-name = record { w0 = 0; w1 = 0; w2 = 0; w3 = 0 }

@@ -9,12 +9,12 @@ use lib.Dec.{eqb, ltb, leb}
 use lib.ListN.{length, getD, length-append}
 use Rattle.names.specs.declared.Name.{Name}
 use Rattle.names.specs.Packed.{packed}
-use Rattle.scopes.specs.Step.{used, Head, Elem, Call, enter, alias, enum, function, use′, get-alias, get-function, bad, Answer, ok, refused, Found, missing, got, Model, Tried, done, fail, shared, any-main, after, head, bind, held, full, deep, nav, element, stage, use-of, settle, step}
-use Rattle.scopes.specs.Note.{bring, bring-all, noted, use-bring}
+use Rattle.scope_tree.specs.Step.{used, Head, Elem, Call, enter, alias, enum, function, use′, get-alias, get-function, bad, Answer, ok, refused, Found, missing, got, Model, Tried, done, fail, shared, any-main, after, head, bind, held, full, deep, nav, element, stage, use-of, settle, step}
+use Rattle.scope_tree.specs.Note.{bring, bring-all, noted, use-bring}
 use Rattle.names.specs.Identifier.{isIdentifier}
-use Rattle.scopes.specs.Register.{Scope, Register, register}
-use Rattle.scopes.specs.Flat.{Flat, Place, top, copy, flat}
-use Rattle.scopes.specs.Form.{Request, enters, exits, inserts-alias, inserts-enum, inserts-function, resolves-use, gets-alias, gets-function, string, after-string, after-strings, after-element, after-elements, or-else, string-fault, names-fault, elements-fault, rest-fault, use-fault, named, use-call, call-of}
+use Rattle.scope_tree.specs.Register.{Scope, Register, register}
+use Rattle.scope_tree.specs.Flat.{Flat, Place, top, copy, flat}
+use Rattle.scope_tree.specs.Form.{Request, enters, exits, inserts-alias, inserts-enum, inserts-function, resolves-use, gets-alias, gets-function, string, after-string, after-strings, after-element, after-elements, or-else, string-fault, names-fault, elements-fault, rest-fault, use-fault, named, use-call, call-of}
 use Rattle.scopes.specs.Refusals.{NoCrate, Argument, Formed, so-far, Takes, Taken, as-type, as-function, as-module, NoModule, PrivateModule, NoItem, PrivateItem, Clash, AliasMain, ModuleTwice, TypeTwice, FunctionTwice, NotInside, TreeFull}
 use Rattle.scopes.specs.RefusalLaws.{NavSays, nav-good, nav-41, nav-42, nav-says, StageSays, stage-good, stage-bad, stage-says, refusals}
 

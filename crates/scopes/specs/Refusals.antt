@@ -8,8 +8,8 @@ use mathlib.Core.List.{List, [], _∷_, _++_, List·Memᴰ}
 use lib.Dec.{eqb}
 use lib.ListN.{length}
 use Rattle.names.specs.declared.Name.{Name}
-use Rattle.scopes.specs.Step.{Head, Elem, Call, enter, exit, alias, enum, function, use′, get-alias, get-function, bad, missing, got, Model, held}
-use Rattle.scopes.specs.Note.{along, bring-all, noted}
+use Rattle.scope_tree.specs.Step.{Head, Elem, Call, enter, exit, alias, enum, function, use′, get-alias, get-function, bad, missing, got, Model, held}
+use Rattle.scope_tree.specs.Note.{along, bring-all, noted}
 
 -- the segments `front` lead the open path
 pub record Leads (front names : List Name) : Type 0 where

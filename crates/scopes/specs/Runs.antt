@@ -4,20 +4,20 @@ use native.Mathlib.Omega.{arith}
 use Prim.Native.Nat.{ℕ, zero}
 use mathlib.Core.Path.{_≡_, refl, ap, sym, subst, _∙_}
 use mathlib.Core.List.{List, [], _∷_}
-use lib.ListN.{length, replicate, length-replicate, getD-replicate}
-use Rattle.scopes.specs.declared.Tree.{Tree}
-use Rattle.scopes.specs.declared.Answer.{Answer as Told}
+use lib.ListN.{length, replicate, length-replicate}
+use Rattle.scope_tree.specs.declared.Tree.{Tree}
+use Rattle.scope_tree.specs.declared.Answer.{Answer as Told}
 use Rattle.scopes.specs.declared.Outcome.{Outcome}
-use Rattle.scopes.specs.Step.{Answer, step, run}
-use Rattle.scopes.specs.Flat.{Flat, flat, first-flat, flattened}
-use Rattle.scopes.specs.Form.{Request, call-of, calls-of}
-use Rattle.scopes.specs.Rows.{tab}
-use Rattle.scopes.specs.Index.{last-of}
-use Rattle.scopes.specs.Nav.{stack-of}
-use Rattle.scopes.specs.Views.{told}
-use Rattle.scopes.specs.Views as views
-use Rattle.scopes.specs.Trees.{cleared, Good, flat-of}
-use Rattle.scopes.specs.Pack.{cleared-view}
+use Rattle.scope_tree.specs.Step.{Answer, step, run}
+use Rattle.scope_tree.specs.Flat.{Flat, flat, first-flat, flattened}
+use Rattle.scope_tree.specs.Form.{Request, call-of, calls-of}
+use Rattle.scope_tree.specs.Rows.{tab}
+use Rattle.scope_tree.specs.Index.{walked-none}
+use Rattle.scope_tree.specs.Nav.{stack-of}
+use Rattle.scope_tree.specs.Views.{told}
+use Rattle.scope_tree.specs.Views as views
+use Rattle.scope_tree.specs.Trees.{cleared, Good, flat-of}
+use Rattle.scope_tree.specs.Pack.{cleared-view, clear-get}
 use Rattle.scopes.specs.Meets.{Meets, Answers}
 use Rattle.scopes.specs.Demand.{Demand, demand}
 
@@ -41,20 +41,19 @@ pub first-is : flat-of cleared ≡ first-flat
 first-is = ap views.flat-of cleared-view ∙ first-view
 
 good-view : views.Good views.cleared
-unfolding last-of
 good-view =
     record {
       small = omega arith;
       shallow = omega arith;
       doors = λ j h. absurd (omega arith);
-      indexed = record { heads = λ b h. getD-replicate 1024 b 0 0 h; links = λ i h. absurd (omega arith) };
+      indexed = record { walked = walked-none _ _ _ (λ σ. clear-get 3072 σ) };
     }
 
 pub first-good : Good cleared
 first-good =
     let z : (n : ℕ) → length (replicate n zero) ≡ n = λ n. length-replicate {A = ℕ} n zero in
     record {
-      sized = record { opened = z 11; cells = z 6144; visible = z 1024; scopes = z 1024; marks = z 1024; n0 = z 1024; n1 = z 1024; n2 = z 1024; n3 = z 1024 };
+      sized = record { opened = z 11; cells = z 7168; visible = z 1024; scopes = z 1024; marks = z 1024; n0 = z 1024; n1 = z 1024; n2 = z 1024; n3 = z 1024 };
       good = subst views.Good (sym cleared-view) good-view;
     }
 

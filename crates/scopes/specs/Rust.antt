@@ -6,11 +6,11 @@ use mathlib.Core.Bool.{Bool, true, false, cond}
 use mathlib.Core.List.{List, [], _∷_, _++_}
 use borrow.Author.Tests.{eq-eqb}
 use Rattle.names.specs.declared.Name.{Name}
-use Rattle.scopes.specs.Step.{same-refl, Head, Call, Found, missing, got, is-got, Model, run}
-use Rattle.scopes.specs.Register.{Scope, end, node, append, is, find, Opened, Register, shut, whole, names, leave, register, first-register}
-use Rattle.scopes.specs.Flat.{flattened, write}
-use Rattle.scopes.specs.Sim.{SameFound, no-one, both, Simulation, run-ok}
-use Rattle.scopes.specs.Same.{same-answers, same-tree}
+use Rattle.scope_tree.specs.Step.{same-refl, Head, Call, Found, missing, got, is-got, Model, run}
+use Rattle.scope_tree.specs.Register.{Scope, end, node, append, is, find, Opened, Register, shut, whole, names, leave, register, first-register}
+use Rattle.scope_tree.specs.Flat.{flattened, write}
+use Rattle.scope_tree.specs.Sim.{SameFound, no-one, both, Simulation, run-ok}
+use Rattle.scope_tree.specs.Same.{same-answers, same-tree}
 
 pub record Rust : Type 0 where
   pub total : ℕ

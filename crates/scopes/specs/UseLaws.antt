@@ -11,17 +11,17 @@ use lib.Seq.{getD-set-same, getD-set-other, drop-append-le}
 use borrow.Author.Tests.{ne-eqb, eqb-true}
 use Rattle.names.specs.declared.Name.{Name}
 use Rattle.names.specs.Packed.{packed}
-use Rattle.scopes.specs.declared.look.Spot.{Spot}
-use Rattle.scopes.specs.declared.look.Spot.the-variants.{At, Nothing}
-use Rattle.scopes.specs.declared.stage.Choice.{Choice}
-use Rattle.scopes.specs.Step.{used, head, Elem, got, Tried, done, fail, is-got, number, after, bind, held, import, attempt, judge, element, stage}
-use Rattle.scopes.specs.Register.{is}
-use Rattle.scopes.specs.Flat.{copy, Entry, Flat, Place, inside, look, flat, top}
-use Rattle.scopes.specs.Form.{string, local-name, after-element, element-at, elements-from}
-use Rattle.scopes.specs.Rows.{tab, tab-agree, length-tab, Arrays, row, row-at, isOwn, isRow, hit, first-in, looked, spotted, find-spot, placed, inside-site}
-use Rattle.scopes.specs.Index.{look-up, IndexOf, spot-found, spot-first}
-use Rattle.scopes.specs.Staging.{Staged, is-at, any-to, numbered, put, staged-test, staged-held, no-choice, with-choice, sought, occupied, inside-of, chosen, choice-of, staged-item, verdict-of, staged-element, staged-all, item-count, element-count}
-use Rattle.scopes.specs.Views.{staged-row}
+use Rattle.scope_tree.specs.declared.look.Spot.{Spot}
+use Rattle.scope_tree.specs.declared.look.Spot.the-variants.{At, Nothing}
+use Rattle.scope_tree.specs.declared.stage.Choice.{Choice}
+use Rattle.scope_tree.specs.Step.{used, head, Elem, got, Tried, done, fail, is-got, number, after, bind, held, import, attempt, judge, element, stage}
+use Rattle.scope_tree.specs.Register.{is}
+use Rattle.scope_tree.specs.Flat.{copy, Entry, Flat, Place, inside, look, flat, top}
+use Rattle.scope_tree.specs.Form.{string, local-name, after-element, element-at, elements-from}
+use Rattle.scope_tree.specs.Rows.{tab, tab-agree, length-tab, Arrays, row, row-at, isOwn, isRow, hit, first-in, looked, spotted, find-spot, placed, inside-site}
+use Rattle.scope_tree.specs.Index.{look-up, IndexOf, spot-found, spot-first}
+use Rattle.scope_tree.specs.Staging.{Staged, is-at, any-to, numbered, put, staged-test, staged-held, no-choice, with-choice, sought, occupied, inside-of, chosen, choice-of, staged-item, verdict-of, staged-element, staged-all, item-count, element-count}
+use Rattle.scope_tree.specs.Views.{staged-row}
 
 -- WHETHER AN ENTRY IS AMONG THEM
 unfoldable any-hit : ℕ → ℕ → Name → List Entry → Bool
@@ -149,7 +149,7 @@ module _ (A : Arrays) (total here scope time : ℕ) (ss : List ℕ) (hh : top ss
   kind-of : (k : ℕ) (n : Name) (e : ℕ) → sought A total here scope time k n ≡ At e → getD (A .kinds) e 0 ≡ k
   unfolding sought isRow
   kind-of k n e q =
-      let f = spot-found (A .heads) (A .links) (A .scopes) (A .kinds) (A .n0) (A .n1) (A .n2) (A .n3) scope time k n e q in
+      let f = spot-found (A .index) (A .scopes) (A .kinds) (A .n0) (A .n1) (A .n2) (A .n3) scope time k n e q in
       eqb-true (getD (A .kinds) e 0) k (part (eqb (getD (A .scopes) e 0) scope) (eqb (getD (A .kinds) e 0) k) _ (f .holds))
     where
       part : (a b c : Bool) → a && (b && c) ≡ true → b ≡ true

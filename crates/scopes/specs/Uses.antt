@@ -10,14 +10,14 @@ use borrow.Author.Tests.{eq-eqb, ne-eqb, lt-ltb, le-ltb}
 use Rattle.names.specs.declared.Name.{Name}
 use Rattle.names.specs.Packed.{packed}
 use Rattle.names.specs.Keywords.{isCrate}
-use Rattle.scopes.specs.declared.look.Way.{Way}
-use Rattle.scopes.specs.Step.{Answer, ok, refused, Tried, done, fail, any-main, bind, shared, nav, stage, settle, use-of, step}
-use Rattle.scopes.specs.Flat.{Entry, Flat, flat, top, stack-names}
-use Rattle.scopes.specs.Form.{Request, resolves-use, string, after-string, after-strings, names-from, elements-from, led-by-crate, use-call, call-of, use-fault, rest-fault, names-fault, elements-fault, after-elements, or-else}
-use Rattle.scopes.specs.Rows.{tab, length-tab, placed}
-use Rattle.scopes.specs.Nav.{stack-of, current-top, Doors, way, Arrived}
-use Rattle.scopes.specs.Staging.{Staged, refusal, staged-all, element-count}
-use Rattle.scopes.specs.Views.{View, ViewMeets, bit-of, arrays-of, rows, entries-of, flat-of, Good, Sized, refusing, accepting, here-of, committed, staged-row, commits}
+use Rattle.scope_tree.specs.declared.look.Way.{Way}
+use Rattle.scope_tree.specs.Step.{Answer, ok, refused, Tried, done, fail, any-main, bind, shared, nav, stage, settle, use-of, step}
+use Rattle.scope_tree.specs.Flat.{Entry, Flat, flat, top, stack-names}
+use Rattle.scope_tree.specs.Form.{Request, resolves-use, string, after-string, after-strings, names-from, elements-from, led-by-crate, use-call, call-of, use-fault, rest-fault, names-fault, elements-fault, after-elements, or-else}
+use Rattle.scope_tree.specs.Rows.{tab, length-tab, placed}
+use Rattle.scope_tree.specs.Nav.{stack-of, current-top, Doors, way, Arrived}
+use Rattle.scope_tree.specs.Staging.{Staged, refusal, staged-all, element-count}
+use Rattle.scope_tree.specs.Views.{View, ViewMeets, bit-of, arrays-of, rows, entries-of, flat-of, Good, Sized, refusing, accepting, here-of, committed, staged-row, commits}
 use Rattle.scopes.specs.Calls.{length-names, length-stack}
 use Rattle.scopes.specs.UseLaws.{Sized-staged, stage-same}
 
@@ -40,19 +40,19 @@ accepted-meets t q x g h =
     }
 
 -- what is staged is at most three entries an element
-all-count : (A : Rattle.scopes.specs.Rows.Arrays) (total here scope time : ℕ) (d : List ℕ) (n p : ℕ) (s : Staged) → staged-all A total here scope time d n p s .count ≤ s .count + 3 * n
+all-count : (A : Rattle.scope_tree.specs.Rows.Arrays) (total here scope time : ℕ) (d : List ℕ) (n p : ℕ) (s : Staged) → staged-all A total here scope time d n p s .count ≤ s .count + 3 * n
 unfolding staged-all
 all-count A total here scope time d zero p s = omega arith
 all-count A total here scope time d (suc n) p s =
-    let x = Rattle.scopes.specs.Staging.staged-element A total here scope time s (packed (string d p)) (Rattle.scopes.specs.Form.local-name d p) in
-    let c = element-count A total here scope time s (packed (string d p)) (Rattle.scopes.specs.Form.local-name d p) in
-    go x _ (eqb (x .number) 0) (all-count A total here scope time d n (Rattle.scopes.specs.Form.after-element d p) x) c
+    let x = Rattle.scope_tree.specs.Staging.staged-element A total here scope time s (packed (string d p)) (Rattle.scope_tree.specs.Form.local-name d p) in
+    let c = element-count A total here scope time s (packed (string d p)) (Rattle.scope_tree.specs.Form.local-name d p) in
+    go x _ (eqb (x .number) 0) (all-count A total here scope time d n (Rattle.scope_tree.specs.Form.after-element d p) x) c
   where
     go : (x y : Staged) (b : Bool) → y .count ≤ x .count + 3 * n → x .count ≤ s .count + 3 → cond b y x .count ≤ s .count + 3 * suc n
     go x y true h k = omega arith
     go x y false h k = omega arith
 
-pub few-staged : (A : Rattle.scopes.specs.Rows.Arrays) (total here scope time : ℕ) (d : List ℕ) (n p : ℕ) (r : Staged) → r ≡ staged-all A total here scope time d n p (refusal 0) → n ≤ 32 → r .count ≤ 96
+pub few-staged : (A : Rattle.scope_tree.specs.Rows.Arrays) (total here scope time : ℕ) (d : List ℕ) (n p : ℕ) (r : Staged) → r ≡ staged-all A total here scope time d n p (refusal 0) → n ≤ 32 → r .count ≤ 96
 few-staged A total here scope time d n p r q h = rw q (let c = all-count A total here scope time d n p (refusal 0) in omega arith)
 
 -- THE BOUNDS THAT THE FORM GIVES
@@ -109,7 +109,7 @@ module _ (t : View) (s : List ℕ) (v : Bool) where
     abbrev path : List Name
     path = names-from s (pred (getD s 0 0)) (after-string s 1)
 
-    abbrev elems : List Rattle.scopes.specs.Step.Elem
+    abbrev elems : List Rattle.scope_tree.specs.Step.Elem
     elems = elements-from s (getD s (after-strings s (getD s 0 0) 1) 0) (after-strings s (getD s 0 0) 1 + 1)
 
     stepped : step flat (flat-of t) (call-of (resolves-use s v)) ≡ settle flat (flat-of t) (use-of flat (flat-of t) (led-by-crate s) path v elems)
@@ -127,7 +127,7 @@ module _ (t : View) (s : List ℕ) (v : Bool) where
       use-no-crate z = refused-meets t (resolves-use s v) 40 (λ g. stepped ∙ rw (led, z))
 
       module _ (bz : b ≡ true) (a : ℕ) (aq : (a ≡ after-string s 1) × (a ≤ 1 + 256)) (w : Way)
-          (wq : Arrived (t .kinds) (t .visible) (t .scopes) (t .n0) (t .n1) (t .n2) (t .n3) (t .origins) (t .targets) (t .times) (t .heads) (t .links) (t .count) (t .stack) (t .depth) s a (n - 1) w) where
+          (wq : Arrived (t .kinds) (t .visible) (t .scopes) (t .n0) (t .n1) (t .n2) (t .n3) (t .origins) (t .targets) (t .times) (t .index) (t .count) (t .stack) (t .depth) s a (n - 1) w) where
         walk : Good t → nav flat (shared (flat .names (flat-of t)) path) 0 path (flat .root (flat-of t)) ≡ way (rows t) w
         walk g =
             let p : pred (getD s 0 0) ≡ n - 1 = omega (arith, nq .0) in

@@ -1,23 +1,23 @@
 // What a call comes to on the tree as it is: a number, or what it would add. Nothing here changes a tree.
 ghost use mathlib.Core.Path.{_≡_};
 ghost use Prim.Native.Nat.{_+_, _<_, _≤_};
-ghost use Rattle.scopes.specs.Views.{got-of};
-ghost use Rattle.scopes.specs.Trees.{packed-in, view};
+ghost use Rattle.scope_tree.specs.Views.{got-of};
+ghost use Rattle.scope_tree.specs.Trees.{packed-in, view};
 ghost use Rattle.scopes.specs.Plan.{no-plan, planned-of};
-ghost use Rattle.scopes.specs.Batches.{staged-of};
-ghost use Rattle.scopes.specs.Commits.{Decided};
-use crate::Answer;
-use crate::CELLS;
-use crate::COUNT;
-use crate::DEPTH;
-use crate::OPENED;
-use crate::form;
-use crate::look;
-use crate::look::Spot;
-use crate::stage;
-use crate::stage::Batch;
-use crate::stage::refused;
+ghost use Rattle.scope_tree.specs.Batches.{staged-of};
+ghost use Rattle.scopes.specs.Decided.{Decided};
 use names::Name;
+use scope_tree::Answer;
+use scope_tree::CELLS;
+use scope_tree::COUNT;
+use scope_tree::DEPTH;
+use scope_tree::OPENED;
+use scope_tree::form;
+use scope_tree::look;
+use scope_tree::look::Spot;
+use scope_tree::stage;
+use scope_tree::stage::Batch;
+use scope_tree::stage::refused;
 
 // What a declaration comes to: number 0 with the scope and the name of the entry, or a number.
 pub struct Plan {

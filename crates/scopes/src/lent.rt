@@ -4,42 +4,28 @@ ghost use mathlib.Core.Path.{_≡_};
 ghost use mathlib.Core.Bool.{true};
 ghost use lib.ListN.{getD};
 ghost use Prim.Native.Nat.{_+_, _<_, _≤_};
-ghost use Rattle.scopes.specs.Form.{resolves-use};
-ghost use Rattle.scopes.specs.Views.{bit-of};
-ghost use Rattle.scopes.specs.Trees.{packed-in};
-ghost use Rattle.scopes.specs.Pack.{added};
+ghost use Rattle.scope_tree.specs.Form.{resolves-use};
+ghost use Rattle.scope_tree.specs.Views.{bit-of};
+ghost use Rattle.scope_tree.specs.Trees.{packed-in};
+ghost use Rattle.scope_tree.specs.Pack.{added};
 ghost use Rattle.scopes.specs.Commits.{filled};
-ghost use Rattle.scopes.specs.Batches.{staged-of};
+ghost use Rattle.scope_tree.specs.Batches.{staged-of};
 ghost use Rattle.scopes.specs.Meets.{Meets, request, left, Leaves};
 ghost use Rattle.scopes.specs.Declares.{Declares, kind-of, asked-of};
-use crate::Answer;
-use crate::CELLS;
-use crate::COUNT;
-use crate::DEPTH;
-use crate::HEADS;
-use crate::LINKS;
-use crate::OPENED;
-use crate::ORIGINS;
-use crate::TARGETS;
-use crate::TIMES;
 use crate::decide;
-use crate::look;
-use crate::stage::Batch;
-use crate::stage::entry_at;
-use names::Name;
-
-pub struct Entry {
-    pub kind: u16,
-    pub visible: u8,
-    pub scope: u16,
-    pub mark: u16,
-    pub name: Name,
-    pub origin: u16,
-    pub target: u16,
-    pub moment: u16,
-    // whether a module opens
-    pub opens: bool,
-}
+use scope_tree::Answer;
+use scope_tree::CELLS;
+use scope_tree::COUNT;
+use scope_tree::DEPTH;
+use scope_tree::Entry;
+use scope_tree::INDEX;
+use scope_tree::OPENED;
+use scope_tree::ORIGINS;
+use scope_tree::TARGETS;
+use scope_tree::TIMES;
+use scope_tree::look;
+use scope_tree::stage::Batch;
+use scope_tree::stage::entry_at;
 
 // An entry at the tree's end, and a module opened with it.
 fn add(
@@ -59,8 +45,7 @@ fn add(
     ensures { λ _. ⌜ packed-in (now (opened .exit)) (now (cells .exit)) (now (visible .exit)) (now (scopes .exit)) (now (marks .exit)) (now (n0 .exit)) (now (n1 .exit)) (now (n2 .exit)) (now (n3 .exit)) ≡ added at (packed-in (now (opened .entry)) (now (cells .entry)) (now (visible .entry)) (now (scopes .entry)) (now (marks .entry)) (now (n0 .entry)) (now (n1 .entry)) (now (n2 .entry)) (now (n3 .entry))) entry ⌝ }
 {
     let d = look::wide(opened[DEPTH]);
-    let b = look::bucket(entry.scope, entry.kind, entry.name);
-    let old = cells[HEADS + b];
+    let b = look::free_slot(&*cells, entry.scope, entry.kind, entry.name);
     let next = (at + 1) as u16;
     visible[at] = entry.visible;
     scopes[at] = entry.scope;
@@ -73,8 +58,7 @@ fn add(
     cells[ORIGINS + at] = entry.origin;
     cells[TARGETS + at] = entry.target;
     cells[TIMES + at] = entry.moment;
-    cells[LINKS + at] = old;
-    cells[HEADS + b] = next;
+    cells[INDEX + b] = next;
     opened[COUNT] = next;
     if entry.opens {
         opened[d] = next;

@@ -7,23 +7,23 @@ use mathlib.Core.Bool.{Bool, true, false, cond}
 use mathlib.Core.List.{List, [], _∷_}
 use mathlib.Core.Logic.{_⊎_, inl, inr}
 use lib.Dec.{eqb, ltb}
-use lib.ListN.{length, getD, set, take, drop, drop-of-length-le, replicate, length-replicate, getD-replicate}
+use lib.ListN.{length, getD, set, take, drop, drop-of-length-le, replicate, length-replicate}
 use lib.Seq.{take-all}
 use borrow.Author.Tests.{eq-eqb, ne-eqb, lt-ltb, le-ltb}
-use Rattle.scopes.specs.declared.Tree.{Tree}
+use Rattle.scope_tree.specs.declared.Tree.{Tree}
 use Rattle.scopes_c.specs.declared.Step.{Step}
-use Rattle.scopes.specs.declared.Answer.{Answer as Told}
+use Rattle.scope_tree.specs.declared.Answer.{Answer as Told}
 use Rattle.scopes.specs.declared.Outcome.{Outcome}
-use Rattle.scopes.specs.declared.Answer.the-variants.{Done, Mark, Refused}
-use Rattle.scopes.specs.Step.{Answer, ok, marked, refused, step}
-use Rattle.scopes.specs.Flat.{Flat, flat, first-flat}
-use Rattle.scopes.specs.Form.{Request, enters, exits, inserts-alias, inserts-enum, inserts-function, resolves-use, gets-alias, gets-function, call-of}
-use Rattle.scopes.specs.Rows.{tab}
-use Rattle.scopes.specs.Index.{last-of}
-use Rattle.scopes.specs.Nav.{stack-of}
-use Rattle.scopes.specs.Views.{told}
-use Rattle.scopes.specs.Trees.{part, cleared, flat-of, Good}
-use Rattle.scopes.specs.Pack.{part-clear}
+use Rattle.scope_tree.specs.declared.Answer.the-variants.{Done, Mark, Refused}
+use Rattle.scope_tree.specs.Step.{Answer, ok, marked, refused, step}
+use Rattle.scope_tree.specs.Flat.{Flat, flat, first-flat}
+use Rattle.scope_tree.specs.Form.{Request, enters, exits, inserts-alias, inserts-enum, inserts-function, resolves-use, gets-alias, gets-function, call-of}
+use Rattle.scope_tree.specs.Rows.{tab}
+use Rattle.scope_tree.specs.Index.{walked-none}
+use Rattle.scope_tree.specs.Nav.{stack-of}
+use Rattle.scope_tree.specs.Views.{told}
+use Rattle.scope_tree.specs.Trees.{part, cleared, flat-of, Good}
+use Rattle.scope_tree.specs.Pack.{index-clear, clear-get}
 use Rattle.scopes.specs.Meets.{Meets, Answers, request, declares}
 use Rattle.scopes.specs.Meets as meets
 use Rattle.scopes.specs.Runs.{first-is, first-good}
@@ -143,23 +143,23 @@ turned-lent {t} {u} {q} {o} {a} {n} e m y = subst (λ (x : Order). Turned t x n 
 -- no entry, no open module
 abbrev pub emptied : Tree → Tree
 emptied t =
-    record { opened = replicate 11 0; cells = replicate 6144 0; visible = t .visible; scopes = t .scopes; marks = t .marks; n0 = t .n0; n1 = t .n1; n2 = t .n2; n3 = t .n3 }
+    record { opened = replicate 11 0; cells = replicate 7168 0; visible = t .visible; scopes = t .scopes; marks = t .marks; n0 = t .n0; n1 = t .n1; n2 = t .n2; n3 = t .n3 }
 
 pub turned-emptied : (t : Tree) {o : Order} → clears ≡ o → Turned t o 0 (emptied t)
-unfolding tab stack-of last-of
+unfolding tab stack-of
 turned-emptied t {o} e = subst (λ (x : Order). Turned t x 0 (emptied t)) e (record { good = good; tree = λ g. refl; said = λ g. refl })
   where
     good : Good t → Good (emptied t)
     good g =
         let z = g .sized in
         record {
-          sized = record { opened = length-replicate {A = ℕ} 11 zero; cells = length-replicate {A = ℕ} 6144 zero; visible = z .visible; scopes = z .scopes; marks = z .marks; n0 = z .n0; n1 = z .n1; n2 = z .n2; n3 = z .n3 };
+          sized = record { opened = length-replicate {A = ℕ} 11 zero; cells = length-replicate {A = ℕ} 7168 zero; visible = z .visible; scopes = z .scopes; marks = z .marks; n0 = z .n0; n1 = z .n1; n2 = z .n2; n3 = z .n3 };
           good =
               record {
                 small = omega arith;
                 shallow = omega arith;
                 doors = λ j h. absurd (omega arith);
-                indexed = record { heads = λ b h. ap (λ (x : List ℕ). getD x b 0) (part-clear 5120 6144 (omega arith)) ∙ getD-replicate 1024 b 0 0 h; links = λ i h. absurd (omega arith) };
+                indexed = record { walked = walked-none _ _ _ (λ σ. ap (λ (x : List ℕ). getD x σ 0) index-clear ∙ clear-get 3072 σ) };
               };
         }
 

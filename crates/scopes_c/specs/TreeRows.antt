@@ -9,10 +9,10 @@ use lib.Dec.{eqb, ltb}
 use lib.ListN.{length, drop, getD, set, drop-of-length-le, length-set}
 use lib.Seq.{drop-cons}
 use Rattle.names.specs.declared.Name.{Name}
-use Rattle.scopes.specs.Step.{Came, declared, used}
-use Rattle.scopes.specs.Flat.{Body, own, copy, Entry, none}
-use Rattle.scopes.specs.Rows.{tab, length-tab, getD-tab, isOwn, row, row-at, name-at, came-of, body-of}
-use Rattle.scopes.specs.Views.{View, rows, entries-of}
+use Rattle.scope_tree.specs.Step.{Came, declared, used}
+use Rattle.scope_tree.specs.Flat.{Body, own, copy, Entry, none}
+use Rattle.scope_tree.specs.Rows.{tab, length-tab, getD-tab, isOwn, row, row-at, name-at, came-of, body-of}
+use Rattle.scope_tree.specs.Views.{View, rows, entries-of}
 use Rattle.scopes_c.specs.Lists.{put-at, written}
 
 -- 0 for a declaration, else the number of the entry copied, plus one

@@ -428,9 +428,12 @@ fn hash(name: &str) -> u64 {
         let word = bytes[8 * at..8 * at + 8].try_into().expect("eight bytes");
         u64::from_be_bytes(word)
     };
-    let primes = [4294967291, 4294967279, 4294967231, 4294967197];
-    let words: u64 = (0..4).map(|at| word(at) % primes[at]).sum();
-    (words + 65537 + 2 * 19) * 2654435 / 65536 % 1024
+    let high: [u64; 4] = [165902239, 232471937, 176714393, 150740719];
+    let low: [u64; 4] = [189812533, 220889051, 215493451, 182388329];
+    let words: u64 = (0..4)
+        .map(|at| (word(at) >> 32) * high[at] + (word(at) & 0xffff_ffff) * low[at])
+        .sum();
+    ((words + 7000208109065 + 2 * 3387945472435) >> 28) % 1024
 }
 
 fn one_hash() -> Bundle {

@@ -2,8 +2,8 @@ use denote.Ref.{now}
 use mathlib.Core.Path.{_≡_, refl, subst}
 use lib.ListN.{replicate}
 use Rattle.bundle.specs.Read.{read}
-use Rattle.scopes.specs.Trees.{cleared}
-use Rattle.scopes.specs.declared.Tree.{Tree}
+use Rattle.scope_tree.specs.Trees.{cleared}
+use Rattle.scope_tree.specs.declared.Tree.{Tree}
 use Rattle.linker.specs.Call.{LinkTree}
 use Rattle.printing.specs.Lines.{reading-lines}
 use Rattle.printing.specs.Answers.{tell-linked, tell-report, tell-number}

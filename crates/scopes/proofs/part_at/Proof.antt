@@ -1,7 +1,7 @@
 use borrow.Author.Needs.{needs}
 use Rattle.scopes.proofs.part_at.Statement.{statement}
 use Rattle.scopes.proofs.part_at.Tie as tie
-use Rattle.scopes.specs.Pack.{part-past}
+use Rattle.scope_tree.specs.Pack.{part-past}
 
 cell-requires : tie.Need-cell-requires
 cell-requires c κs = search needs

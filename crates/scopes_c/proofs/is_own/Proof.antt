@@ -1,7 +1,7 @@
 use Rattle.scopes_c.proofs.is_own.Statement.{statement}
 use Rattle.scopes_c.proofs.is_own.Tie as tie
 use borrow.Author.Tests.{eq-eqb, ne-eqb}
-use Rattle.scopes.specs.Rows.{isOwn}
+use Rattle.scope_tree.specs.Rows.{isOwn}
 
 returns : tie.Need-returns
 unfolding isOwn

@@ -4,7 +4,7 @@ use native.Mathlib.Omega.{arith}
 use Rattle.scopes_c.proofs.put_tree.Statement.{statement}
 use Rattle.scopes_c.proofs.put_tree.Tie as tie
 use Prim.Native.Nat.{_-_}
-use Rattle.scopes.specs.Trees.{view}
+use Rattle.scope_tree.specs.Trees.{view}
 use Rattle.scopes_c.specs.TreeRows.{row-read, Listing, listing-start, listing-turn, listing-end}
 
 abbrev Inv-loop : tie.InvT-loop

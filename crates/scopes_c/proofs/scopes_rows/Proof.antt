@@ -1,7 +1,7 @@
 -- `scopes_rows` meets its contract. Assumes nothing.
 use mathlib.Core.Path.{ap}
 use borrow.Author.Needs.{needs}
-use Rattle.scopes.specs.Flat.{Flat}
+use Rattle.scope_tree.specs.Flat.{Flat}
 use Rattle.scopes_c.specs.TreeRows.{listed-as}
 use Rattle.scopes_c.proofs.scopes_rows.Statement.{statement}
 use Rattle.scopes_c.proofs.scopes_rows.Tie as tie

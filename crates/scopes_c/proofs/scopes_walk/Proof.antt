@@ -3,7 +3,7 @@ use native.Mathlib.Omega.{arith}
 use Rattle.scopes_c.proofs.scopes_walk.Statement.{statement}
 use Rattle.scopes_c.proofs.scopes_walk.Tie as tie
 use Prim.Native.Nat.{_-_}
-use Rattle.scopes.specs.Trees.{packed-in}
+use Rattle.scope_tree.specs.Trees.{packed-in}
 use Rattle.scopes_c.specs.Lists.{Walking, walking-start, walking-turn, walking-past, walking-far, walking-end}
 
 abbrev Inv-loop : tie.InvT-loop

@@ -10,7 +10,7 @@ use lib.ListN.{take}
 use lib.Seq.{length-take-le}
 use Rattle.bundle.specs.Scan.{byte}
 use Rattle.bundle.specs.Decode.{decode}
-use Rattle.scopes.specs.Trees.{packed-in}
+use Rattle.scope_tree.specs.Trees.{packed-in}
 use Rattle.assembly.specs.Walk.{useBytes}
 use Rattle.linker.specs.Steps.{meets-enters, meets-declares, meets-uses, taken-start, taken-length}
 use Rattle.linker.specs.Units.{scoped-as}

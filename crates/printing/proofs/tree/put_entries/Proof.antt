@@ -1,4 +1,4 @@
-use Rattle.scopes.specs.Trees.{part}
+use Rattle.scope_tree.specs.Trees.{part}
 use denote.Ref.{now}
 use Prim.Native.Nat.{_-_}
 use mathlib.Core.Path.{_≡_}

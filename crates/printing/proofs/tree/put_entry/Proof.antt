@@ -1,4 +1,4 @@
-use Rattle.scopes.specs.Trees.{part}
+use Rattle.scope_tree.specs.Trees.{part}
 use denote.Ref.{now}
 use mathlib.Core.Path.{_≡_}
 use Rattle.printing.specs.Modules.{entry-unit, entry-line}

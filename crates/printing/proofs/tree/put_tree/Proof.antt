@@ -1,5 +1,5 @@
-use Rattle.scopes.specs.Trees.{view}
-use Rattle.scopes.specs.Views.{entries-of}
+use Rattle.scope_tree.specs.Trees.{view}
+use Rattle.scope_tree.specs.Views.{entries-of}
 use Rattle.printing.specs.Modules.{tree-tells}
 use native.Mathlib.Omega.{arith}
 use borrow.Author.Needs.{needs}

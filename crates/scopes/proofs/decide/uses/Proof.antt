@@ -2,7 +2,7 @@ use borrow.Author.Needs.{needs}
 use native.Mathlib.Omega.{arith}
 use Rattle.scopes.proofs.decide.uses.Statement.{statement}
 use Rattle.scopes.proofs.decide.uses.Tie as tie
-use Rattle.scopes.specs.Commits.{decided-no, decided-told, decided-yes, at-counts}
+use Rattle.scopes.specs.Decided.{decided-no, decided-told, decided-yes, at-counts}
 use Rattle.scopes.specs.Uses.{use-bad, use-many, use-deep, segment-bound, element-bound, use-empty, use-no-crate, use-lost, use-main, use-refused, use-full, use-done, few-staged}
 
 use-form-requires : tie.Need-use-form-requires

@@ -2,7 +2,7 @@ use borrow.Author.Needs.{needs}
 use native.Mathlib.Omega.{arith}
 use Rattle.scopes.proofs.lent.add.Statement.{statement}
 use Rattle.scopes.proofs.lent.add.Tie as tie
-use Rattle.scopes.specs.Pack.{added-shut, added-open}
+use Rattle.scope_tree.specs.Pack.{added-shut, added-open}
 
 element-copy-out-wide : tie.Need-element-copy-out-wide
 element-copy-out-wide c = search needs
@@ -10,17 +10,8 @@ element-copy-out-wide c = search needs
 wide-requires : tie.Need-wide-requires
 wide-requires c κs = search needs
 
-bucket-requires : tie.Need-bucket-requires
-bucket-requires c κs = search needs
-
-add-old : tie.Need-add-old
-add-old c = search needs
-
-mul-old : tie.Need-mul-old
-mul-old c = search needs
-
-element-copy-out-old : tie.Need-element-copy-out-old
-element-copy-out-old c = search needs
+free-slot-requires : tie.Need-free-slot-requires
+free-slot-requires c κs = search needs
 
 add-next : tie.Need-add-next
 add-next c = search needs
@@ -109,15 +100,6 @@ mul-cells-5 c = search needs
 element-write-cells-5 : tie.Need-element-write-cells-5
 element-write-cells-5 c = search needs
 
-add-cells-5 : tie.Need-add-cells-5
-add-cells-5 c = search needs
-
-mul-cells-6 : tie.Need-mul-cells-6
-mul-cells-6 c = search needs
-
-element-write-cells-6 : tie.Need-element-write-cells-6
-element-write-cells-6 c = search needs
-
 element-write-opened : tie.Need-element-write-opened
 element-write-opened c = search needs
 
@@ -137,10 +119,10 @@ element-write-opened-3 : tie.Need-element-write-opened-3
 element-write-opened-3 c = search needs
 
 returns : tie.Need-returns
-returns c = added-open _ _ _ _ _ ((c .before .before .bucket) .ensures .0) ((c .before .before .before .wide) .ensures) ((c .if1) .taken)
+returns c = added-open _ _ _ _ _ ((c .before .free-slot) .ensures .0) ((c .before .before .before .wide) .ensures) ((c .if1) .taken)
 
 returns-2 : tie.Need-returns-2
-returns-2 c = added-shut _ _ _ _ ((c .before .before .bucket) .ensures .0) ((c .if1) .left)
+returns-2 c = added-shut _ _ _ _ ((c .before .free-slot) .ensures .0) ((c .if1) .left)
 
 pub add-spec : {M : Type 1} → statement M
-add-spec = tie.close (tie.spec element-copy-out-wide wide-requires bucket-requires add-old mul-old element-copy-out-old add-next cast-next element-write-visible mul-scopes element-write-scopes mul-marks element-write-marks mul-n0 element-write-n0 mul-n1 element-write-n1 mul-n2 element-write-n2 mul-n3 element-write-n3 mul-cells element-write-cells add-cells mul-cells-2 element-write-cells-2 add-cells-2 mul-cells-3 element-write-cells-3 add-cells-3 mul-cells-4 element-write-cells-4 add-cells-4 mul-cells-5 element-write-cells-5 add-cells-5 mul-cells-6 element-write-cells-6 element-write-opened mul-opened element-write-opened-2 add-opened cast-opened element-write-opened-3 returns returns-2)
+add-spec = tie.close (tie.spec element-copy-out-wide wide-requires free-slot-requires add-next cast-next element-write-visible mul-scopes element-write-scopes mul-marks element-write-marks mul-n0 element-write-n0 mul-n1 element-write-n1 mul-n2 element-write-n2 mul-n3 element-write-n3 mul-cells element-write-cells add-cells mul-cells-2 element-write-cells-2 add-cells-2 mul-cells-3 element-write-cells-3 add-cells-3 mul-cells-4 element-write-cells-4 add-cells-4 mul-cells-5 element-write-cells-5 element-write-opened mul-opened element-write-opened-2 add-opened cast-opened element-write-opened-3 returns returns-2)

@@ -3,7 +3,7 @@ use native.Mathlib.Omega.{arith}
 use Rattle.scopes.proofs.lent.call.Statement.{statement}
 use Rattle.scopes.proofs.lent.call.Tie as tie
 use mathlib.Core.List.{[]}
-use Rattle.scopes.specs.Trees.{packed-in}
+use Rattle.scope_tree.specs.Trees.{packed-in}
 use Rattle.scopes.specs.Declares.{call-exit, call-use, call-declare, call-ready, call-get}
 
 exit-requires : tie.Need-exit-requires

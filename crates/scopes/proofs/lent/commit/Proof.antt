@@ -4,9 +4,9 @@ use Rattle.scopes.proofs.lent.commit.Statement.{statement}
 use Rattle.scopes.proofs.lent.commit.Tie as tie
 use Prim.Native.Nat.{ℕ, _-_}
 use mathlib.Core.Path.{_≡_, ap}
-use Rattle.scopes.specs.declared.lent.Entry.{Entry}
-use Rattle.scopes.specs.Trees.{packed-in}
-use Rattle.scopes.specs.Batches.{staged-of}
+use Rattle.scope_tree.specs.declared.Entry.{Entry}
+use Rattle.scope_tree.specs.Trees.{packed-in}
+use Rattle.scope_tree.specs.Batches.{staged-of}
 use Rattle.scopes.specs.Commits.{Filling, filling-start, filling-turn, filling-end}
 
 abbrev Inv-loop : tie.InvT-loop

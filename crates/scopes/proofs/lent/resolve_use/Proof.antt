@@ -3,7 +3,7 @@ use native.Mathlib.Omega.{arith}
 use Rattle.scopes.proofs.lent.resolve_use.Statement.{statement}
 use Rattle.scopes.proofs.lent.resolve_use.Tie as tie
 use Rattle.scopes.specs.Commits.{use-no, use-yes}
-use Rattle.scopes.specs.Pack.{via-current}
+use Rattle.scope_tree.specs.Pack.{via-current}
 
 uses-requires : tie.Need-uses-requires
 uses-requires c κs = search needs

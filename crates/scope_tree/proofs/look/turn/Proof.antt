@@ -1,0 +1,26 @@
+use borrow.Author.Needs.{needs}
+use native.Mathlib.Omega.{arith}
+use Rattle.scope_tree.proofs.look.turn.Statement.{statement}
+use Rattle.scope_tree.proofs.look.turn.Tie as tie
+use Rattle.scope_tree.specs.Index.{turn-mix, turn-word}
+
+add-result : tie.Need-add-result
+add-result c = search needs
+
+shr-result : tie.Need-shr-result
+shr-result c = search needs
+
+returns : tie.Need-returns
+returns c = turn-mix _ _ _ _ _ ((c .if1) .taken)
+
+word-at-requires : tie.Need-word-at-requires
+word-at-requires c κs = search needs
+
+shr-result-2 : tie.Need-shr-result-2
+shr-result-2 c = search needs
+
+returns-2 : tie.Need-returns-2
+returns-2 c = turn-word _ _ _ _ _ ((c .before .if1) .left) _ ((c .word-at) .ensures)
+
+pub turn-spec : {M : Type 1} → statement M
+turn-spec = tie.close (tie.spec add-result shr-result returns word-at-requires shr-result-2 returns-2)

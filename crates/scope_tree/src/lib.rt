@@ -1,0 +1,68 @@
+// The module tree of ast/scope/modules.rs as a record, lookups in it, the bytes of a use and the entries that one adds. Nothing here
+// changes a tree: the calls are in the crate scopes.
+pub mod form;
+pub mod look;
+pub mod stage;
+
+use names::Name;
+
+// Places of `Tree.opened`, and of two of its numbers: how many entries there are, and how many open modules.
+pub const OPENED: usize = 11;
+
+pub const COUNT: usize = 9;
+
+pub const DEPTH: usize = 10;
+
+// Places of `Tree.cells`, and the first of each of its parts.
+pub const CELLS: usize = 7168;
+
+pub const KINDS: usize = 0;
+
+pub const ORIGINS: usize = 1024;
+
+pub const TARGETS: usize = 2048;
+
+pub const TIMES: usize = 3072;
+
+pub const INDEX: usize = 4096;
+
+// 1,024 entries in the order made, and the open modules. The root is scope 0, the module at entry i is scope i + 1.
+pub struct Tree {
+    // the scopes of the open modules, outermost first, in nine places; then how many entries and how many open modules there are
+    pub opened: [u16; OPENED],
+    // Four parts of 1,024, of the entries: the kind (1 type, 2 function, 3 module); the origin (0 for a declaration, i + 1 for a copy of
+    // entry i); what is inside a copy, a scope and a time (that scope, among the first so many entries). Then the index, 3,072 slots, each
+    // an entry plus one, or 0 for none: 1,024 by a hash of scope, kind and name, for the first entry of each hash, and two below each
+    // entry, for later ones of the same hash; which of the two, a bit of scope, kind and name says, at each depth another.
+    pub cells: [u16; CELLS],
+    // 0 private, 1 public
+    pub visible: [u8; 1024],
+    pub scopes: [u16; 1024],
+    pub marks: [u16; 1024],
+    pub n0: [u64; 1024],
+    pub n1: [u64; 1024],
+    pub n2: [u64; 1024],
+    pub n3: [u64; 1024],
+}
+
+// An entry to add.
+pub struct Entry {
+    pub kind: u16,
+    pub visible: u8,
+    pub scope: u16,
+    pub mark: u16,
+    pub name: Name,
+    pub origin: u16,
+    pub target: u16,
+    pub moment: u16,
+    // whether a module opens
+    pub opens: bool,
+}
+
+pub enum Answer {
+    Done,
+    // get_alias and get_function: the mark of the entry
+    Mark(u16),
+    // a number of the table; its place is 0
+    Refused(u8),
+}

@@ -1,0 +1,275 @@
+// A use's entries before they are committed: each is found, public and free, or the use is refused.
+ghost use mathlib.Core.Path.{_≡_};
+ghost use Prim.Native.Nat.{_+_, _*_, _<_, _≤_};
+ghost use Rattle.scope_tree.specs.Staging.{refusal, any-to, staged-test, no-choice, choice-of, clash-of, verdict-so-far, staged-all};
+ghost use Rattle.scope_tree.specs.Pack.{arrays-in};
+ghost use Rattle.scope_tree.specs.Batches.{slot, staged-of, entry-in};
+use crate::CELLS;
+use crate::Entry;
+use crate::form::local_at;
+use crate::form::name_at;
+use crate::form::next;
+use crate::look::Spot;
+use crate::look::find_in;
+use crate::look::inside_at;
+use crate::look::is_held;
+use crate::look::is_row;
+use names::Name;
+
+// Places of `Batch.cells` and `Batch.names`, and the first of each of their parts.
+pub const STAGED_CELLS: usize = 480;
+
+pub const STAGED_NAMES: usize = 384;
+
+const SECOND: usize = 96;
+
+const THIRD: usize = 192;
+
+const FOURTH: usize = 288;
+
+const FIFTH: usize = 384;
+
+// Entries that a use adds, at most 96, all in one scope and of one visibility; or a number. The cells are kinds, marks, origins, targets
+// and times, the names their four words, each a part of 96.
+pub struct Batch {
+    pub number: u8,
+    pub count: usize,
+    pub cells: [u16; STAGED_CELLS],
+    pub names: [u64; STAGED_NAMES],
+}
+
+pub fn refused(number: u8) -> Batch
+    ensures { λ r. ⌜ staged-of r ≡ refusal number ⌝ }
+{
+    Batch {
+        number: number,
+        count: 0,
+        cells: [0; STAGED_CELLS],
+        names: [0; STAGED_NAMES],
+    }
+}
+
+// Whether one of the first `count` staged entries has this kind and name.
+fn staged_has<'a>(
+    cells: &'a [u16; STAGED_CELLS],
+    words: &'a [u64; STAGED_NAMES],
+    count: usize,
+    here: u16,
+    kind: u16,
+    name: Name,
+) -> bool
+    requires { ⌜ count ≤ 96 ⌝ }
+    ensures { λ r. ⌜ r ≡ any-to (staged-test (slot 0 (now (cells .entry))) (slot 0 (now (words .entry))) (slot 96 (now (words .entry))) (slot 192 (now (words .entry))) (slot 288 (now (words .entry))) here kind name) count ⌝ }
+{
+    let mut i: usize = 0;
+    while i < count {
+        let n = Name {
+            w0: words[i],
+            w1: words[SECOND + i],
+            w2: words[THIRD + i],
+            w3: words[FOURTH + i],
+        };
+        if is_row(here, cells[i], n, here, kind, name) {
+            return true;
+        }
+        i += 1;
+    }
+    false
+}
+
+// A staged entry.
+pub fn entry_at<'a>(
+    cells: &'a [u16; STAGED_CELLS],
+    words: &'a [u64; STAGED_NAMES],
+    i: usize,
+    scope: u16,
+    public: u8,
+) -> Entry
+    requires { ⌜ i < 96 ⌝ }
+    ensures { λ r. ⌜ r ≡ entry-in (now (cells .entry)) (now (words .entry)) i scope public ⌝ }
+{
+    let n = Name {
+        w0: words[i],
+        w1: words[SECOND + i],
+        w2: words[THIRD + i],
+        w3: words[FOURTH + i],
+    };
+    Entry {
+        kind: cells[i],
+        visible: public,
+        scope: scope,
+        mark: cells[SECOND + i],
+        name: n,
+        origin: cells[THIRD + i],
+        target: cells[FOURTH + i],
+        moment: cells[FIFTH + i],
+        opens: false,
+    }
+}
+
+// What an item copies: number 0 and the entry's mark, its number plus one, and what is inside it; or a number.
+pub struct Choice {
+    pub number: u8,
+    pub mark: u16,
+    pub origin: u16,
+    pub target: u16,
+    pub moment: u16,
+}
+
+fn no_choice(number: u8) -> Choice
+    ensures { λ r. ⌜ r ≡ no-choice number ⌝ }
+{
+    Choice {
+        number: number,
+        mark: 0,
+        origin: 0,
+        target: 0,
+        moment: 0,
+    }
+}
+
+// One kind of one element, looked up in the tree before the use.
+fn choose<'a>(
+    cells: &'a [u16; CELLS],
+    visible: &'a [u8; 1024],
+    scopes: &'a [u16; 1024],
+    marks: &'a [u16; 1024],
+    n0: &'a [u64; 1024],
+    n1: &'a [u64; 1024],
+    n2: &'a [u64; 1024],
+    n3: &'a [u64; 1024],
+    total: usize,
+    here: u16,
+    scope: u16,
+    time: usize,
+    kind: u16,
+    name: Name,
+    local: Name,
+) -> Choice
+    requires { ⌜ (total ≤ 1024) × (time ≤ 1024) ⌝ }
+    ensures { λ r. ⌜ r ≡ choice-of (arrays-in (now (cells .entry)) (now (visible .entry)) (now (scopes .entry)) (now (marks .entry)) (now (n0 .entry)) (now (n1 .entry)) (now (n2 .entry)) (now (n3 .entry))) total here scope time kind name local ⌝ }
+{
+    let found = find_in(cells, scopes, n0, n1, n2, n3, scope, time, kind, name);
+    let Spot::At(e) = found else {
+        return no_choice(43);
+    };
+    if visible[e] != 1 {
+        return no_choice(44);
+    }
+    if is_held(cells, scopes, n0, n1, n2, n3, here, total, kind, local) {
+        return no_choice(45);
+    }
+    let to = inside_at(cells, e, time);
+    Choice {
+        number: 0,
+        mark: marks[e],
+        origin: (e + 1) as u16,
+        target: to.scope,
+        moment: to.time as u16,
+    }
+}
+
+// The number of an item: that of its choice, or 45 where an earlier element holds the local name.
+fn clash(number: u8, held: bool) -> u8
+    ensures { λ r. ⌜ r ≡ clash-of number held ⌝ }
+{
+    if number != 0 {
+        return number;
+    }
+    if held {
+        return 45;
+    }
+    0
+}
+
+// The number of an element so far, `told`, with that of its next kind: one success is enough, else the first that isn't 43.
+fn verdict(told: u8, number: u8) -> u8
+    ensures { λ r. ⌜ r ≡ verdict-so-far told number ⌝ }
+{
+    if told == 0 {
+        return 0;
+    }
+    if number == 0 {
+        return 0;
+    }
+    if told != 43 {
+        return told;
+    }
+    number
+}
+
+// `count` elements that stand at `at`.
+pub fn stage<'a>(
+    cells: &'a [u16; CELLS],
+    visible: &'a [u8; 1024],
+    scopes: &'a [u16; 1024],
+    marks: &'a [u16; 1024],
+    n0: &'a [u64; 1024],
+    n1: &'a [u64; 1024],
+    n2: &'a [u64; 1024],
+    n3: &'a [u64; 1024],
+    total: usize,
+    here: u16,
+    scope: u16,
+    time: usize,
+    decl: &'a [u8],
+    at: usize,
+    count: usize,
+) -> Batch
+    requires { ⌜ (total ≤ 1024) × ((time ≤ 1024) × ((count ≤ 32) × (at < 32768))) ⌝ }
+    ensures { λ r. ⌜ staged-of r ≡ staged-all (arrays-in (now (cells .entry)) (now (visible .entry)) (now (scopes .entry)) (now (marks .entry)) (now (n0 .entry)) (now (n1 .entry)) (now (n2 .entry)) (now (n3 .entry))) total here scope time (now (decl .entry)) count at (refusal 0) ⌝ }
+{
+    let mut s = refused(0);
+    let mut p = at;
+    let mut i: usize = 0;
+    while i < count {
+        let name = name_at(decl, p);
+        let local = local_at(decl, p);
+        let mut told: u8 = 43;
+        let mut kind: u16 = 1;
+        while kind < 4 {
+            let k = kind;
+            let x = choose(
+                cells,
+                visible,
+                scopes,
+                marks,
+                n0,
+                n1,
+                n2,
+                n3,
+                total,
+                here,
+                scope,
+                time,
+                k,
+                name,
+                local,
+            );
+            let end = s.count;
+            let held = staged_has(&s.cells, &s.names, end, here, k, local);
+            let number = clash(x.number, held);
+            told = verdict(told, number);
+            kind += 1;
+            if number == 0 {
+                s.cells[end] = k;
+                s.cells[SECOND + end] = x.mark;
+                s.cells[THIRD + end] = x.origin;
+                s.cells[FOURTH + end] = x.target;
+                s.cells[FIFTH + end] = x.moment;
+                s.names[end] = local.w0;
+                s.names[SECOND + end] = local.w1;
+                s.names[THIRD + end] = local.w2;
+                s.names[FOURTH + end] = local.w3;
+                s.count = end + 1;
+            }
+        }
+        if told != 0 {
+            s.number = told;
+            return s;
+        }
+        p = next(decl, next(decl, p));
+        i += 1;
+    }
+    s
+}
