@@ -11,10 +11,7 @@ use Rattle.bundle.specs.Encode.{items}
 use Rattle.bundle.specs.Decode.{decode}
 use Rattle.bundle.specs.Read.{verdict}
 use Rattle.bundle.specs.declared.Checked.the-variants.{Ok}
-use Rattle.resolution.specs.Lists.{listsOf}
-use Rattle.resolution.specs.Layouts.{listsAt, Small}
 use Rattle.resolution.specs.Call.{position}
-use Rattle.resolution.specs.declared.Layout.{Layout}
 use Rattle.discovery.specs.Discovery.{pathsOf}
 use Rattle.discovery.specs.Complete.{Known}
 use Rattle.order.specs.Run.{linked, ordered, unitsOf}
@@ -52,10 +49,6 @@ pub record OneUnit (s files : List ℕ) (u : ℕ) : Type 0 where
   pub fits : u < length files
   pub is-unit : u < length (unitsOf (decode s))
   pub index : getD files u 0 ≡ position (fileOf (decode s) u) (pathsOf (decode s))
-
--- where the lists stand
-abbrev pub Lies : List ℕ → Layout → Type 0
-Lies s at = (listsAt s at ≡ listsOf (decode s)) × Small at
 
 -- A UNIT IN THE IMAGE
 unfoldable pub unitBytes : Bundle → ℕ → List ℕ

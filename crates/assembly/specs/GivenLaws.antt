@@ -19,12 +19,10 @@ use Rattle.bundle.specs.Decode.{decode, fileAt, itemsAt}
 use Rattle.bundle.specs.Read.{verdict}
 use Rattle.bundle.specs.Theorems.{sound, accepted}
 use Rattle.bundle.specs.declared.Checked.the-variants.{Ok}
-use Rattle.resolution.specs.Lists.{Lists, listsOf}
-use Rattle.resolution.specs.Layouts.{Importer}
+use Rattle.resolution.specs.Lists.{listsOf}
 use Rattle.resolution.specs.Call.{position}
-use Rattle.resolution.specs.declared.Layout.{Layout}
 use Rattle.discovery.specs.Discovery.{programOf, pathsOf}
-use Rattle.discovery.specs.Facts.{mem-member, member-true, member-false, getD-mem, getD-any, pigeons, id-found}
+use Rattle.discovery.specs.Facts.{member-true, member-false, getD-mem, getD-any, pigeons, id-found}
 use Rattle.discovery.specs.Right.{discovered}
 use Rattle.discovery.specs.Room.{checked-roomy}
 use Rattle.discovery.specs.Search.{indexIn}
@@ -39,7 +37,7 @@ use Rattle.assembly.specs.Parts.{headBytes}
 use Rattle.assembly.specs.Paths.{program-formed}
 use Rattle.assembly.specs.Targets.{UnitOf, fileUses}
 use Rattle.assembly.specs.Walk.{itemsBytes, item-form, Brief, formed-brief}
-use Rattle.assembly.specs.Given.{Lies, OneUnit, OrderGiven, OrderedFilesGiven, UnitsGiven, programBytes, unitBytes}
+use Rattle.assembly.specs.Given.{OneUnit, OrderGiven, OrderedFilesGiven, UnitsGiven, programBytes, unitBytes}
 
 -- A UNIT'S FILE is listed
 pub unit-listed : (b : Bundle) (p : Text) → List·Memᴰ p (unitsOf b) → List·Memᴰ p (pathsOf b)
@@ -158,35 +156,31 @@ module _ (s files : List ℕ) (units : ℕ) (x : UnitsGiven s files units) where
             ∙ List·getD-map (λ p. position p (pathsOf c)) (unitsOf c) u []));
       }
 
-  pub unit-of : (at : Layout) (file : Text) (u : ℕ) → Lies s at → u < units → file ≡ fileOf c u → UnitOf s at file (getD files u 0) files units
-  unit-of at file u lies h e =
+  pub unit-of : (u : ℕ) → u < units → UnitOf s files units u
+  unit-of u h =
       let one = one-unit u h in
-      let m = unit-listed c (fileOf c u) (getD-mem (unitsOf c) u [] (one .is-unit)) in
-      let i : Importer (listsOf c) (fileOf c u) (getD files u 0) = record { listed = mem-member m; index = one .index } in
       record {
-        small = lies .1;
-        lists = lies .0;
-        importer = subst (λ (l : Lists). Importer l file (getD files u 0)) (sym (lies .0)) (subst (λ (p : Text). Importer (listsOf c) p (getD files u 0)) (sym e) i);
+        unit = h;
         fits = x .fits;
         few = few-units;
         ids = λ p k. index-units p (pathsOf c) (unitsOf c) (member-true p (pathsOf c) k) (unit-listed c) ∙ ap (indexIn (position p (pathsOf c))) (sym (x .files-are));
         long = x .known .complete .long;
         place = let p = index-below s files u one in let r = checked-roomy s (x .checked) .files in omega arith;
-        table = subst (λ (p : Text). Row files (getD files u 0) (listsOf c) p (fileUses s p)) (sym e) (subst (λ (k : ℕ). Row files k (listsOf c) (fileOf c u) (fileUses s (fileOf c u))) (sym (one .index)) (x .known .complete .rows (fileOf c u) (getD-mem (unitsOf c) u [] (one .is-unit))));
-        rise = x .known .rise file;
+        table = subst (λ (k : ℕ). Row files k (listsOf c) (fileOf c u) (fileUses s (fileOf c u))) (sym (one .index)) (x .known .complete .rows (fileOf c u) (getD-mem (unitsOf c) u [] (one .is-unit)));
+        rise = x .known .rise (fileOf c u);
         others = λ p k. no-unit p (unitsOf c) (λ w. member-false k (unit-listed c p w)) ∙ unit-count;
       }
 
-  pub unit-brief : Bytes s → (u : ℕ) (file : Text) (y : Items) → file ≡ fileOf c u → y ≡ itemsOf c u → Brief (fileUses s file) y
-  unit-brief B u file y e q =
-      rw (e, q) (formed-brief (fileUses s (fileOf c u)) (itemsOf c u) depth-limit (program-formed (c .files) (fileOf c u) (sound s B c (accepted s (x .checked)) .1 .form .files)) (λ v m. m))
+  pub unit-brief : Bytes s → (u : ℕ) (y : Items) → y ≡ itemsOf c u → Brief (fileUses s (fileOf c u)) y
+  unit-brief B u y q =
+      rw q (formed-brief (fileUses s (fileOf c u)) (itemsOf c u) depth-limit (program-formed (c .files) (fileOf c u) (sound s B c (accepted s (x .checked)) .1 .form .files)) (λ v m. m))
 
 -- A UNIT IN THE IMAGE
 -- by the items that the code reads
-pub unit-form : (s : List ℕ) (file : Text) (u end at : ℕ) → file ≡ fileOf (decode s) u → itemsAt depth-limit s end at ≡ itemsOf (decode s) u
-    → unitBytes (decode s) u ≡ headBytes (2 + length (string (unitName u) ++ itemsBytes s file depth-limit end at)) module-kind 0 ++ (string (unitName u) ++ itemsBytes s file depth-limit end at)
+pub unit-form : (s : List ℕ) (u end at : ℕ) → itemsAt depth-limit s end at ≡ itemsOf (decode s) u
+    → unitBytes (decode s) u ≡ headBytes (2 + length (string (unitName u) ++ itemsBytes s (fileOf (decode s) u) depth-limit end at)) module-kind 0 ++ (string (unitName u) ++ itemsBytes s (fileOf (decode s) u) depth-limit end at)
 unfolding unitBytes items itemsBytes localItems
-unit-form s file u end at e i = rw (e, i) (item-form module-kind 0 (string (unitName u) ++ items (localItems (decode s) u)))
+unit-form s u end at i = rw i (item-form module-kind 0 (string (unitName u) ++ items (localItems (decode s) u)))
 
 pub unit-room : (b : Bundle) (u : ℕ) → 4 + length (string (unitName u)) ≤ length (unitBytes b u)
 unfolding unitBytes items
