@@ -22,7 +22,7 @@ use Rattle.resolution.specs.declared.Resolution.the-variants.{File, Folder, Ref
 use Rattle.discovery.specs.Discovery.{Use, uses, programOf, pathsOf}
 use Rattle.discovery.specs.Search.{indexIn, index-small}
 use Rattle.discovery.specs.Walk.{useAt}
-use Rattle.discovery.specs.Known.{codeOf, fileOf, leftOf, codeIn, fileIn, leftIn, EntryOf, Row, Held, Finds, Rises, held, found as entry-found}
+use Rattle.discovery.specs.Known.{known-length, codeOf, fileOf, leftOf, codeIn, fileIn, leftIn, EntryOf, Row, Held, Finds, Rises, held, found as entry-found}
 use Rattle.order.specs.Run.{unitsOf}
 use Rattle.assembly.specs.Assemble.{newPath, rewriteUse}
 use Rattle.assembly.specs.Paths.{LeftOf, left-of}
@@ -56,7 +56,7 @@ pub record UnitOf (s : List ℕ) (at : Layout) (file : Text) (index : ℕ) (file
   -- a unit's id is the place of its file among the units' files
   pub ids : (p : Text) → member p (pathsOf (decode s)) ≡ true → position p (unitsOf (decode s)) ≡ indexIn (position p (pathsOf (decode s))) (take units files)
   -- each use of the file has its entry
-  pub long : length files ≡ 1280
+  pub long : length files ≡ known-length
   pub place : index < file-limit
   pub table : Row files index (listsOf (decode s)) file (fileUses s file)
   pub rise : Rises (fileUses s file)
