@@ -28,6 +28,7 @@ use Rattle.discovery.specs.Room.{checked-roomy}
 use Rattle.discovery.specs.Search.{indexIn}
 use Rattle.discovery.specs.Known.{Row, FilesPut, row-put, files-put}
 use Rattle.discovery.specs.Complete.{Carries}
+use Rattle.discovery.specs.Places.{places-put}
 use Rattle.discovery.specs.Weight.{reached-file}
 use Rattle.order.specs.Run.{unitsOf}
 use Rattle.order.specs.Call.{unitFiles}
@@ -37,7 +38,7 @@ use Rattle.assembly.specs.Parts.{headBytes}
 use Rattle.assembly.specs.Paths.{program-formed}
 use Rattle.assembly.specs.Targets.{UnitOf, fileUses}
 use Rattle.assembly.specs.Walk.{itemsBytes, item-form, Brief, formed-brief}
-use Rattle.assembly.specs.Given.{OneUnit, OrderGiven, OrderedFilesGiven, UnitsGiven, programBytes, unitBytes}
+use Rattle.assembly.specs.Given.{OneUnit, PlacedUnit, OrderGiven, OrderedFilesGiven, UnitsGiven, programBytes, unitBytes}
 
 -- A UNIT'S FILE is listed
 pub unit-listed : (b : Bundle) (p : Text) → List·Memᴰ p (unitsOf b) → List·Memᴰ p (pathsOf b)
@@ -66,6 +67,9 @@ module _ (s files : List ℕ) (u : ℕ) (x : OneUnit s files u) where
 
   pub index-small : getD files u 0 < 256
   index-small = let r = checked-roomy s (x .checked) .files in let i = index-below in omega arith
+
+  pub index-few : getD files u 0 < file-limit
+  index-few = let r = checked-roomy s (x .checked) .files in let i = index-below in omega arith
 
   module _ (place : ℕ) (found : (d : File) → getD files u 0 < length (b .files) → getD (b .files) (getD files u 0) d ≡ fileAt s place) where
     here : (d : File) → getD (b .files) (position (fileOf b u) (pathsOf b)) d ≡ fileAt s place
@@ -125,6 +129,7 @@ known-linked {s} {files} {ids} {t} {known} {units} x y p =
         fits = fit;
         known = let k = y .known (u .checked) in
             record { complete = record { long = w ∙ l; rows = λ q m. row-put t files known p _ _ _ _ (k .complete .rows q m) }; rise = k .rise };
+        places = places-put s t files known p (u .checked) (y .places (u .checked));
       };
       order = x .order;
       ids-fit = x .ids-fit;
@@ -156,6 +161,9 @@ module _ (s files : List ℕ) (units : ℕ) (x : UnitsGiven s files units) where
             ∙ List·getD-map (λ p. position p (pathsOf c)) (unitsOf c) u []));
       }
 
+  pub placed-unit : (u : ℕ) → u < units → PlacedUnit s files u
+  placed-unit u h = record { of-unit = one-unit u h; places = x .places }
+
   pub unit-of : (u : ℕ) → u < units → UnitOf s files units u
   unit-of u h =
       let one = one-unit u h in
@@ -165,7 +173,7 @@ module _ (s files : List ℕ) (units : ℕ) (x : UnitsGiven s files units) where
         few = few-units;
         ids = λ p k. index-units p (pathsOf c) (unitsOf c) (member-true p (pathsOf c) k) (unit-listed c) ∙ ap (indexIn (position p (pathsOf c))) (sym (x .files-are));
         long = x .known .complete .long;
-        place = let p = index-below s files u one in let r = checked-roomy s (x .checked) .files in omega arith;
+        place = index-few s files u one;
         table = subst (λ (k : ℕ). Row files k (listsOf c) (fileOf c u) (fileUses s (fileOf c u))) (sym (one .index)) (x .known .complete .rows (fileOf c u) (getD-mem (unitsOf c) u [] (one .is-unit)));
         rise = x .known .rise (fileOf c u);
         others = λ p k. no-unit p (unitsOf c) (λ w. member-false k (unit-listed c p w)) ∙ unit-count;

@@ -20,7 +20,7 @@ use Rattle.resolution.specs.declared.Resolution.the-variants.{File, Folder, Ref
 use Rattle.discovery.specs.Discovery.{Use, uses, programOf, pathsOf}
 use Rattle.discovery.specs.Search.{indexIn, index-small}
 use Rattle.discovery.specs.Walk.{useAt}
-use Rattle.discovery.specs.Known.{codeOf, fileOf as targetOf, leftOf, codeIn, fileIn, leftIn, EntryOf, Row, Held, Finds, Rises, held, found as entry-found}
+use Rattle.discovery.specs.Known.{known-length, codeOf, fileOf as targetOf, leftOf, codeIn, fileIn, leftIn, EntryOf, Row, Held, Finds, Rises, held, found as entry-found}
 use Rattle.order.specs.Run.{unitsOf}
 use Rattle.assembly.specs.Assemble.{newPath, rewriteUse, fileOf}
 use Rattle.assembly.specs.Paths.{LeftOf, left-of}
@@ -51,7 +51,7 @@ pub record UnitOf (s files : List ℕ) (units u : ℕ) : Type 0 where
   -- a unit's id is the place of its file among the units' files
   pub ids : (p : Text) → member p (pathsOf (decode s)) ≡ true → position p (unitsOf (decode s)) ≡ indexIn (position p (pathsOf (decode s))) (take units files)
   -- each use of the file has its entry
-  pub long : length files ≡ 1280
+  pub long : length files ≡ known-length
   pub place : getD files u 0 < file-limit
   pub table : Row files (getD files u 0) (listsOf (decode s)) (fileOf (decode s) u) (fileUses s (fileOf (decode s) u))
   pub rise : Rises (fileUses s (fileOf (decode s) u))

@@ -71,7 +71,7 @@ every-drop (suc k) (t ∷ l) h = every-drop k l (h .1)
 drop-few : (k : ℕ) (l : List Text) → length (drop k l) ≤ length l
 drop-few k l = omega (arith, lib.ListN.length-drop k l)
 
-unit-few : (id : ℕ) → id ≤ file-limit → length (string (unitName id)) ≤ 33
+pub unit-few : (id : ℕ) → id ≤ file-limit → length (string (unitName id)) ≤ 33
 unfolding unitName ascii
 unit-few id h = let w = small-width id (omega arith) in omega (arith, string-length (unitName id), length-append (ascii "unit_") (decimal id))
 

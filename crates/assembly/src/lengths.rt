@@ -14,6 +14,7 @@ use crate::Target;
 use crate::bytes::strings_end;
 use crate::bytes::strings_length;
 use crate::targets::target_of;
+use crate::units::unit_items;
 use bundle::limits::DEPTH;
 use bundle::limits::IGNORED;
 use bundle::limits::MODULE;
@@ -125,9 +126,7 @@ fn unit_length(s: &[u8], files: &[usize], units: usize, u: usize) -> usize
     requires { ⌜ UnitsGiven (now s) (now files) units × (u < units) ⌝ }
     ensures { λ r. ⌜ r ≡ min (length (unitBytes (decode (now (s .entry))) u)) 65536 ⌝ }
 {
-    let index = files[u];
-    let place = bundle::file_at(s, index);
-    let items = bundle::file_items(s, place);
+    let items = unit_items(s, files, u);
     let name = names::unit_name(u as u64);
     let n = items_length(s, files, units, u, items.at, items.end, DEPTH);
     capped(5 + name.len, n)

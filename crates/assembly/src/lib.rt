@@ -6,10 +6,13 @@ mod enums;
 mod image;
 mod lengths;
 mod targets;
+mod units;
 mod writing;
 
 pub use checks::assembly_faults;
 pub use image::write_image;
+pub use units::unit_items;
+pub use writing::put_unit;
 pub use writing::rewrite_use;
 ghost use mathlib.Core.Path.{_≡_};
 ghost use Rattle.assembly.specs.Call.{assembleAnswer, assembleReport, assembleImage};

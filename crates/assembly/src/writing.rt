@@ -25,6 +25,7 @@ use crate::bytes::put_strings;
 use crate::bytes::put_two;
 use crate::bytes::strings_end;
 use crate::targets::target_of;
+use crate::units::unit_items;
 use bundle::limits::DEPTH;
 use bundle::limits::IGNORED;
 use bundle::limits::MODULE;
@@ -43,7 +44,8 @@ fn put_crate(out: &mut [u8]) -> usize
     put_string(out, b"crate")
 }
 
-fn put_unit(out: &mut [u8], id: usize) -> usize
+// The name of the unit, as a string.
+pub fn put_unit(out: &mut [u8], id: usize) -> usize
     requires { ⌜ length (string (unitName id)) ≤ length (now out) ⌝ }
     ensures { λ r. ⌜ (r ≡ length (string (unitName id))) × (now (out .exit) ≡ started (string (unitName id)) (now (out .entry))) ⌝ }
 {
@@ -230,9 +232,7 @@ fn write_unit(s: &[u8], files: &[usize], units: usize, u: usize, out: &mut [u8])
     requires { ⌜ (UnitsGiven (now s) (now files) units × (u < units)) × ((length (unitBytes (decode (now s)) u) ≤ length (now out)) × (length (unitBytes (decode (now s)) u) < 65536)) ⌝ }
     ensures { λ r. ⌜ (r ≡ length (unitBytes (decode (now (s .entry))) u)) × (now (out .exit) ≡ started (unitBytes (decode (now (s .entry))) u) (now (out .entry))) ⌝ }
 {
-    let index = files[u];
-    let place = bundle::file_at(s, index);
-    let items = bundle::file_items(s, place);
+    let items = unit_items(s, files, u);
     let a = put_unit_start(out, u);
     let m = write_items(
         s,

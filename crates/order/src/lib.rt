@@ -4,7 +4,8 @@ mod steps;
 
 pub use report::write_faults;
 ghost use mathlib.Core.Path.{_≡_};
-ghost use Rattle.discovery.specs.Complete.{Fresh, Carries};
+ghost use Rattle.discovery.specs.Complete.{Carries};
+ghost use Rattle.discovery.specs.Places.{Fresh};
 ghost use Rattle.order.specs.Call.{orderAnswer, orderReport};
 use discovery::known::KNOWN;
 

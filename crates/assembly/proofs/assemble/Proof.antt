@@ -8,7 +8,7 @@ use denote.Ref.{now}
 use borrow.Author.Needs.{needs}
 use Rattle.order.specs.Writing.{faultRecords}
 use Rattle.order.specs.Report.{reporting, lentReport}
-use Rattle.discovery.specs.Complete.{fresh}
+use Rattle.discovery.specs.Places.{fresh}
 use Rattle.assembly.specs.GivenLaws.{known-linked}
 use Rattle.assembly.specs.Join.{no-units, units-linked, faults-told, image-told}
 use Rattle.assembly.proofs.assemble.Statement.{statement}
