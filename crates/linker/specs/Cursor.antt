@@ -430,8 +430,13 @@ module _ (s ids : List ℕ) (units : ℕ) (c : Cursor) (st : Stands s units c) (
           record {
             calls = moved-calls _ (item-request B n5);
             stands = moved-stands;
-            ready = (omega arith, (plain-mark us s at kind of (depth-limit - k) one-here not-ignored,
-                λ q. (record { kind = kind-byte s at kind of ∙ q; small = omega arith }, plain-use us s at kind of (depth-limit - k) one-here q, plain-known us s at kind of (depth-limit - k) one-here q)));
+            ready = (
+              omega arith,
+              (
+                plain-mark us s at kind of (depth-limit - k) one-here not-ignored,
+                λ q. (record { kind = kind-byte s at kind of ∙ q; small = omega arith }, plain-use us s at kind of (depth-limit - k) one-here q, plain-known us s at kind of (depth-limit - k) one-here q),
+              ),
+            );
           }
 
     -- a module

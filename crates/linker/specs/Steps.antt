@@ -11,6 +11,7 @@ use borrow.Author.Tests.{eq-eqb, ne-eqb}
 use Rattle.bundle.specs.Bundle.{Text, Items, none, named, use-of, module-of, ignored}
 use Rattle.bundle.specs.Form.{Every, FormedElement}
 use Rattle.bundle.specs.Limits.{segment-limit, element-limit, use-kind, module-kind, ignored-kind}
+use Rattle.bundle.specs.Encode.{string}
 use Rattle.bundle.specs.Scan.{byte, text}
 use Rattle.bundle.specs.Decode.{after, afterLength, itemAt, itemsAt, decode}
 use Rattle.bundle.specs.Access.{insideOf, items-end, items-step, item-module, item-use, item-ignored, item-named, by-kind, kindOf, restOf, innerOf, visibilityOf, first-inner, first-visibility}
@@ -28,7 +29,7 @@ use Rattle.scopes.specs.Trees.{Good, flat-of}
 use Rattle.scopes.specs.declared.Tree.{Tree}
 use Rattle.discovery.specs.Discovery.{Use}
 use Rattle.discovery.specs.Walk.{useAt}
-use Rattle.assembly.specs.Assemble.{rewriteUse, rewriteItems}
+use Rattle.assembly.specs.Assemble.{fileOf, rewriteUse, rewriteItems}
 use Rattle.assembly.specs.Paths.{FormedPath}
 use Rattle.assembly.specs.Targets.{UnitOf}
 use Rattle.assembly.specs.UseRoom.{use-few}

@@ -100,13 +100,7 @@ fn put_call(
 }
 
 // The bytes of a call: a use's, the first `n` that were put; a unit's name; or the name of the item at `place`.
-fn call_bytes<'a>(
-    s: &'a [u8],
-    put: &'a [u8],
-    n: usize,
-    kind: usize,
-    place: usize,
-) -> &'a [u8]
+fn call_bytes<'a>(s: &'a [u8], put: &'a [u8], n: usize, kind: usize, place: usize) -> &'a [u8]
     requires { ⌜ (place < 65536) × (n ≤ length (now put)) ⌝ }
     ensures { λ r. ⌜ now r ≡ takenBytes (now (s .entry)) (now (put .entry)) n kind place ⌝ }
 {
