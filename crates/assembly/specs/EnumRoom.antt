@@ -28,7 +28,7 @@ use Rattle.assembly.specs.Given.{OrderGiven, PlacedUnit}
 use Rattle.assembly.specs.GivenLaws.{placed-unit}
 
 -- an enum is an item
-enums-few : (x : Items) → length (enumDeclarations x) ≤ itemCount x
+pub enums-few : (x : Items) → length (enumDeclarations x) ≤ itemCount x
 unfolding enumDeclarations itemCount
 enums-few none = omega arith
 enums-few (named k m v name rest) = go (eqb k enum-kind) (enums-few rest)

@@ -104,7 +104,7 @@ no-unit p (q ∷ l) n = rw (different p q (λ e. n (List·Memᴰ·head e)), no-u
 
 -- how many units there are
 module _ (s files : List ℕ) (units : ℕ) (checked : verdict s ≡ Ok) (are : take units files ≡ unitFiles (decode s)) (fits : units ≤ length files) where
-  counted-units : length (unitsOf (decode s)) ≡ units
+  pub counted-units : length (unitsOf (decode s)) ≡ units
   counted-units = sym (length-map (unitsOf (decode s)) (λ p. position p (pathsOf (decode s)))) ∙ (ap length (sym are) ∙ length-take-le units files fits)
 
   counted-few : units ≤ file-limit
@@ -113,6 +113,21 @@ module _ (s files : List ℕ) (units : ℕ) (checked : verdict s ≡ Ok) (are : 
       let r = checked-roomy s checked .files in
       let k = counted-units in
       omega (arith, length-map (decode s .files) (λ (f : File). f .path))
+
+  pub unit-there : (u : ℕ) → u < units → OneUnit s files u
+  unit-there u h =
+      let n = counted-units in
+      let l : u < length (unitsOf (decode s)) = omega arith in
+      record {
+        checked = checked;
+        fits = omega arith;
+        is-unit = l;
+        index =
+            sym (getD-take units files u 0 h)
+            ∙ (ap (λ (k : List ℕ). getD k u 0) are
+            ∙ (getD-any (unitFiles (decode s)) u 0 (position [] (pathsOf (decode s))) (omega (arith, length-map (unitsOf (decode s)) (λ p. position p (pathsOf (decode s)))))
+            ∙ List·getD-map (λ p. position p (pathsOf (decode s))) (unitsOf (decode s)) u []));
+      }
 
 -- THE FILES IN FRONT OF A TABLE
 pub known-linked : {s files ids t known : List ℕ} {units : ℕ} → OrderedFilesGiven s files ids units → Carries s t → FilesPut t files known → OrderGiven s known ids units
@@ -146,20 +161,7 @@ module _ (s files : List ℕ) (units : ℕ) (x : UnitsGiven s files units) where
   few-units = counted-few s files units (x .checked) (x .files-are) (x .fits)
 
   pub one-unit : (u : ℕ) → u < units → OneUnit s files u
-  one-unit u h =
-      let n = unit-count in
-      let l : u < length (unitsOf c) = omega arith in
-      let f = x .fits in
-      record {
-        checked = x .checked;
-        fits = omega arith;
-        is-unit = l;
-        index =
-            sym (getD-take units files u 0 h)
-            ∙ (ap (λ (k : List ℕ). getD k u 0) (x .files-are)
-            ∙ (getD-any (unitFiles c) u 0 (position [] (pathsOf c)) (omega (arith, length-map (unitsOf c) (λ p. position p (pathsOf c))))
-            ∙ List·getD-map (λ p. position p (pathsOf c)) (unitsOf c) u []));
-      }
+  one-unit u h = unit-there s files units (x .checked) (x .files-are) (x .fits) u h
 
   pub placed-unit : (u : ℕ) → u < units → PlacedUnit s files u
   placed-unit u h = record { of-unit = one-unit u h; places = x .places }
