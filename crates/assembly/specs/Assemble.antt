@@ -12,7 +12,9 @@ use Rattle.resolution.specs.Resolution.{Resolved, to, fails, resolvePathInterna
 use Rattle.resolution.specs.Call.{position}
 use Rattle.discovery.specs.Discovery.{Fault, programOf}
 use Rattle.order.specs.Run.{ordered, unitsOf}
-use Rattle.order.specs.Run as order
+use Rattle.order.specs.Outcome as steps
+use Rattle.order.specs.Outcome.{andThen}
+pub use Rattle.order.specs.Outcome.{faulty, closed, ended, result, unless}
 
 -- kinds of items
 abbrev pub function-kind : ℕ
@@ -104,24 +106,25 @@ assemblyFaults b [] = []
 assemblyFaults b (u ∷ l) = mainFaults u (localItems b u) ++ (forbidEnumDecInDeps u (localItems b u) ++ assemblyFaults b l)
 
 -- STEPS 3 TO 5
-pub data Outcome : Type 0 where
-  -- the faults of discovery or of step 5, in the order of their pushes
-  faulty : List Fault → Outcome
-  -- the ids of a ring
-  closed : List ℕ → Outcome
-  -- the ids of the units in linked order, and the program
-  program : List ℕ → Items → Outcome
+-- the ids of the units in linked order, and the program
+pub record Built : Type 0 where
+  pub ids : List ℕ
+  pub items : Items
+
+-- the faults of discovery or of step 5, a ring, or a program
+abbrev pub Outcome : Type 0
+Outcome = steps.Outcome Built
+
+abbrev pub program : List ℕ → Items → Outcome
+program o p = result (record { ids = o; items = p })
 
 -- faults of step 5 leave no program
 abbrev pub step5 : List Fault → List ℕ → Items → Outcome
-step5 [] o p = program o p
-step5 (f ∷ fs) o p = faulty (f ∷ fs)
+step5 fs o p = unless fs (program o p)
 
 -- discovery faults and a ring prevent step 5
-abbrev pub assembleAfter : Bundle → order.Outcome → Outcome
-assembleAfter b (order.faulty l) = faulty l
-assembleAfter b (order.closed r) = closed r
-assembleAfter b (order.linked o) = step5 (assemblyFaults b o) o (assembled b o)
+abbrev pub assembleAfter : Bundle → steps.Outcome (List ℕ) → Outcome
+assembleAfter b x = andThen x (λ o. step5 (assemblyFaults b o) o (assembled b o))
 
 unfoldable pub linearizeAndAssemble : Bundle → Outcome
 linearizeAndAssemble b = assembleAfter b (ordered b)

@@ -25,7 +25,7 @@ use Rattle.discovery.specs.Discovery.{uses, programOf, useCache, lookupFaults, 
 use Rattle.graph.specs.Linearize.{linearize, visit, memb, from}
 use Rattle.graph.specs.Linearize as graph
 use Rattle.order.specs.Run.{ordered}
-use Rattle.assembly.specs.Assemble.{rewriteUse, rewriteItems, localItems, assembled, enumDeclarations, forbidEnumDecInDeps, hasMain, mainFaults, assemblyFaults, Outcome, faulty, closed, program, linearizeAndAssemble}
+use Rattle.assembly.specs.Assemble.{rewriteUse, rewriteItems, localItems, assembled, enumDeclarations, forbidEnumDecInDeps, hasMain, mainFaults, assemblyFaults, Outcome, faulty, closed, ended, result, program, linearizeAndAssemble}
 use Rattle.assembly.specs.Image.{imageBytes, itemsLength, imaging, lentImage}
 use Rattle.assembly.specs.declared.Imaged.{Imaged}
 use Rattle.assembly.specs.declared.Imaged.the-variants as imaged
@@ -38,7 +38,8 @@ pub data AssembleCase : Type 0 where
 abbrev imageOf : Outcome → List ℕ
 imageOf (faulty l) = []
 imageOf (closed r) = []
-imageOf (program o p) = imageBytes p
+imageOf (ended n p) = []
+imageOf (result q) = imageBytes (q .items)
 
 unfoldable pub telling : Outcome → AssembleCase
 telling x = told x (imageOf x)

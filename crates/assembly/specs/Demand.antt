@@ -13,17 +13,15 @@ use Rattle.discovery.specs.Discovery.{Fault}
 use Rattle.order.specs.Files.{LinkedFiles}
 use Rattle.order.specs.Theorems.{RingMet, first-half-read}
 use Rattle.order.specs.Call.{padded, unitFiles, pathsOfIds, Wrote}
-use Rattle.order.specs.Report.{Record, fault, ring, small-buffer, reportLength, reporting, lentReport, nothing-lent}
-use Rattle.order.specs.Demand.{ReportEnds, too-small, whole, report-ends, wrote, fault-some, ring-some, files-linked}
-use Rattle.order.specs.declared.Reported.{Reported}
-use Rattle.order.specs.declared.Reported.the-variants as reported
-use Rattle.assembly.specs.Assemble.{Outcome, faulty, closed, program, linearizeAndAssemble}
-use Rattle.assembly.specs.Call.{recordsOf, telling, refusing, reportedTo, imagedTo, answering, imageAfter, answerTo, reportTo, imageTo, assembleAnswer, assembleReport, assembleImage, ImageWritten, NoImage}
+use Rattle.order.specs.Report.{fault, ring, small-buffer, reportLength, lentReport, nothing-lent}
+use Rattle.order.specs.Demand.{report-told, fault-some, ring-some, files-linked}
+use Rattle.order.specs.declared.Answer.{Answer}
+use Rattle.assembly.specs.Assemble.{Outcome, faulty, closed, ended, result, program, linearizeAndAssemble}
+use Rattle.assembly.specs.Call.{recordsOf, telling, refusing, imagedTo, answering, imageAfter, answerTo, reportTo, imageTo, assembleAnswer, assembleReport, assembleImage, ImageWritten, NoImage}
 use Rattle.assembly.specs.Call as call
 use Rattle.assembly.specs.Image.{image-limit, itemsLength, imageLength, imaging, lentImage}
 use Rattle.assembly.specs.Image as image
-use Rattle.assembly.specs.Theorems.{Assembled, assembly-read, Program, program-only, FaultsMet, faults-only, ring-only}
-use Rattle.assembly.specs.declared.Answer.{Answer}
+use Rattle.assembly.specs.Theorems.{Assembled, assembly-read, Program, program-only, FaultsMet, faults-only, ring-only, never-refused}
 use Rattle.assembly.specs.declared.Imaged.{Imaged}
 use Rattle.assembly.specs.declared.Imaged.the-variants as imaged
 
@@ -72,14 +70,11 @@ image-written f = record { length-is = refl; bytes = f .written; rest = f .rest 
 -- THE THEOREM
 module _ (s : List ℕ) (B : Bytes s) (rep img : List ℕ) where
   module _ (b : Bundle) (v : read s ≡ value b) where
-    report-told : (rs : List Record) → recordsOf (linearizeAndAssemble b) ≡ rs
-        → (Wrote rs rep (lentReport rs rep) 0 (reportLength rs) → AssembleTold s rep img (lentReport rs rep) img (reportedTo (reported.Report (reportLength rs))))
-        → 0 < reportLength rs → AssembleTold s rep img (lentReport rs rep) img (reportedTo (reporting rs (length rep)))
-    report-told rs e told more = go (report-ends rs rep)
-      where
-        go : ReportEnds rs rep → AssembleTold s rep img (lentReport rs rep) img (reportedTo (reporting rs (length rep)))
-        go (too-small l x) = small-report b v (subst (λ (y : List Record). length rep < reportLength y) (sym e) l) (ap reportedTo (x .answered)) (x .untouched) refl
-        go (whole f) = subst (λ (y : Reported). AssembleTold s rep img (lentReport rs rep) img (reportedTo y)) (sym (f .answered)) (told (wrote f more))
+    abbrev Told : List ℕ → Answer → Type 0
+    Told final a = AssembleTold s rep img final img a
+
+    too-little : {x : Outcome} → linearizeAndAssemble b ≡ x → length rep < reportLength (recordsOf x) → Told rep (refusing small-buffer 0)
+    too-little e l = small-report b v (subst (λ (y : Outcome). length rep < reportLength (recordsOf y)) (sym e) l) refl refl refl
 
     abbrev withImage : List ℕ → Imaged → Answer
     withImage o y = imagedTo (length (unitFiles b)) (padded (unitFiles b)) (padded o) y
@@ -102,9 +97,10 @@ module _ (s : List ℕ) (B : Bytes s) (rep img : List ℕ) where
 
     by-outcome : (x : Outcome) → linearizeAndAssemble b ≡ x → AssembleTold s rep img (lentReport (recordsOf x) rep) (imageAfter x img) (answering (unitFiles b) (length rep) (length img) x)
     by-outcome (faulty []) e = absurd (faults-only s b v [] e .some refl)
-    by-outcome (faulty (f ∷ fs)) e = report-told (map fault (f ∷ fs)) (ap recordsOf e) (λ w. faults b (f ∷ fs) v (faults-only s b v (f ∷ fs) e) refl w refl) (fault-some f fs)
-    by-outcome (closed r) e = report-told (ring r ∷ []) (ap recordsOf e) (λ w. ring-met b r v (ring-only s b v r e) refl w refl) (ring-some r)
-    by-outcome (program o p) e = image-told o p e (image-ends p img)
+    by-outcome (faulty (f ∷ fs)) e = report-told Told (map fault (f ∷ fs)) rep (too-little e) (λ w. faults b (f ∷ fs) v (faults-only s b v (f ∷ fs) e) refl w refl) (fault-some f fs)
+    by-outcome (closed r) e = report-told Told (ring r ∷ []) rep (too-little e) (λ w. ring-met b r v (ring-only s b v r e) refl w refl) (ring-some r)
+    by-outcome (ended n p) e = absurd (never-refused b n p e)
+    by-outcome (result q) e = image-told (q .ids) (q .items) e (image-ends (q .items) img)
 
   by-reading : (x : Reading) → read s ≡ x → AssembleTold s rep img (reportTo x rep) (imageTo x img) (answerTo x (length rep) (length img))
   by-reading (refused n p) e = turned-back n p e refl refl refl

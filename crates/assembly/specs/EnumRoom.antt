@@ -24,11 +24,11 @@ use Rattle.order.specs.Theorems.{first-half}
 use Rattle.order.specs.Writing.{started}
 use Rattle.assembly.specs.Assemble.{enum-kind, itemsOf, enumDeclarations, foreignEnum, hasMain, noMain, assemblyFaults}
 use Rattle.assembly.specs.Faults.{zero-last, once-last, enumsOf, mainFault, faults-are}
-use Rattle.assembly.specs.Given.{OrderGiven, OneUnit}
-use Rattle.assembly.specs.GivenLaws.{one-unit}
+use Rattle.assembly.specs.Given.{OrderGiven, PlacedUnit}
+use Rattle.assembly.specs.GivenLaws.{placed-unit}
 
 -- an enum is an item
-enums-few : (x : Items) → length (enumDeclarations x) ≤ itemCount x
+pub enums-few : (x : Items) → length (enumDeclarations x) ≤ itemCount x
 unfolding enumDeclarations itemCount
 enums-few none = omega arith
 enums-few (named k m v name rest) = go (eqb k enum-kind) (enums-few rest)
@@ -104,8 +104,8 @@ module _ (s : List ℕ) (B : Bytes s) (files ids : List ℕ) (units : ℕ) (x : 
       let i = first-half b r .ids o (x .order) in
       ap (assemblyFaults b) front-is ∙ faults-are b front (once-last front (subst Rattle.graph.specs.Order.Once front-is (i .once)))
 
-  pub zero-unit : OneUnit s files 0
-  zero-unit = one-unit s files units (x .of-units) 0 some-unit
+  pub zero-unit : PlacedUnit s files 0
+  zero-unit = placed-unit s files units (x .of-units) 0 some-unit
 
   -- one unit after the other
   pub enums-step : (i : ℕ) → i + 1 < units → enumsOf b (drop i front) ≡ enumDeclarations (itemsOf b (getD ids i 0)) ++ enumsOf b (drop (i + 1) front)

@@ -11,12 +11,10 @@ use Rattle.bundle.specs.Encode.{items}
 use Rattle.bundle.specs.Decode.{decode}
 use Rattle.bundle.specs.Read.{verdict}
 use Rattle.bundle.specs.declared.Checked.the-variants.{Ok}
-use Rattle.resolution.specs.Lists.{listsOf}
-use Rattle.resolution.specs.Layouts.{listsAt, Small}
 use Rattle.resolution.specs.Call.{position}
-use Rattle.resolution.specs.declared.Layout.{Layout}
 use Rattle.discovery.specs.Discovery.{pathsOf}
 use Rattle.discovery.specs.Complete.{Known}
+use Rattle.discovery.specs.Places.{Places}
 use Rattle.order.specs.Run.{linked, ordered, unitsOf}
 use Rattle.order.specs.Call.{unitFiles}
 use Rattle.assembly.specs.Assemble.{fileOf, localItems, assembled}
@@ -26,8 +24,9 @@ pub record UnitsGiven (s files : List ℕ) (units : ℕ) : Type 0 where
   pub checked : verdict s ≡ Ok
   pub files-are : take units files ≡ unitFiles (decode s)
   pub fits : units ≤ length files
-  -- behind them stands what every use of a unit resolves to
+  -- behind them stands what every use of a unit resolves to, and where each file stands
   pub known : Known (decode s) files
+  pub places : Places s files
 
 -- and their linked order
 pub record OrderGiven (s files ids : List ℕ) (units : ℕ) : Type 0 where
@@ -53,9 +52,10 @@ pub record OneUnit (s files : List ℕ) (u : ℕ) : Type 0 where
   pub is-unit : u < length (unitsOf (decode s))
   pub index : getD files u 0 ≡ position (fileOf (decode s) u) (pathsOf (decode s))
 
--- where the lists stand
-abbrev pub Lies : List ℕ → Layout → Type 0
-Lies s at = (listsAt s at ≡ listsOf (decode s)) × Small at
+-- and where each file stands
+pub record PlacedUnit (s files : List ℕ) (u : ℕ) : Type 0 where
+  pub of-unit : OneUnit s files u
+  pub places : Places s files
 
 -- A UNIT IN THE IMAGE
 unfoldable pub unitBytes : Bundle → ℕ → List ℕ

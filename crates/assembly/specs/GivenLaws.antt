@@ -19,17 +19,16 @@ use Rattle.bundle.specs.Decode.{decode, fileAt, itemsAt}
 use Rattle.bundle.specs.Read.{verdict}
 use Rattle.bundle.specs.Theorems.{sound, accepted}
 use Rattle.bundle.specs.declared.Checked.the-variants.{Ok}
-use Rattle.resolution.specs.Lists.{Lists, listsOf}
-use Rattle.resolution.specs.Layouts.{Importer}
+use Rattle.resolution.specs.Lists.{listsOf}
 use Rattle.resolution.specs.Call.{position}
-use Rattle.resolution.specs.declared.Layout.{Layout}
 use Rattle.discovery.specs.Discovery.{programOf, pathsOf}
-use Rattle.discovery.specs.Facts.{mem-member, member-true, member-false, getD-mem, getD-any, pigeons, id-found}
+use Rattle.discovery.specs.Facts.{member-true, member-false, getD-mem, getD-any, pigeons, id-found}
 use Rattle.discovery.specs.Right.{discovered}
 use Rattle.discovery.specs.Room.{checked-roomy}
 use Rattle.discovery.specs.Search.{indexIn}
 use Rattle.discovery.specs.Known.{Row, FilesPut, row-put, files-put}
 use Rattle.discovery.specs.Complete.{Carries}
+use Rattle.discovery.specs.Places.{places-put}
 use Rattle.discovery.specs.Weight.{reached-file}
 use Rattle.order.specs.Run.{unitsOf}
 use Rattle.order.specs.Call.{unitFiles}
@@ -39,7 +38,7 @@ use Rattle.assembly.specs.Parts.{headBytes}
 use Rattle.assembly.specs.Paths.{program-formed}
 use Rattle.assembly.specs.Targets.{UnitOf, fileUses}
 use Rattle.assembly.specs.Walk.{itemsBytes, item-form, Brief, formed-brief}
-use Rattle.assembly.specs.Given.{Lies, OneUnit, OrderGiven, OrderedFilesGiven, UnitsGiven, programBytes, unitBytes}
+use Rattle.assembly.specs.Given.{OneUnit, PlacedUnit, OrderGiven, OrderedFilesGiven, UnitsGiven, programBytes, unitBytes}
 
 -- A UNIT'S FILE is listed
 pub unit-listed : (b : Bundle) (p : Text) → List·Memᴰ p (unitsOf b) → List·Memᴰ p (pathsOf b)
@@ -68,6 +67,9 @@ module _ (s files : List ℕ) (u : ℕ) (x : OneUnit s files u) where
 
   pub index-small : getD files u 0 < 256
   index-small = let r = checked-roomy s (x .checked) .files in let i = index-below in omega arith
+
+  pub index-few : getD files u 0 < file-limit
+  index-few = let r = checked-roomy s (x .checked) .files in let i = index-below in omega arith
 
   module _ (place : ℕ) (found : (d : File) → getD files u 0 < length (b .files) → getD (b .files) (getD files u 0) d ≡ fileAt s place) where
     here : (d : File) → getD (b .files) (position (fileOf b u) (pathsOf b)) d ≡ fileAt s place
@@ -102,7 +104,7 @@ no-unit p (q ∷ l) n = rw (different p q (λ e. n (List·Memᴰ·head e)), no-u
 
 -- how many units there are
 module _ (s files : List ℕ) (units : ℕ) (checked : verdict s ≡ Ok) (are : take units files ≡ unitFiles (decode s)) (fits : units ≤ length files) where
-  counted-units : length (unitsOf (decode s)) ≡ units
+  pub counted-units : length (unitsOf (decode s)) ≡ units
   counted-units = sym (length-map (unitsOf (decode s)) (λ p. position p (pathsOf (decode s)))) ∙ (ap length (sym are) ∙ length-take-le units files fits)
 
   counted-few : units ≤ file-limit
@@ -111,6 +113,21 @@ module _ (s files : List ℕ) (units : ℕ) (checked : verdict s ≡ Ok) (are : 
       let r = checked-roomy s checked .files in
       let k = counted-units in
       omega (arith, length-map (decode s .files) (λ (f : File). f .path))
+
+  pub unit-there : (u : ℕ) → u < units → OneUnit s files u
+  unit-there u h =
+      let n = counted-units in
+      let l : u < length (unitsOf (decode s)) = omega arith in
+      record {
+        checked = checked;
+        fits = omega arith;
+        is-unit = l;
+        index =
+            sym (getD-take units files u 0 h)
+            ∙ (ap (λ (k : List ℕ). getD k u 0) are
+            ∙ (getD-any (unitFiles (decode s)) u 0 (position [] (pathsOf (decode s))) (omega (arith, length-map (unitsOf (decode s)) (λ p. position p (pathsOf (decode s)))))
+            ∙ List·getD-map (λ p. position p (pathsOf (decode s))) (unitsOf (decode s)) u []));
+      }
 
 -- THE FILES IN FRONT OF A TABLE
 pub known-linked : {s files ids t known : List ℕ} {units : ℕ} → OrderedFilesGiven s files ids units → Carries s t → FilesPut t files known → OrderGiven s known ids units
@@ -127,6 +144,7 @@ known-linked {s} {files} {ids} {t} {known} {units} x y p =
         fits = fit;
         known = let k = y .known (u .checked) in
             record { complete = record { long = w ∙ l; rows = λ q m. row-put t files known p _ _ _ _ (k .complete .rows q m) }; rise = k .rise };
+        places = places-put s t files known p (u .checked) (y .places (u .checked));
       };
       order = x .order;
       ids-fit = x .ids-fit;
@@ -143,50 +161,36 @@ module _ (s files : List ℕ) (units : ℕ) (x : UnitsGiven s files units) where
   few-units = counted-few s files units (x .checked) (x .files-are) (x .fits)
 
   pub one-unit : (u : ℕ) → u < units → OneUnit s files u
-  one-unit u h =
-      let n = unit-count in
-      let l : u < length (unitsOf c) = omega arith in
-      let f = x .fits in
-      record {
-        checked = x .checked;
-        fits = omega arith;
-        is-unit = l;
-        index =
-            sym (getD-take units files u 0 h)
-            ∙ (ap (λ (k : List ℕ). getD k u 0) (x .files-are)
-            ∙ (getD-any (unitFiles c) u 0 (position [] (pathsOf c)) (omega (arith, length-map (unitsOf c) (λ p. position p (pathsOf c))))
-            ∙ List·getD-map (λ p. position p (pathsOf c)) (unitsOf c) u []));
-      }
+  one-unit u h = unit-there s files units (x .checked) (x .files-are) (x .fits) u h
 
-  pub unit-of : (at : Layout) (file : Text) (u : ℕ) → Lies s at → u < units → file ≡ fileOf c u → UnitOf s at file (getD files u 0) files units
-  unit-of at file u lies h e =
+  pub placed-unit : (u : ℕ) → u < units → PlacedUnit s files u
+  placed-unit u h = record { of-unit = one-unit u h; places = x .places }
+
+  pub unit-of : (u : ℕ) → u < units → UnitOf s files units u
+  unit-of u h =
       let one = one-unit u h in
-      let m = unit-listed c (fileOf c u) (getD-mem (unitsOf c) u [] (one .is-unit)) in
-      let i : Importer (listsOf c) (fileOf c u) (getD files u 0) = record { listed = mem-member m; index = one .index } in
       record {
-        small = lies .1;
-        lists = lies .0;
-        importer = subst (λ (l : Lists). Importer l file (getD files u 0)) (sym (lies .0)) (subst (λ (p : Text). Importer (listsOf c) p (getD files u 0)) (sym e) i);
+        unit = h;
         fits = x .fits;
         few = few-units;
         ids = λ p k. index-units p (pathsOf c) (unitsOf c) (member-true p (pathsOf c) k) (unit-listed c) ∙ ap (indexIn (position p (pathsOf c))) (sym (x .files-are));
         long = x .known .complete .long;
-        place = let p = index-below s files u one in let r = checked-roomy s (x .checked) .files in omega arith;
-        table = subst (λ (p : Text). Row files (getD files u 0) (listsOf c) p (fileUses s p)) (sym e) (subst (λ (k : ℕ). Row files k (listsOf c) (fileOf c u) (fileUses s (fileOf c u))) (sym (one .index)) (x .known .complete .rows (fileOf c u) (getD-mem (unitsOf c) u [] (one .is-unit))));
-        rise = x .known .rise file;
+        place = index-few s files u one;
+        table = subst (λ (k : ℕ). Row files k (listsOf c) (fileOf c u) (fileUses s (fileOf c u))) (sym (one .index)) (x .known .complete .rows (fileOf c u) (getD-mem (unitsOf c) u [] (one .is-unit)));
+        rise = x .known .rise (fileOf c u);
         others = λ p k. no-unit p (unitsOf c) (λ w. member-false k (unit-listed c p w)) ∙ unit-count;
       }
 
-  pub unit-brief : Bytes s → (u : ℕ) (file : Text) (y : Items) → file ≡ fileOf c u → y ≡ itemsOf c u → Brief (fileUses s file) y
-  unit-brief B u file y e q =
-      rw (e, q) (formed-brief (fileUses s (fileOf c u)) (itemsOf c u) depth-limit (program-formed (c .files) (fileOf c u) (sound s B c (accepted s (x .checked)) .1 .form .files)) (λ v m. m))
+  pub unit-brief : Bytes s → (u : ℕ) (y : Items) → y ≡ itemsOf c u → Brief (fileUses s (fileOf c u)) y
+  unit-brief B u y q =
+      rw q (formed-brief (fileUses s (fileOf c u)) (itemsOf c u) depth-limit (program-formed (c .files) (fileOf c u) (sound s B c (accepted s (x .checked)) .1 .form .files)) (λ v m. m))
 
 -- A UNIT IN THE IMAGE
 -- by the items that the code reads
-pub unit-form : (s : List ℕ) (file : Text) (u end at : ℕ) → file ≡ fileOf (decode s) u → itemsAt depth-limit s end at ≡ itemsOf (decode s) u
-    → unitBytes (decode s) u ≡ headBytes (2 + length (string (unitName u) ++ itemsBytes s file depth-limit end at)) module-kind 0 ++ (string (unitName u) ++ itemsBytes s file depth-limit end at)
+pub unit-form : (s : List ℕ) (u end at : ℕ) → itemsAt depth-limit s end at ≡ itemsOf (decode s) u
+    → unitBytes (decode s) u ≡ headBytes (2 + length (string (unitName u) ++ itemsBytes s (fileOf (decode s) u) depth-limit end at)) module-kind 0 ++ (string (unitName u) ++ itemsBytes s (fileOf (decode s) u) depth-limit end at)
 unfolding unitBytes items itemsBytes localItems
-unit-form s file u end at e i = rw (e, i) (item-form module-kind 0 (string (unitName u) ++ items (localItems (decode s) u)))
+unit-form s u end at i = rw i (item-form module-kind 0 (string (unitName u) ++ items (localItems (decode s) u)))
 
 pub unit-room : (b : Bundle) (u : ℕ) → 4 + length (string (unitName u)) ≤ length (unitBytes b u)
 unfolding unitBytes items

@@ -9,7 +9,7 @@ use Rattle.bundle.specs.Bundle.{Bundle}
 use Rattle.bundle.specs.Limits.{file-limit}
 use Rattle.bundle.specs.Decode.{decode}
 use Rattle.bundle.specs.Read.{verdict}
-use Rattle.bundle.specs.Theorems.{accepted, told}
+use Rattle.bundle.specs.Theorems.{accepted}
 use Rattle.bundle.specs.declared.Checked.{Checked}
 use Rattle.bundle.specs.declared.Checked.the-variants.{Ok, Refused}
 use Rattle.resolution.specs.Call.{position}
@@ -21,32 +21,22 @@ use Rattle.order.specs.Run.{linked, ordered, unitsOf}
 use Rattle.order.specs.Run as order
 use Rattle.order.specs.Call.{padded, unitFiles, orderAnswer, orderReport}
 use Rattle.order.specs.Call as call
-use Rattle.order.specs.Report.{Record, fault, lentReport, reporting, nothing-lent}
-use Rattle.order.specs.Report as report
+use Rattle.order.specs.Report.{lentReport, reporting, nothing-lent}
 use Rattle.order.specs.Writing.{faultRecords}
 use Rattle.order.specs.Theorems.{first-half, order-count}
-use Rattle.order.specs.declared.Answer as ordering
+use Rattle.order.specs.declared.Answer.{Answer}
 use Rattle.order.specs.declared.Reported.{Reported}
-use Rattle.order.specs.declared.Reported.the-variants as reported
+use Rattle.order.specs.Carried.{order-read, not-refused, units-only, carried}
 use Rattle.assembly.specs.Assemble.{Outcome, faulty, closed, program, assembled, assemblyFaults, step5, assembleAfter, linearizeAndAssemble}
 use Rattle.assembly.specs.Image.{imaging, lentImage}
-use Rattle.assembly.specs.Call.{recordsOf, telling, reportedTo, imagedTo, answering, imageAfter, assembleAnswer, assembleReport, assembleImage}
-use Rattle.assembly.specs.Faults.{zero-last}
+use Rattle.assembly.specs.Call.{recordsOf, reportedTo, imagedTo, withImage, answering, imageAfter, assembleAnswer, assembleReport, assembleImage}
 use Rattle.assembly.specs.Given.{OrderedFilesGiven}
-use Rattle.assembly.specs.declared.Answer.{Answer}
 use Rattle.assembly.specs.declared.Imaged.{Imaged}
 
 -- what is due of an answer and of both buffers
 abbrev pub Due : (s report₀ image₀ report₁ image₁ : List ℕ) → Answer → Type 0
 Due s report₀ image₀ report₁ image₁ a =
     (a ≡ assembleAnswer s report₀ image₀) × ((report₁ ≡ assembleReport s report₀) × (image₁ ≡ assembleImage s image₀))
-
--- A LINKED ORDER HAS A UNIT
-pub some-unit : (b : Bundle) → 0 < length (b .files) → (o : List ℕ) → ordered b ≡ linked o → 0 < length (unitsOf b)
-some-unit b some o e =
-    let z = zero-last b o e in
-    let c = order-count b o (first-half b some .order o e) in
-    omega (arith, ap length (z .is), length-append (z .before) (0 ∷ []))
 
 padded-take : (l : List ℕ) (n : ℕ) → length l ≡ n → take n (padded l) ≡ l
 padded-take l n h = take-at l (drop (length l) (replicate file-limit 0)) n h
@@ -59,20 +49,7 @@ module _ (s out img : List ℕ) where
   abbrev b : Bundle
   b = decode s
 
-  module _ (n p : ℕ) (v : verdict s ≡ Refused n p) where
-    pub order-refused : (orderAnswer s out ≡ call.refusing n p) × (orderReport s out ≡ out)
-    unfolding orderAnswer orderReport
-    order-refused = let r = told s n p v in rw r (refl, refl)
-
-    assemble-refused : (assembleAnswer s out img ≡ telling n p 0) × ((assembleReport s out ≡ out) × (assembleImage s img ≡ img))
-    unfolding assembleAnswer assembleReport assembleImage
-    assemble-refused = let r = told s n p v in rw r (refl, (refl, refl))
-
   module _ (v : verdict s ≡ Ok) where
-    pub order-read : (orderAnswer s out ≡ call.answering (unitFiles b) (length out) (ordered b)) × (orderReport s out ≡ lentReport (report.recordsOf (ordered b)) out)
-    unfolding orderAnswer orderReport
-    order-read = let r = accepted s v in rw r (refl, refl)
-
     assemble-read : (assembleAnswer s out img ≡ answering (unitFiles b) (length out) (length img) (linearizeAndAssemble b))
         × ((assembleReport s out ≡ lentReport (recordsOf (linearizeAndAssemble b)) out) × (assembleImage s img ≡ imageAfter (linearizeAndAssemble b) img))
     unfolding assembleAnswer assembleReport assembleImage
@@ -82,87 +59,38 @@ module _ (s out img : List ℕ) where
     unfolding linearizeAndAssemble
     after-order x e = ap (assembleAfter b) e
 
-  -- no answer that tells something has units
-  report-units : (x : Reported) → call.reportedTo x .units ≡ 0
-  report-units (reported.Report n) = refl
-  report-units (reported.Refused n p) = refl
-
-  same-report : (x : Reported) → telling (call.reportedTo x .number) (call.reportedTo x .place) (call.reportedTo x .report) ≡ reportedTo x
-  same-report (reported.Report n) = refl
-  same-report (reported.Refused n p) = refl
-
-  module _ (a : ordering.Answer) (rep : List ℕ) (is : a ≡ orderAnswer s out) (lent : rep ≡ orderReport s out) where
-    abbrev answer : Answer
-    answer = telling (a .number) (a .place) (a .report)
-
+  module _ (a : Answer) (rep : List ℕ) (is : a ≡ orderAnswer s out) (lent : rep ≡ orderReport s out) where
     -- WHERE THERE ARE NO UNITS the answer of steps 3 and 4 is the answer
-    told-refused : (n p : ℕ) → verdict s ≡ Refused n p → Due s out img rep img answer
-    told-refused n p v =
-        let x = order-refused n p v in
-        let y = assemble-refused n p v in
-        let e = is ∙ x .0 in
-        (ap (λ (z : ordering.Answer). telling (z .number) (z .place) (z .report)) e ∙ sym (y .0), (lent ∙ (x .1 ∙ sym (y .1 .0)), sym (y .1 .1)))
+    pub no-units : a .units ≡ 0 → Due s out img rep img a
+    unfolding assembleAnswer assembleReport assembleImage linearizeAndAssemble
+    no-units h =
+        let y = carried s out a rep is lent linearizeAndAssemble (λ c o. step5 (assemblyFaults c o) o (assembled c o)) (λ c. refl)
+        (λ c q. withImage (unitFiles c) (length img) q) (λ q i. lentImage (q .items) i) img (λ q. Unit {0}) (Unit {0}) h in
+        (y .answer, (y .report, y .held))
 
-    module _ (v : verdict s ≡ Ok) where
-      -- with an outcome of steps 3 and 4 that leaves one of step 5 with the same records and no image
-      told-outcome : (x : order.Outcome) (r : Reported) → ordered b ≡ x → call.answering (unitFiles b) (length out) x ≡ call.reportedTo r
-          → answering (unitFiles b) (length out) (length img) (assembleAfter b x) ≡ reportedTo r → report.recordsOf x ≡ recordsOf (assembleAfter b x) → img ≡ imageAfter (assembleAfter b x) img
-          → Due s out img rep img answer
-      told-outcome x r e f g h k =
-          let o = order-read v in
-          let m = assemble-read v in
-          let l = after-order v x e in
-          let q : a ≡ call.reportedTo r = is ∙ (o .0 ∙ (ap (call.answering (unitFiles b) (length out)) e ∙ f)) in (
-            ap (λ (z : ordering.Answer). telling (z .number) (z .place) (z .report)) q ∙ (same-report r ∙ (sym g ∙ (ap (answering (unitFiles b) (length out) (length img)) (sym l) ∙ sym (m .0)))),
-            (
-              lent ∙ (o .1 ∙ (ap (λ (z : order.Outcome). lentReport (report.recordsOf z) out) e ∙ (ap (λ (z : List Record). lentReport z out) h ∙ (ap (λ (z : Outcome). lentReport (recordsOf z) out) (sym l) ∙ sym (m .1 .0))))),
-              k ∙ (ap (λ (z : Outcome). imageAfter z img) (sym l) ∙ sym (m .1 .1)),
-            ),
-          )
-
-      told-read : (x : order.Outcome) → ordered b ≡ x → a .units ≡ 0 → Due s out img rep img answer
-      told-read (order.faulty l) e h = told-outcome (order.faulty l) (reporting (map fault l) (length out)) e refl refl refl refl
-      told-read (order.closed r) e h = told-outcome (order.closed r) (reporting (report.ring r ∷ []) (length out)) e refl refl refl refl
-      told-read (order.linked o) e h =
-          let n = some-unit b (checked-roomy s v .some) o e in
-          let l = length-map (unitsOf b) (λ p. position p (pathsOf b)) in
-          let q = ap (λ (z : ordering.Answer). z .units) (is ∙ (order-read v .0 ∙ ap (call.answering (unitFiles b) (length out)) e)) in
-          absurd (omega arith)
-
-      -- WHERE THERE ARE, they are linked
-      linked-read : (x : order.Outcome) → ordered b ≡ x → (a .units ≡ 0 → ⊥) → OrderedFilesGiven s (a .files) (a .ids) (a .units) × (rep ≡ out)
-      linked-read (order.faulty l) e h =
-          absurd (h (ap (λ (z : ordering.Answer). z .units) (is ∙ (order-read v .0 ∙ ap (call.answering (unitFiles b) (length out)) e)) ∙ report-units (reporting (map fault l) (length out))))
-      linked-read (order.closed r) e h =
-          absurd (h (ap (λ (z : ordering.Answer). z .units) (is ∙ (order-read v .0 ∙ ap (call.answering (unitFiles b) (length out)) e)) ∙ report-units (reporting (report.ring r ∷ []) (length out))))
-      linked-read (order.linked o) e h =
-          let q : a ≡ call.linking (unitFiles b) (padded o) = is ∙ (order-read v .0 ∙ ap (call.answering (unitFiles b) (length out)) e) in
-          let c = order-count b o (first-half b (checked-roomy s v .some) .order o e) in
-          let l = length-map (unitsOf b) (λ p. position p (pathsOf b)) in
-          let f = padded-take (unitFiles b) (length (unitFiles b)) refl in
-          let g = padded-take o (length (unitFiles b)) (omega arith) in
-          let k = padded-long (unitFiles b) in
-          let m = padded-long o in
-          let t : OrderedFilesGiven s (call.linking (unitFiles b) (padded o) .files) (call.linking (unitFiles b) (padded o) .ids) (call.linking (unitFiles b) (padded o) .units) = record {
-            of-units = record { checked = v; files-are = f; fits = k };
-            order = e ∙ ap linked (sym g);
-            ids-fit = omega arith;
-          } in
-          (subst (λ (z : ordering.Answer). OrderedFilesGiven s (z .files) (z .ids) (z .units)) (sym q) t, lent ∙ (order-read v .1 ∙ (ap (λ (z : order.Outcome). lentReport (report.recordsOf z) out) e ∙ nothing-lent out)))
-
-    pub no-units : a .units ≡ 0 → Due s out img rep img answer
-    no-units h = go (verdict s) refl
-      where
-        go : (c : Checked) → verdict s ≡ c → Due s out img rep img answer
-        go (Refused n p) v = told-refused n p v
-        go Ok v = told-read v (ordered b) refl h
+    -- WHERE THERE ARE, they are linked
+    linked-read : (v : verdict s ≡ Ok) (o : List ℕ) → ordered b ≡ linked o → OrderedFilesGiven s (a .files) (a .ids) (a .units) × (rep ≡ out)
+    linked-read v o e =
+        let q : a ≡ call.linking (unitFiles b) (padded o) = is ∙ (order-read s out v .0 ∙ ap (call.answering (unitFiles b) (length out)) e) in
+        let c = order-count b o (first-half b (checked-roomy s v .some) .order o e) in
+        let l = length-map (unitsOf b) (λ p. position p (pathsOf b)) in
+        let f = padded-take (unitFiles b) (length (unitFiles b)) refl in
+        let g = padded-take o (length (unitFiles b)) (omega arith) in
+        let k = padded-long (unitFiles b) in
+        let m = padded-long o in
+        let t : OrderedFilesGiven s (call.linking (unitFiles b) (padded o) .files) (call.linking (unitFiles b) (padded o) .ids) (call.linking (unitFiles b) (padded o) .units) = record {
+          of-units = record { checked = v; files-are = f; fits = k };
+          order = e ∙ ap linked (sym g);
+          ids-fit = omega arith;
+        } in
+        (subst (λ (z : Answer). OrderedFilesGiven s (z .files) (z .ids) (z .units)) (sym q) t, lent ∙ (order-read s out v .1 ∙ (ap (λ (z : order.Outcome). lentReport (recordsOf z) out) e ∙ nothing-lent out)))
 
     pub units-linked : (a .units ≡ 0 → ⊥) → OrderedFilesGiven s (a .files) (a .ids) (a .units) × (rep ≡ out)
     units-linked h = go (verdict s) refl
       where
         go : (c : Checked) → verdict s ≡ c → OrderedFilesGiven s (a .files) (a .ids) (a .units) × (rep ≡ out)
-        go (Refused n p) v = absurd (h (ap (λ (z : ordering.Answer). z .units) (is ∙ order-refused n p v .0)))
-        go Ok v = linked-read v (ordered b) refl h
+        go (Refused n p) v = absurd (not-refused s out a rep is lent h n p v)
+        go Ok v = let q = units-only s out a rep is lent h v (ordered b) refl in linked-read v (q .0) (q .1)
 
     -- STEP 5 of linked units
     module _ (x : OrderedFilesGiven s (a .files) (a .ids) (a .units)) where
@@ -199,10 +127,10 @@ module _ (s out img : List ℕ) where
           let none : assemblyFaults b o ≡ [] = sym f ∙ ap (λ (n : ℕ). faultsIn (take n numbers) (take n places)) z in
           let q : linearizeAndAssemble b ≡ program o (assembled b o) = step5-is ∙ ap (λ (l : List Fault). step5 l o (assembled b o)) none in
           let m = assemble-read ok in
-          let t : a ≡ call.linking (unitFiles b) (padded o) = is ∙ (order-read ok .0 ∙ ap (call.answering (unitFiles b) (length out)) (x .order)) in (
+          let t : a ≡ call.linking (unitFiles b) (padded o) = is ∙ (order-read s out ok .0 ∙ ap (call.answering (unitFiles b) (length out)) (x .order)) in (
             g
                 ∙ (ap (imagedTo (a .units) (a .files) (a .ids)) e
-                ∙ (ap (λ (y : ordering.Answer). imagedTo (y .units) (y .files) (y .ids) (imaging (assembled b o) (length img))) t
+                ∙ (ap (λ (y : Answer). imagedTo (y .units) (y .files) (y .ids) (imaging (assembled b o) (length img))) t
                 ∙ (ap (answering (unitFiles b) (length out) (length img)) (sym q) ∙ sym (m .0)))),
             (
               same ∙ (sym (nothing-lent out) ∙ (ap (λ (y : Outcome). lentReport (recordsOf y) out) (sym q) ∙ sym (m .1 .0))),

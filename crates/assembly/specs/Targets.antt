@@ -5,7 +5,7 @@ use native.Mathlib.Omega.{arith}
 use mathlib.Core.Bool.{Bool, true, false, cond}
 use mathlib.Core.Path.{_≡_, refl, sym, ap, subst, _∙_}
 use mathlib.Core.List.{List, [], _∷_, _++_, List·Memᴰ}
-use lib.ListN.{length, take, drop, length-append}
+use lib.ListN.{length, getD, take, drop, length-append}
 use lib.Seq.{drop-at}
 use Rattle.names.specs.Bytes.{ascii, member}
 use Rattle.names.specs.Decimal.{unitName}
@@ -13,18 +13,16 @@ use Rattle.bundle.specs.Bundle.{Text, Bundle}
 use Rattle.bundle.specs.Limits.{file-limit}
 use Rattle.bundle.specs.Decode.{decode}
 use Rattle.resolution.specs.Lists.{Lists, listsOf}
-use Rattle.resolution.specs.Layouts.{listsAt, Small, Importer}
 use Rattle.resolution.specs.Resolution.{Resolved, to, fails, resolvePathInternal}
 use Rattle.resolution.specs.Call.{answer, position}
-use Rattle.resolution.specs.declared.Layout.{Layout}
 use Rattle.resolution.specs.declared.Resolution.{Resolution}
 use Rattle.resolution.specs.declared.Resolution.the-variants.{File, Folder, Refused}
 use Rattle.discovery.specs.Discovery.{Use, uses, programOf, pathsOf}
 use Rattle.discovery.specs.Search.{indexIn, index-small}
 use Rattle.discovery.specs.Walk.{useAt}
-use Rattle.discovery.specs.Known.{codeOf, fileOf, leftOf, codeIn, fileIn, leftIn, EntryOf, Row, Held, Finds, Rises, held, found as entry-found}
+use Rattle.discovery.specs.Known.{known-length, codeOf, fileOf as targetOf, leftOf, codeIn, fileIn, leftIn, EntryOf, Row, Held, Finds, Rises, held, found as entry-found}
 use Rattle.order.specs.Run.{unitsOf}
-use Rattle.assembly.specs.Assemble.{newPath, rewriteUse}
+use Rattle.assembly.specs.Assemble.{newPath, rewriteUse, fileOf}
 use Rattle.assembly.specs.Paths.{LeftOf, left-of}
 use Rattle.assembly.specs.declared.Target.{Target}
 use Rattle.assembly.specs.declared.Target.the-variants.{Unit, Nothing}
@@ -45,21 +43,18 @@ fileUses s file = uses (programOf (decode s .files) file)
 abbrev pub InFile : List ℕ → Text → ℕ → Type 0
 InFile s file mark = List·Memᴰ (useAt s mark) (fileUses s file)
 
--- what the functions over the items of a unit are handed: where the lists stand, the unit's file and its index, and the files
--- of all units
-pub record UnitOf (s : List ℕ) (at : Layout) (file : Text) (index : ℕ) (files : List ℕ) (units : ℕ) : Type 0 where
-  pub small : Small at
-  pub lists : listsAt s at ≡ listsOf (decode s)
-  pub importer : Importer (listsAt s at) file index
+-- what the functions over the items of a unit are handed: the files of all units with the table behind them, and the unit's id
+pub record UnitOf (s files : List ℕ) (units u : ℕ) : Type 0 where
+  pub unit : u < units
   pub fits : units ≤ length files
   pub few : units ≤ file-limit
   -- a unit's id is the place of its file among the units' files
   pub ids : (p : Text) → member p (pathsOf (decode s)) ≡ true → position p (unitsOf (decode s)) ≡ indexIn (position p (pathsOf (decode s))) (take units files)
   -- each use of the file has its entry
-  pub long : length files ≡ 1280
-  pub place : index < file-limit
-  pub table : Row files index (listsOf (decode s)) file (fileUses s file)
-  pub rise : Rises (fileUses s file)
+  pub long : length files ≡ known-length
+  pub place : getD files u 0 < file-limit
+  pub table : Row files (getD files u 0) (listsOf (decode s)) (fileOf (decode s) u) (fileUses s (fileOf (decode s) u))
+  pub rise : Rises (fileUses s (fileOf (decode s) u))
   pub others : (p : Text) → member p (pathsOf (decode s)) ≡ false → position p (unitsOf (decode s)) ≡ units
 
 -- the segments that are left are the last ones
@@ -74,9 +69,12 @@ targetBy files units (File f left) = Unit (indexIn f (take units files)) left
 targetBy files units (Folder f left) = Unit units left
 targetBy files units (Refused n p) = Nothing
 
-module _ (s : List ℕ) (at : Layout) (file : Text) (index : ℕ) (files : List ℕ) (units : ℕ) (u : UnitOf s at file index files units) (segments : List Text) where
+module _ (s files : List ℕ) (units id : ℕ) (u : UnitOf s files units id) (segments : List Text) where
   abbrev b : Bundle
   b = decode s
+
+  abbrev file : Text
+  file = fileOf b id
 
   abbrev Right : Target → Type 0
   Right t = (rewriteUse b file segments ≡ pathBy segments t) × Within segments t
@@ -88,10 +86,10 @@ module _ (s : List ℕ) (at : Layout) (file : Text) (index : ℕ) (files : List 
     last : (drop (length segments - length rest) segments ≡ rest) × (length rest ≤ length segments)
     last = left-last segments rest (left .end .before) (left .first) (left .is ∙ ap (λ (l : List Text). left .first ∷ l) (left .end .is))
 
-    with-id : (id : ℕ) → position p (unitsOf b) ≡ id → id ≤ file-limit → Right (Unit id (length rest))
+    with-id : (i : ℕ) → position p (unitsOf b) ≡ i → i ≤ file-limit → Right (Unit i (length rest))
     unfolding rewriteUse
-    with-id id q h =
-        (ap (newPath (unitsOf b)) e ∙ (ap (λ (n : ℕ). ascii "crate" ∷ unitName n ∷ rest) q ∙ ap (λ (l : List Text). ascii "crate" ∷ unitName id ∷ l) (sym (last .0))), (last .1, h))
+    with-id i q h =
+        (ap (newPath (unitsOf b)) e ∙ (ap (λ (n : ℕ). ascii "crate" ∷ unitName n ∷ rest) q ∙ ap (λ (l : List Text). ascii "crate" ∷ unitName i ∷ l) (sym (last .0))), (last .1, h))
 
     found : (t : Bool) → member p (pathsOf b) ≡ t → Right (targetBy files units (cond t (File (position p (pathsOf b)) (length rest)) (Folder (position p (b .folders)) (length rest))))
     found true m = with-id (indexIn (position p (pathsOf b)) (take units files)) (u .ids p m) (let h = index-small (position p (pathsOf b)) units files in let k = u .few in omega arith)
@@ -123,33 +121,36 @@ module _ (s : List ℕ) (at : Layout) (file : Text) (index : ℕ) (files : List 
   told-nothing (Refused n p) k x ek a c = x
 
 -- THE ENTRY OF A USE of the file: it is there, and says the target
-module _ (s : List ℕ) (at : Layout) (file : Text) (index : ℕ) (files : List ℕ) (units : ℕ) (u : UnitOf s at file index files units) (mark : ℕ) (m : InFile s file mark) where
+module _ (s files : List ℕ) (units id : ℕ) (u : UnitOf s files units id) (mark : ℕ) (m : InFile s (fileOf (decode s) id) mark) where
+  abbrev index : ℕ
+  index = getD files id 0
+
   pub is-held : Held files index mark
   is-held = held (u .long) (u .place) (u .table) (u .rise) (useAt s mark) m
 
   abbrev its-answer : Resolution
-  its-answer = answer (listsOf (decode s)) (resolvePathInternal (listsOf (decode s)) file (useAt s mark .segments))
+  its-answer = answer (listsOf (decode s)) (resolvePathInternal (listsOf (decode s)) (fileOf (decode s) id) (useAt s mark .segments))
 
   abbrev Tells : Target → Type 0
-  Tells t = (rewriteUse (decode s) file (useAt s mark .segments) ≡ pathBy (useAt s mark .segments) t) × Within (useAt s mark .segments) t
+  Tells t = (rewriteUse (decode s) (fileOf (decode s) id) (useAt s mark .segments) ≡ pathBy (useAt s mark .segments) t) × Within (useAt s mark .segments) t
 
   module _ (i : ℕ) (w : Finds files index mark i) where
     pub entry-small : i < 256
     entry-small = let f = u .table .fits in omega (arith, w .to)
 
-    entry : EntryOf (listsOf (decode s)) file files i (useAt s mark)
+    entry : EntryOf (listsOf (decode s)) (fileOf (decode s) id) files i (useAt s mark)
     entry = entry-found (u .long) (u .place) (u .table) (u .rise) (useAt s mark) m i w
 
-    right : Right s at file index files units u (useAt s mark .segments) (targetBy files units its-answer)
-    right = resolved s at file index files units u (useAt s mark .segments) (resolvePathInternal (listsOf (decode s)) file (useAt s mark .segments)) refl
+    right : Right s files units id u (useAt s mark .segments) (targetBy files units its-answer)
+    right = resolved s files units id u (useAt s mark .segments) (resolvePathInternal (listsOf (decode s)) (fileOf (decode s) id) (useAt s mark .segments)) refl
 
-    pub to-file : (id : ℕ) → codeOf files i ≡ 1 → id ≡ indexIn (fileOf files i) (take units files) → Tells (Unit id (leftOf files i))
-    to-file id k h =
-        subst (λ (n : ℕ). Tells (Unit n (leftOf files i))) (sym h)
-        (told-file s at file index files units u (useAt s mark .segments) its-answer (codeOf files i) (fileOf files i) (leftOf files i) right (entry .code) (entry .file) (entry .left) k)
+    pub to-file : (k : ℕ) → codeOf files i ≡ 1 → k ≡ indexIn (targetOf files i) (take units files) → Tells (Unit k (leftOf files i))
+    to-file n k h =
+        subst (λ (j : ℕ). Tells (Unit j (leftOf files i))) (sym h)
+        (told-file s files units id u (useAt s mark .segments) its-answer (codeOf files i) (targetOf files i) (leftOf files i) right (entry .code) (entry .file) (entry .left) k)
 
     pub to-folder : codeOf files i ≡ 2 → Tells (Unit units (leftOf files i))
-    to-folder k = told-folder s at file index files units u (useAt s mark .segments) its-answer (codeOf files i) (leftOf files i) right (entry .code) (entry .left) k
+    to-folder k = told-folder s files units id u (useAt s mark .segments) its-answer (codeOf files i) (leftOf files i) right (entry .code) (entry .left) k
 
     pub to-nothing : (codeOf files i ≡ 1 → ⊥) → (codeOf files i ≡ 2 → ⊥) → Tells Nothing
-    to-nothing a c = told-nothing s at file index files units u (useAt s mark .segments) its-answer (codeOf files i) right (entry .code) a c
+    to-nothing a c = told-nothing s files units id u (useAt s mark .segments) its-answer (codeOf files i) right (entry .code) a c

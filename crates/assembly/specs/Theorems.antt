@@ -28,11 +28,12 @@ use Rattle.discovery.specs.Weight.{reached-file}
 use Rattle.discovery.specs.Clean.{ToUnit, no-fault}
 use Rattle.graph.specs.Order as graph
 use Rattle.order.specs.Run.{linked, ordered, unitsOf, filesOf}
-use Rattle.order.specs.Run as order
+use Rattle.order.specs.Outcome as steps
+use Rattle.order.specs.Outcome.{resultOr}
 use Rattle.order.specs.Files.{LinkedFiles, ImportEachOther}
 use Rattle.order.specs.Units.{paths-append}
-use Rattle.order.specs.Theorems.{faultsOf, LinkedIds, FirstHalf, first-half, first-half-read, RingMet, ring-met-only, ring-met-always, faults-always as order-faults}
-use Rattle.assembly.specs.Assemble.{rewriteUse, fileOf, itemsOf, localItems, assembled, enumDeclarations, foreignEnum, hasMain, noMain, assemblyFaults, Outcome, faulty, closed, program, step5, assembleAfter, linearizeAndAssemble}
+use Rattle.order.specs.Theorems.{faultsOf, LinkedIds, FirstHalf, first-half, first-half-read, RingMet, ring-met-only, ring-met-always, never-ended, faults-always as order-faults}
+use Rattle.assembly.specs.Assemble.{rewriteUse, fileOf, itemsOf, localItems, assembled, enumDeclarations, foreignEnum, hasMain, noMain, assemblyFaults, Built, Outcome, faulty, closed, ended, result, program, step5, assembleAfter, linearizeAndAssemble}
 use Rattle.assembly.specs.Rewritten.{heads, kept, heads-kept, rewritten, uses-rewritten}
 use Rattle.assembly.specs.Faults.{zero-last, once-last, enumsOf, mainFault, faults-are, EnumIn, enum-found, main-there, no-main-only, no-main-always, enum-only, enum-always}
 use Rattle.assembly.specs.Paths.{ImagePath, image-path, uses-formed, program-formed}
@@ -259,6 +260,13 @@ assembly-read s B b h o e = assembly b (sound s B b h .1) o e
 no-program : {l : List Fault} {o : List ℕ} {p : Items} → faulty l ≡ program o p → ⊥
 no-program e = let z : _≡_ {A = ℕ} 0 1 = cc in omega arith
 
+-- the parts of a program
+abbrev pub idsIn : Outcome → List ℕ
+idsIn x = resultOr (λ (q : Built). q .ids) [] x
+
+abbrev pub itemsIn : Outcome → Items
+itemsIn x = resultOr (λ (q : Built). q .items) none x
+
 -- a program is the assembled one of the linked order, and step 5 told nothing
 pub record Program (b : Bundle) (o : List ℕ) (p : Items) : Type 0 where
   pub order : ordered b ≡ linked o
@@ -271,8 +279,8 @@ program-only b o p e = go (ordered b) refl e
   where
     step : (k : List ℕ) → ordered b ≡ linked k → (fs : List Fault) → assemblyFaults b k ≡ fs → step5 fs k (assembled b k) ≡ program o p → Program b o p
     step k h [] t q =
-        let r : k ≡ o = cc in
-        let s : assembled b k ≡ p = cc in
+        let r : k ≡ o = ap idsIn q in
+        let s : assembled b k ≡ p = ap itemsIn q in
         record {
           order = h ∙ ap linked r;
           is = sym s ∙ ap (assembled b) r;
@@ -280,10 +288,11 @@ program-only b o p e = go (ordered b) refl e
         }
     step k h (f ∷ fs) t q = absurd (no-program q)
 
-    go : (x : order.Outcome) → ordered b ≡ x → assembleAfter b x ≡ program o p → Program b o p
-    go (order.faulty l) h q = absurd (no-program q)
-    go (order.closed r) h q = let z : _≡_ {A = ℕ} 0 1 = cc in absurd (omega arith)
-    go (order.linked k) h q = step k h (assemblyFaults b k) refl q
+    go : (x : steps.Outcome (List ℕ)) → ordered b ≡ x → assembleAfter b x ≡ program o p → Program b o p
+    go (faulty l) h q = absurd (no-program q)
+    go (closed r) h q = let z : _≡_ {A = ℕ} 0 1 = cc in absurd (omega arith)
+    go (ended n m) h q = absurd (never-ended b n m h)
+    go (result k) h q = step k h (assemblyFaults b k) refl q
 
 -- and where step 5 tells nothing there is one
 pub program-always : (b : Bundle) (o : List ℕ) → ordered b ≡ linked o → assemblyFaults b o ≡ [] → linearizeAndAssemble b ≡ program o (assembled b o)
@@ -291,11 +300,11 @@ unfolding linearizeAndAssemble
 program-always b o e f = rw (e, f)
 
 -- discovery's faults and a ring are told as they are, and nothing of step 5
-pub faults-first : (b : Bundle) (l : List Fault) → ordered b ≡ order.faulty l → linearizeAndAssemble b ≡ faulty l
+pub faults-first : (b : Bundle) (l : List Fault) → ordered b ≡ faulty l → linearizeAndAssemble b ≡ faulty l
 unfolding linearizeAndAssemble
 faults-first b l e = rw e
 
-pub ring-first : (b : Bundle) (r : List ℕ) → ordered b ≡ order.closed r → linearizeAndAssemble b ≡ closed r
+pub ring-first : (b : Bundle) (r : List ℕ) → ordered b ≡ closed r → linearizeAndAssemble b ≡ closed r
 unfolding linearizeAndAssemble
 ring-first b r e = rw e
 
@@ -322,13 +331,14 @@ module _ (s : List ℕ) (b : Bundle) (v : read s ≡ value b) where
           let z : f ∷ fs ≡ l = cc in
           record { from = of-step5 o q (sym z ∙ sym t); some = λ n. let y : _≡_ {A = List Fault} (f ∷ fs) [] = z ∙ n in let w : _≡_ {A = ℕ} 0 1 = cc in omega arith }
 
-      go : (x : order.Outcome) → ordered b ≡ x → assembleAfter b x ≡ faulty l → FaultsMet b l
-      go (order.faulty k) q h =
+      go : (x : steps.Outcome (List ℕ)) → ordered b ≡ x → assembleAfter b x ≡ faulty l → FaultsMet b l
+      go (faulty k) q h =
           let z : k ≡ l = cc in
           let f = first-half-read s b v .faults k q in
           record { from = of-discovery (sym z ∙ f .0); some = λ n. f .1 (z ∙ n) }
-      go (order.closed r) q h = let z : _≡_ {A = ℕ} 0 1 = cc in absurd (omega arith)
-      go (order.linked o) q h = fifth o q (assemblyFaults b o) refl h
+      go (closed r) q h = let z : _≡_ {A = ℕ} 0 1 = cc in absurd (omega arith)
+      go (ended n p) q h = absurd (never-ended b n p q)
+      go (result o) q h = fifth o q (assemblyFaults b o) refl h
 
   pub faults-always : (l : List Fault) → FaultsMet b l → linearizeAndAssemble b ≡ faulty l
   unfolding linearizeAndAssemble
@@ -351,13 +361,29 @@ module _ (s : List ℕ) (b : Bundle) (v : read s ≡ value b) where
       fifth [] o p h = let z : _≡_ {A = ℕ} 0 1 = cc in omega arith
       fifth (f ∷ fs) o p h = let z : _≡_ {A = ℕ} 0 1 = cc in omega arith
 
-      go : (x : order.Outcome) → ordered b ≡ x → assembleAfter b x ≡ closed r → RingMet b r
-      go (order.faulty k) q h = let z : _≡_ {A = ℕ} 0 1 = cc in absurd (omega arith)
-      go (order.closed k) q h = let z : k ≡ r = cc in subst (RingMet b) z (ring-met-only s b v k q)
-      go (order.linked o) q h = absurd (fifth (assemblyFaults b o) o (assembled b o) h)
+      go : (x : steps.Outcome (List ℕ)) → ordered b ≡ x → assembleAfter b x ≡ closed r → RingMet b r
+      go (faulty k) q h = let z : _≡_ {A = ℕ} 0 1 = cc in absurd (omega arith)
+      go (closed k) q h = let z : k ≡ r = cc in subst (RingMet b) z (ring-met-only s b v k q)
+      go (ended n p) q h = absurd (never-ended b n p q)
+      go (result o) q h = absurd (fifth (assemblyFaults b o) o (assembled b o) h)
 
   pub ring-always : faultsOf b ≡ [] → ImportEachOther b → (r : List ℕ) × ((linearizeAndAssemble b ≡ closed r) × RingMet b r)
   ring-always c x = let q = ring-met-always s b v c x in (q .0, (ring-first b (q .0) (q .1 .0), q .1 .1))
+
+-- no step of these refuses
+pub never-refused : (b : Bundle) (n p : ℕ) → linearizeAndAssemble b ≡ ended n p → ⊥
+unfolding linearizeAndAssemble
+never-refused b n p e = go (ordered b) refl e
+  where
+    fifth : (fs : List Fault) (o : List ℕ) (q : Items) → step5 fs o q ≡ ended n p → ⊥
+    fifth [] o q h = let z : _≡_ {A = ℕ} 0 1 = cc in omega arith
+    fifth (f ∷ fs) o q h = let z : _≡_ {A = ℕ} 0 1 = cc in omega arith
+
+    go : (x : steps.Outcome (List ℕ)) → ordered b ≡ x → assembleAfter b x ≡ ended n p → ⊥
+    go (faulty l) q h = let z : _≡_ {A = ℕ} 0 1 = cc in omega arith
+    go (closed r) q h = let z : _≡_ {A = ℕ} 0 1 = cc in omega arith
+    go (ended k m) q h = never-ended b k m q
+    go (result o) q h = fifth (assemblyFaults b o) o (assembled b o) h
 
 -- A LINKED BUNDLE HAS A PROGRAM exactly when unit 0 has a function `main` at its top and no other unit has an enum
 pub record Sound (b : Bundle) (o : List ℕ) : Type 0 where

@@ -16,8 +16,9 @@ use Rattle.bundle.specs.Encode.{string, joined, counted, element}
 use Rattle.bundle.specs.Form.{Every, IsName, IsAlias, FormedElement, Formed}
 use Rattle.bundle.specs.Limits.{file-limit, element-limit, use-kind, module-kind}
 use Rattle.bundle.specs.Scan.{byte}
+use Rattle.bundle.specs.Decode.{decode}
 use Rattle.bundle.specs.Access.{insideOf, item-use}
-use Rattle.resolution.specs.declared.Layout.{Layout}
+use Rattle.assembly.specs.Assemble.{fileOf}
 use Rattle.assembly.specs.Paths.{FormedPath, small-width}
 use Rattle.assembly.specs.Strings.{string-length}
 use Rattle.assembly.specs.Targets.{pathBy, Within, UnitOf, some-target}
@@ -70,7 +71,7 @@ every-drop (suc k) (t ∷ l) h = every-drop k l (h .1)
 drop-few : (k : ℕ) (l : List Text) → length (drop k l) ≤ length l
 drop-few k l = omega (arith, lib.ListN.length-drop k l)
 
-unit-few : (id : ℕ) → id ≤ file-limit → length (string (unitName id)) ≤ 33
+pub unit-few : (id : ℕ) → id ≤ file-limit → length (string (unitName id)) ≤ 33
 unfolding unitName ascii
 unit-few id h = let w = small-width id (omega arith) in omega (arith, string-length (unitName id), length-append (ascii "unit_") (decimal id))
 
@@ -86,12 +87,12 @@ path-few segments (Unit id left) w f =
     omega (arith, crate-length, length-append (string (ascii "crate")) (string (unitName id) ++ joined string rest), length-append (string (unitName id)) (joined string rest))
 
 -- at most 2,681 bytes
-pub use-few : (s : List ℕ) (at : Layout) (file : Text) (index : ℕ) (files : List ℕ) (units mark : ℕ) → UnitOf s at file index files units
-    → FormedPath (segmentsAt s mark) → (length (elementsAt s mark) ≤ element-limit) × Every FormedElement (elementsAt s mark) → length (useBytes s file mark) ≤ 2681
+pub use-few : (s files : List ℕ) (units id mark : ℕ) → UnitOf s files units id
+    → FormedPath (segmentsAt s mark) → (length (elementsAt s mark) ≤ element-limit) × Every FormedElement (elementsAt s mark) → length (useBytes s (fileOf (decode s) id) mark) ≤ 2681
 unfolding counted
-use-few s at file index files units mark u f g =
-    let t = some-target s at file index files units u (segmentsAt s mark) in
-    let e = ap length (use-form s mark file (t .0) (t .1 .0)) in
+use-few s files units id mark u f g =
+    let t = some-target s files units id u (segmentsAt s mark) in
+    let e = ap length (use-form s mark (fileOf (decode s) id) (t .0) (t .1 .0)) in
     let p = path-few (segmentsAt s mark) (t .0) (t .1 .1) f in
     let k = elements-few (elementsAt s mark) (g .1) in
     let n = g .0 in

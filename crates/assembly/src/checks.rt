@@ -8,11 +8,12 @@ ghost use Rattle.discovery.specs.Meaning.{faultsIn};
 ghost use Rattle.order.specs.Writing.{started};
 ghost use Rattle.assembly.specs.Assemble.{itemsOf, enumDeclarations, hasMain, assemblyFaults};
 ghost use Rattle.assembly.specs.Faults.{enumsOf};
-ghost use Rattle.assembly.specs.Given.{OneUnit, OrderGiven};
+ghost use Rattle.assembly.specs.Given.{PlacedUnit, OrderGiven};
 use crate::FAULTS;
 use crate::Faults;
 use crate::enums::enum_items;
 use crate::enums::has_main;
+use crate::units::unit_items;
 use bundle::limits::DEPTH;
 
 // Document 01's numbers.
@@ -28,12 +29,10 @@ fn wide(x: u16) -> usize
 
 // The marks of the enums of unit u.
 fn unit_enums(s: &[u8], files: &[usize], u: usize, marks: &mut [usize]) -> usize
-    requires { ⌜ OneUnit (now s) (now files) u × (length (enumDeclarations (itemsOf (decode (now s)) u)) ≤ length (now marks)) ⌝ }
+    requires { ⌜ PlacedUnit (now s) (now files) u × (length (enumDeclarations (itemsOf (decode (now s)) u)) ≤ length (now marks)) ⌝ }
     ensures { λ r. ⌜ (r ≡ length (enumDeclarations (itemsOf (decode (now (s .entry))) u))) × (now (marks .exit) ≡ started (enumDeclarations (itemsOf (decode (now (s .entry))) u)) (now (marks .entry))) ⌝ }
 {
-    let index = files[u];
-    let place = bundle::file_at(s, index);
-    let items = bundle::file_items(s, place);
+    let items = unit_items(s, files, u);
     enum_items(s, items.at, items.end, DEPTH, marks)
 }
 
@@ -61,12 +60,10 @@ fn all_enums<'a>(
 
 // Whether unit u has a main function.
 fn main_there(s: &[u8], files: &[usize], u: usize) -> bool
-    requires { ⌜ OneUnit (now s) (now files) u ⌝ }
+    requires { ⌜ PlacedUnit (now s) (now files) u ⌝ }
     ensures { λ r. ⌜ r ≡ hasMain (itemsOf (decode (now (s .entry))) u) ⌝ }
 {
-    let index = files[u];
-    let place = bundle::file_at(s, index);
-    let items = bundle::file_items(s, place);
+    let items = unit_items(s, files, u);
     has_main(s, items.at, items.end)
 }
 

@@ -32,15 +32,14 @@ pub fn write_image<'a>(
     ensures { λ r. ⌜ r ≡ imaging (assembled (decode (now (s .entry))) (take units (now (ids .entry)))) (length (now (out .entry))) ⌝ }
     ensures { λ r. ⌜ now (out .exit) ≡ lentImage (assembled (decode (now (s .entry))) (take units (now (ids .entry)))) (now (out .entry)) ⌝ }
 {
-    let at = resolution::layout_of(s);
-    let length = program_length(s, at, files, ids, units);
+    let length = program_length(s, files, ids, units);
     if length == LIMIT {
         return Imaged::Refused(LONG_IMAGE, 0);
     }
     if HEADER + length > out.len() {
         return Imaged::Refused(SMALL_BUFFER, 0);
     }
-    let n = write_program(s, at, files, ids, units, &mut out[HEADER..]);
+    let n = write_program(s, files, ids, units, &mut out[HEADER..]);
     put(out, 0, VERSION);
     put_two(out, 1, n);
     Imaged::Image(HEADER + n)

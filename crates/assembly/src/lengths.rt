@@ -6,18 +6,19 @@ ghost use Rattle.bundle.specs.Encode.{string, counted, element};
 ghost use Rattle.discovery.specs.Walk.{UseMark, Small};
 ghost use Rattle.bundle.specs.Decode.{decode, itemsAt};
 ghost use lib.ListN.{take};
-ghost use Rattle.assembly.specs.Given.{Lies, UnitsGiven, OrderGiven, unitBytes, programBytes};
+ghost use Rattle.assembly.specs.Assemble.{fileOf};
+ghost use Rattle.assembly.specs.Given.{UnitsGiven, OrderGiven, unitBytes, programBytes};
 ghost use Rattle.assembly.specs.Targets.{UnitOf, fileUses, pathBy, Within};
 ghost use Rattle.assembly.specs.Walk.{segmentsAt, elementsAt, oneAt, itemBytes, itemsBytes, Brief};
 use crate::Target;
 use crate::bytes::strings_end;
 use crate::bytes::strings_length;
 use crate::targets::target_of;
+use crate::units::unit_items;
 use bundle::limits::DEPTH;
 use bundle::limits::IGNORED;
 use bundle::limits::MODULE;
 use bundle::limits::USE;
-use resolution::Layout;
 
 pub const LIMIT: usize = 65536;
 
@@ -68,23 +69,21 @@ fn elements_length(s: &[u8], mark: usize) -> usize
 // An item as the image has it; an ignored one is not there.
 fn item_length(
     s: &[u8],
-    at: Layout,
-    file: &[u8],
-    index: usize,
     files: &[usize],
     units: usize,
+    u: usize,
     place: usize,
     depth: usize,
 ) -> usize
-    requires { ⌜ UnitOf (now s) at (now file) index (now files) units × Small place depth × Brief (fileUses (now s) (now file)) (oneAt depth (now s) place) ⌝ }
-    ensures { λ r. ⌜ r ≡ min (length (itemBytes (now (s .entry)) (now (file .entry)) depth place)) 65536 ⌝ }
+    requires { ⌜ UnitOf (now s) (now files) units u × Small place depth × Brief (fileUses (now s) (fileOf (decode (now s)) u)) (oneAt depth (now s) place) ⌝ }
+    ensures { λ r. ⌜ r ≡ min (length (itemBytes (now (s .entry)) (fileOf (decode (now (s .entry))) u) depth place)) 65536 ⌝ }
 {
     let kind = bundle::item_kind(s, place);
     if kind == IGNORED {
         return 0;
     }
     if kind == USE {
-        let target = target_of(s, at, file, index, files, units, place);
+        let target = target_of(s, files, units, u, place);
         return capped(4 + path_length(s, place, target), elements_length(s, place));
     }
     let head = 5 + bundle::item_name(s, place).len();
@@ -95,39 +94,27 @@ fn item_length(
         return head;
     }
     let inner = bundle::module_items(s, place);
-    let n = items_length(
-        s,
-        at,
-        file,
-        index,
-        files,
-        units,
-        inner.at,
-        inner.end,
-        depth - 1,
-    );
+    let n = items_length(s, files, units, u, inner.at, inner.end, depth - 1);
     capped(head, n)
 }
 
 // The items from `from` to `end`, with modules at most `depth` deep.
 fn items_length(
     s: &[u8],
-    at: Layout,
-    file: &[u8],
-    index: usize,
     files: &[usize],
     units: usize,
+    u: usize,
     from: usize,
     end: usize,
     depth: usize,
 ) -> usize
-    requires { ⌜ UnitOf (now s) at (now file) index (now files) units × Small end depth × Brief (fileUses (now s) (now file)) (itemsAt depth (now s) end from) ⌝ }
-    ensures { λ r. ⌜ r ≡ min (length (itemsBytes (now (s .entry)) (now (file .entry)) depth end from)) 65536 ⌝ }
+    requires { ⌜ UnitOf (now s) (now files) units u × Small end depth × Brief (fileUses (now s) (fileOf (decode (now s)) u)) (itemsAt depth (now s) end from) ⌝ }
+    ensures { λ r. ⌜ r ≡ min (length (itemsBytes (now (s .entry)) (fileOf (decode (now (s .entry))) u) depth end from)) 65536 ⌝ }
 {
     let mut sum = 0;
     let mut a = from;
     while a < end {
-        let n = item_length(s, at, file, index, files, units, a, depth);
+        let n = item_length(s, files, units, u, a, depth);
         sum = capped(sum, n);
         a = bundle::next_item(s, a);
     }
@@ -135,43 +122,25 @@ fn items_length(
 }
 
 // The unit u: a private module.
-fn unit_length(s: &[u8], at: Layout, files: &[usize], units: usize, u: usize) -> usize
-    requires { ⌜ (Lies (now s) at × UnitsGiven (now s) (now files) units) × (u < units) ⌝ }
+fn unit_length(s: &[u8], files: &[usize], units: usize, u: usize) -> usize
+    requires { ⌜ UnitsGiven (now s) (now files) units × (u < units) ⌝ }
     ensures { λ r. ⌜ r ≡ min (length (unitBytes (decode (now (s .entry))) u)) 65536 ⌝ }
 {
-    let index = files[u];
-    let place = bundle::file_at(s, index);
-    let items = bundle::file_items(s, place);
+    let items = unit_items(s, files, u);
     let name = names::unit_name(u as u64);
-    let n = items_length(
-        s,
-        at,
-        bundle::file_path(s, place),
-        index,
-        files,
-        units,
-        items.at,
-        items.end,
-        DEPTH,
-    );
+    let n = items_length(s, files, units, u, items.at, items.end, DEPTH);
     capped(5 + name.len, n)
 }
 
 // The program: the units in their order.
-pub fn program_length<'a>(
-    s: &[u8],
-    at: Layout,
-    files: &'a [usize],
-    ids: &'a [u16],
-    units: usize,
-) -> usize
-    requires { ⌜ Lies (now s) at × OrderGiven (now s) (now files) (now ids) units ⌝ }
+pub fn program_length<'a>(s: &[u8], files: &'a [usize], ids: &'a [u16], units: usize) -> usize
+    requires { ⌜ OrderGiven (now s) (now files) (now ids) units ⌝ }
     ensures { λ r. ⌜ r ≡ min (length (programBytes (decode (now (s .entry))) (take units (now (ids .entry))))) 65536 ⌝ }
 {
     let mut sum = 0;
     let mut i = 0;
     while i < units {
-        let n = unit_length(s, at, files, units, wide(ids[i]));
+        let n = unit_length(s, files, units, wide(ids[i]));
         sum = capped(sum, n);
         i += 1;
     }

@@ -6,18 +6,20 @@ mod enums;
 mod image;
 mod lengths;
 mod targets;
+mod units;
 mod writing;
 
+pub use answers::with_image;
 pub use checks::assembly_faults;
 pub use image::write_image;
+pub use units::unit_items;
+pub use writing::put_unit;
 pub use writing::rewrite_use;
 ghost use mathlib.Core.Path.{_≡_};
 ghost use Rattle.assembly.specs.Call.{assembleAnswer, assembleReport, assembleImage};
 use discovery::known::KNOWN;
 use discovery::known::put_files;
-
-// The most units of a bundle: the limit of the reader.
-pub const UNITS: usize = bundle::limits::FILES;
+use order::Answer;
 
 // The most faults of step 5: every item an enum, and no main.
 pub const FAULTS: usize = bundle::limits::ITEMS + 1;
@@ -43,19 +45,6 @@ pub enum Imaged {
     Refused(u8, usize),
 }
 
-// What steps 1 to 5 answer: a refusal's number, 1 to 15, and its place; or how many bytes at the start of the report buffer are
-// the report; or, where there is neither, the units and how many bytes at the start of the image buffer are the image. Unit u,
-// below `units`, is the file files[u] of the bundle, and the first `units` of ids are the linked order. What is not told is 0.
-pub struct Answer {
-    pub number: u8,
-    pub place: usize,
-    pub report: usize,
-    pub units: usize,
-    pub files: [usize; UNITS],
-    pub ids: [u16; UNITS],
-    pub image: usize,
-}
-
 // From any bytes to an image: 1 to 13 of the bundle; the report of discovery's faults, of a ring, or of step 5's faults, or 14
 // where that exceeds its buffer; or the units, their order and the image, or 15, 14. Ruled out: an image beside a report; an
 // image with the path of a use as the bundle has it.
@@ -68,7 +57,7 @@ pub fn assemble(s: &[u8], report: &mut [u8], image: &mut [u8]) -> Answer
     let a = order::order_known(s, report, &mut known);
     let units = a.units;
     if units == 0 {
-        return answers::told(a.number, a.place, a.report);
+        return a;
     }
     let files = a.files;
     let ids = a.ids;
@@ -76,8 +65,8 @@ pub fn assemble(s: &[u8], report: &mut [u8], image: &mut [u8]) -> Answer
     let f = checks::assembly_faults(s, &known, &ids, units);
     let count = f.count;
     if count > 0 {
-        return answers::reported(order::write_faults(&f.numbers, &f.places, count, report));
+        return order::report_told(order::write_faults(&f.numbers, &f.places, count, report));
     }
     let written = image::write_image(s, &known, &ids, units, image);
-    answers::imaged(written, files, ids, units)
+    answers::with_image(a, written)
 }

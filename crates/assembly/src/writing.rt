@@ -11,7 +11,8 @@ ghost use Rattle.bundle.specs.Scan.{byte};
 ghost use Rattle.bundle.specs.Decode.{itemsAt, decode};
 ghost use Rattle.discovery.specs.Walk.{UseMark, Small};
 ghost use Rattle.order.specs.Writing.{started};
-ghost use Rattle.assembly.specs.Given.{Lies, UnitsGiven, OrderGiven, unitBytes, programBytes};
+ghost use Rattle.assembly.specs.Assemble.{fileOf};
+ghost use Rattle.assembly.specs.Given.{UnitsGiven, OrderGiven, unitBytes, programBytes};
 ghost use Rattle.assembly.specs.Parts.{headBytes};
 ghost use Rattle.assembly.specs.Strings.{stringBytes};
 ghost use Rattle.assembly.specs.Targets.{UnitOf, InFile, fileUses, pathBy, Within};
@@ -24,11 +25,11 @@ use crate::bytes::put_strings;
 use crate::bytes::put_two;
 use crate::bytes::strings_end;
 use crate::targets::target_of;
+use crate::units::unit_items;
 use bundle::limits::DEPTH;
 use bundle::limits::IGNORED;
 use bundle::limits::MODULE;
 use bundle::limits::USE;
-use resolution::Layout;
 
 fn wide(x: u16) -> usize
     ensures { λ r. ⌜ r ≡ x ⌝ }
@@ -43,7 +44,8 @@ fn put_crate(out: &mut [u8]) -> usize
     put_string(out, b"crate")
 }
 
-fn put_unit(out: &mut [u8], id: usize) -> usize
+// The name of the unit, as a string.
+pub fn put_unit(out: &mut [u8], id: usize) -> usize
     requires { ⌜ length (string (unitName id)) ≤ length (now out) ⌝ }
     ensures { λ r. ⌜ (r ≡ length (string (unitName id))) × (now (out .exit) ≡ started (string (unitName id)) (now (out .entry))) ⌝ }
 {
@@ -101,21 +103,19 @@ fn put_elements(s: &[u8], mark: usize, out: &mut [u8]) -> usize
     1 + put_strings(s, elements.first, 2 * elements.count, &mut out[1..])
 }
 
-// The use at `mark` in the file of this index, with its path rewritten: segment count, segments, element count, elements.
+// The use at `mark` in the unit u, with its path rewritten: segment count, segments, element count, elements.
 pub fn rewrite_use(
     s: &[u8],
-    at: Layout,
-    file: &[u8],
-    index: usize,
     files: &[usize],
     units: usize,
+    u: usize,
     mark: usize,
     out: &mut [u8],
 ) -> usize
-    requires { ⌜ (UnitOf (now s) at (now file) index (now files) units × UseMark (now s) mark × InFile (now s) (now file) mark) × ((length (segmentsAt (now s) mark) ≤ segment-limit) × (length (useBytes (now s) (now file) mark) ≤ length (now out))) ⌝ }
-    ensures { λ r. ⌜ (r ≡ length (useBytes (now (s .entry)) (now (file .entry)) mark)) × (now (out .exit) ≡ started (useBytes (now (s .entry)) (now (file .entry)) mark) (now (out .entry))) ⌝ }
+    requires { ⌜ (UnitOf (now s) (now files) units u × UseMark (now s) mark × InFile (now s) (fileOf (decode (now s)) u) mark) × ((length (segmentsAt (now s) mark) ≤ segment-limit) × (length (useBytes (now s) (fileOf (decode (now s)) u) mark) ≤ length (now out))) ⌝ }
+    ensures { λ r. ⌜ (r ≡ length (useBytes (now (s .entry)) (fileOf (decode (now (s .entry))) u) mark)) × (now (out .exit) ≡ started (useBytes (now (s .entry)) (fileOf (decode (now (s .entry))) u) mark) (now (out .entry))) ⌝ }
 {
-    let target = target_of(s, at, file, index, files, units, mark);
+    let target = target_of(s, files, units, u, mark);
     let a = put_path(s, mark, target, out);
     a + put_elements(s, mark, &mut out[a..])
 }
@@ -133,18 +133,16 @@ fn put_start(out: &mut [u8], kind: usize, visibility: usize, name: &[u8]) -> usi
 // A use: its rewritten form, then its head.
 fn write_use(
     s: &[u8],
-    at: Layout,
-    file: &[u8],
-    index: usize,
     files: &[usize],
     units: usize,
+    u: usize,
     place: usize,
     out: &mut [u8],
 ) -> usize
-    requires { ⌜ (UnitOf (now s) at (now file) index (now files) units × UseMark (now s) place × InFile (now s) (now file) place) × ((length (segmentsAt (now s) place) ≤ segment-limit) × ((4 + length (useBytes (now s) (now file) place) ≤ length (now out)) × (4 + length (useBytes (now s) (now file) place) < 65536))) ⌝ }
-    ensures { λ r. ⌜ (r ≡ 4 + length (useBytes (now (s .entry)) (now (file .entry)) place)) × (now (out .exit) ≡ started (headBytes (2 + length (useBytes (now (s .entry)) (now (file .entry)) place)) use-kind (byte (now (s .entry)) (place + 3)) ++ useBytes (now (s .entry)) (now (file .entry)) place) (now (out .entry))) ⌝ }
+    requires { ⌜ (UnitOf (now s) (now files) units u × UseMark (now s) place × InFile (now s) (fileOf (decode (now s)) u) place) × ((length (segmentsAt (now s) place) ≤ segment-limit) × ((4 + length (useBytes (now s) (fileOf (decode (now s)) u) place) ≤ length (now out)) × (4 + length (useBytes (now s) (fileOf (decode (now s)) u) place) < 65536))) ⌝ }
+    ensures { λ r. ⌜ (r ≡ 4 + length (useBytes (now (s .entry)) (fileOf (decode (now (s .entry))) u) place)) × (now (out .exit) ≡ started (headBytes (2 + length (useBytes (now (s .entry)) (fileOf (decode (now (s .entry))) u) place)) use-kind (byte (now (s .entry)) (place + 3)) ++ useBytes (now (s .entry)) (fileOf (decode (now (s .entry))) u) place) (now (out .entry))) ⌝ }
 {
-    let n = rewrite_use(s, at, file, index, files, units, place, &mut out[4..]);
+    let n = rewrite_use(s, files, units, u, place, &mut out[4..]);
     put_head(out, 2 + n, USE, bundle::item_visibility(s, place));
     4 + n
 }
@@ -152,24 +150,22 @@ fn write_use(
 // An item; an ignored one goes. A module's items are written behind its start, then its length ahead of them.
 fn write_item(
     s: &[u8],
-    at: Layout,
-    file: &[u8],
-    index: usize,
     files: &[usize],
     units: usize,
+    u: usize,
     place: usize,
     depth: usize,
     out: &mut [u8],
 ) -> usize
-    requires { ⌜ (UnitOf (now s) at (now file) index (now files) units × Small place depth) × (Brief (fileUses (now s) (now file)) (oneAt depth (now s) place) × ((length (itemBytes (now s) (now file) depth place) ≤ length (now out)) × (length (itemBytes (now s) (now file) depth place) < 65536))) ⌝ }
-    ensures { λ r. ⌜ (r ≡ length (itemBytes (now (s .entry)) (now (file .entry)) depth place)) × (now (out .exit) ≡ started (itemBytes (now (s .entry)) (now (file .entry)) depth place) (now (out .entry))) ⌝ }
+    requires { ⌜ (UnitOf (now s) (now files) units u × Small place depth) × (Brief (fileUses (now s) (fileOf (decode (now s)) u)) (oneAt depth (now s) place) × ((length (itemBytes (now s) (fileOf (decode (now s)) u) depth place) ≤ length (now out)) × (length (itemBytes (now s) (fileOf (decode (now s)) u) depth place) < 65536))) ⌝ }
+    ensures { λ r. ⌜ (r ≡ length (itemBytes (now (s .entry)) (fileOf (decode (now (s .entry))) u) depth place)) × (now (out .exit) ≡ started (itemBytes (now (s .entry)) (fileOf (decode (now (s .entry))) u) depth place) (now (out .entry))) ⌝ }
 {
     let kind = bundle::item_kind(s, place);
     if kind == IGNORED {
         return 0;
     }
     if kind == USE {
-        return write_use(s, at, file, index, files, units, place, out);
+        return write_use(s, files, units, u, place, out);
     }
     let visibility = bundle::item_visibility(s, place);
     let a = put_start(out, kind, visibility, bundle::item_name(s, place));
@@ -184,11 +180,9 @@ fn write_item(
     let inner = bundle::module_items(s, place);
     let m = write_items(
         s,
-        at,
-        file,
-        index,
         files,
         units,
+        u,
         inner.at,
         inner.end,
         depth - 1,
@@ -201,23 +195,21 @@ fn write_item(
 // The items from `from` to `end`, with modules at most `depth` deep.
 fn write_items(
     s: &[u8],
-    at: Layout,
-    file: &[u8],
-    index: usize,
     files: &[usize],
     units: usize,
+    u: usize,
     from: usize,
     end: usize,
     depth: usize,
     out: &mut [u8],
 ) -> usize
-    requires { ⌜ (UnitOf (now s) at (now file) index (now files) units × Small end depth) × (Brief (fileUses (now s) (now file)) (itemsAt depth (now s) end from) × ((length (itemsBytes (now s) (now file) depth end from) ≤ length (now out)) × (length (itemsBytes (now s) (now file) depth end from) < 65536))) ⌝ }
-    ensures { λ r. ⌜ (r ≡ length (itemsBytes (now (s .entry)) (now (file .entry)) depth end from)) × (now (out .exit) ≡ started (itemsBytes (now (s .entry)) (now (file .entry)) depth end from) (now (out .entry))) ⌝ }
+    requires { ⌜ (UnitOf (now s) (now files) units u × Small end depth) × (Brief (fileUses (now s) (fileOf (decode (now s)) u)) (itemsAt depth (now s) end from) × ((length (itemsBytes (now s) (fileOf (decode (now s)) u) depth end from) ≤ length (now out)) × (length (itemsBytes (now s) (fileOf (decode (now s)) u) depth end from) < 65536))) ⌝ }
+    ensures { λ r. ⌜ (r ≡ length (itemsBytes (now (s .entry)) (fileOf (decode (now (s .entry))) u) depth end from)) × (now (out .exit) ≡ started (itemsBytes (now (s .entry)) (fileOf (decode (now (s .entry))) u) depth end from) (now (out .entry))) ⌝ }
 {
     let mut sum = 0;
     let mut a = from;
     while a < end {
-        let n = write_item(s, at, file, index, files, units, a, depth, &mut out[sum..]);
+        let n = write_item(s, files, units, u, a, depth, &mut out[sum..]);
         sum += n;
         a = bundle::next_item(s, a);
     }
@@ -236,28 +228,17 @@ fn put_unit_start(out: &mut [u8], u: usize) -> usize
 }
 
 // The unit u: a private module.
-fn write_unit(
-    s: &[u8],
-    at: Layout,
-    files: &[usize],
-    units: usize,
-    u: usize,
-    out: &mut [u8],
-) -> usize
-    requires { ⌜ ((Lies (now s) at × UnitsGiven (now s) (now files) units) × (u < units)) × ((length (unitBytes (decode (now s)) u) ≤ length (now out)) × (length (unitBytes (decode (now s)) u) < 65536)) ⌝ }
+fn write_unit(s: &[u8], files: &[usize], units: usize, u: usize, out: &mut [u8]) -> usize
+    requires { ⌜ (UnitsGiven (now s) (now files) units × (u < units)) × ((length (unitBytes (decode (now s)) u) ≤ length (now out)) × (length (unitBytes (decode (now s)) u) < 65536)) ⌝ }
     ensures { λ r. ⌜ (r ≡ length (unitBytes (decode (now (s .entry))) u)) × (now (out .exit) ≡ started (unitBytes (decode (now (s .entry))) u) (now (out .entry))) ⌝ }
 {
-    let index = files[u];
-    let place = bundle::file_at(s, index);
-    let items = bundle::file_items(s, place);
+    let items = unit_items(s, files, u);
     let a = put_unit_start(out, u);
     let m = write_items(
         s,
-        at,
-        bundle::file_path(s, place),
-        index,
         files,
         units,
+        u,
         items.at,
         items.end,
         DEPTH,
@@ -270,19 +251,18 @@ fn write_unit(
 // The program: the units in their order.
 pub fn write_program<'a>(
     s: &[u8],
-    at: Layout,
     files: &'a [usize],
     ids: &'a [u16],
     units: usize,
     out: &mut [u8],
 ) -> usize
-    requires { ⌜ (Lies (now s) at × OrderGiven (now s) (now files) (now ids) units) × ((length (programBytes (decode (now s)) (take units (now ids))) ≤ length (now out)) × (length (programBytes (decode (now s)) (take units (now ids))) < 65536)) ⌝ }
+    requires { ⌜ OrderGiven (now s) (now files) (now ids) units × ((length (programBytes (decode (now s)) (take units (now ids))) ≤ length (now out)) × (length (programBytes (decode (now s)) (take units (now ids))) < 65536)) ⌝ }
     ensures { λ r. ⌜ (r ≡ length (programBytes (decode (now (s .entry))) (take units (now (ids .entry))))) × (now (out .exit) ≡ started (programBytes (decode (now (s .entry))) (take units (now (ids .entry)))) (now (out .entry))) ⌝ }
 {
     let mut sum = 0;
     let mut i = 0;
     while i < units {
-        let n = write_unit(s, at, files, units, wide(ids[i]), &mut out[sum..]);
+        let n = write_unit(s, files, units, wide(ids[i]), &mut out[sum..]);
         sum += n;
         i += 1;
     }

@@ -5,9 +5,10 @@ use native.Mathlib.Omega.{arith}
 use mathlib.Core.Logic.{⊎-elim}
 use mathlib.Core.Path.{_≡_, refl, sym, ap, subst, _∙_}
 use mathlib.Core.List.{List, [], _∷_, _++_, List·Memᴰ, List·Memᴰ·not-nil}
-use lib.ListN.{length, getD, set, take, replicate, getD-replicate, length-set, length-replicate}
+use lib.ListN.{length, getD, set, take, length-set}
 use lib.Seq.{take-length}
 use Rattle.bundle.specs.Bundle.{Text, File, Bundle}
+use Rattle.bundle.specs.Limits.{file-limit, use-limit}
 use Rattle.bundle.specs.Decode.{decode}
 use Rattle.bundle.specs.Stand.{Bytes}
 use Rattle.bundle.specs.Read.{verdict}
@@ -26,14 +27,15 @@ use Rattle.discovery.specs.Weight.{sumUses}
 use Rattle.discovery.specs.Record.{lookedAll, noImports, readAll}
 use Rattle.discovery.specs.Readings.{sourcesOf}
 use Rattle.discovery.specs.Turns.{Invariant, Discovers, graphOf, place-small, position-is, program, weight, handled-small, not-before, sources-before, sum-is}
-use Rattle.discovery.specs.Known.{fromOf, toOf, nextOf, Entry, EntryOf, noUse, Row, begun, begun-wide, begun-from, begun-to, begun-next, begun-other, begun-entry, Fills, Rises, uses-rise}
+use Rattle.discovery.specs.Known.{from-part, to-part, next-part, known-length, fromOf, toOf, nextOf, Entry, EntryOf, noUse, Row, begun, begun-wide, begun-from, begun-to, begun-next, begun-other, begun-entry, Fills, Rises, uses-rise}
+use Rattle.discovery.specs.Places.{Places, Fresh}
 
 -- the entries of the file of a path are those of its uses
 abbrev pub RowOf : Bundle → List ℕ → Text → Type 0
 RowOf b t p = Row t (position p (pathsOf b)) (listsOf b) p (uses (programOf (b .files) p))
 
 pub record Complete (b : Bundle) (t : List ℕ) : Type 0 where
-  pub long : length t ≡ 1280
+  pub long : length t ≡ known-length
   pub rows : (p : Text) → List·Memᴰ p (discoverDependencies b .sources) → RowOf b t p
 
 -- WHILE UNITS ARE HANDLED: the entries of the first n
@@ -41,27 +43,20 @@ abbrev handledOf : Bundle → ℕ → Graph → List Text
 handledOf b n g = take n (sourcesOf (listsOf b) g)
 
 pub record Table (b : Bundle) (n : ℕ) (g : Graph) (t : List ℕ) : Type 0 where
-  pub long : length t ≡ 1280
+  pub long : length t ≡ known-length
   -- there are no more than uses
   pub weighs : nextOf t ≤ sumUses (b .files) (handledOf b n g)
   pub rows : (p : Text) → List·Memᴰ p (handledOf b n g) → RowOf b t p × (toOf t (position p (pathsOf b)) ≤ nextOf t)
 
 -- at first there is no entry
-pub record Fresh (t : List ℕ) : Type 0 where
-  pub long : length t ≡ 1280
-  pub none : nextOf t ≡ 0
+pub table-first : (b : Bundle) (g : Graph) (t : List ℕ) → length t ≡ known-length → nextOf t ≡ 0 → Table b 0 g t
+table-first b g t long none = record { long = long; weighs = omega arith; rows = λ p m. absurd (List·Memᴰ·not-nil m) }
 
-pub fresh : Fresh (replicate 1280 0)
-fresh = record { long = length-replicate {A = ℕ} 1280 0; none = getD-replicate {A = ℕ} 1280 192 0 0 (omega arith) }
-
-pub table-first : (b : Bundle) (g : Graph) (t : List ℕ) → Fresh t → Table b 0 g t
-table-first b g t x = record { long = x .long; weighs = let n = x .none in omega arith; rows = λ p m. absurd (List·Memᴰ·not-nil m) }
-
-pub begun-long : (t r : List ℕ) (index n : ℕ) → length t ≡ 1280 → r ≡ begun t index n → length r ≡ 1280
+pub begun-long : (t r : List ℕ) (index n : ℕ) → length t ≡ known-length → r ≡ begun t index n → length r ≡ known-length
 begun-long t r index n w e =
     ap length e
-    ∙ (length-set (set (set t (64 + index) (nextOf t)) (128 + index) (nextOf t + n)) 192 (nextOf t + n)
-    ∙ (length-set (set t (64 + index) (nextOf t)) (128 + index) (nextOf t + n) ∙ (length-set t (64 + index) (nextOf t) ∙ w)))
+    ∙ (length-set (set (set t (from-part + index) (nextOf t)) (to-part + index) (nextOf t + n)) next-part (nextOf t + n)
+    ∙ (length-set (set t (from-part + index) (nextOf t)) (to-part + index) (nextOf t + n) ∙ (length-set t (from-part + index) (nextOf t) ∙ w)))
 
 -- ONE UNIT: the n-th, whose file is f
 module _ (b : Bundle) (roomy : Roomy b) (n : ℕ) (g : Graph) (v : Invariant b n g) (waits : n < g .units) (f : File) (is : getD (b .files) (getD (g .files) n 0) f ≡ f) (t : List ℕ) (x : Table b n g t) where
@@ -71,21 +66,21 @@ module _ (b : Bundle) (roomy : Roomy b) (n : ℕ) (g : Graph) (v : Invariant b n
   abbrev us : List Use
   us = uses (f .items)
 
-  pub index-small : index < 64
+  pub index-small : index < file-limit
   index-small = let p = place-small b roomy n g v waits in let r = roomy .files in omega arith
 
-  pub row-room : nextOf t + length us ≤ 256
+  pub row-room : nextOf t + length us ≤ use-limit
   row-room = let w = weight b roomy n g v waits f is in let y = x .weighs in omega arith
 
   module _ (r : List ℕ) (y : Fills (listsOf b) (f .path) (begun t index (length us)) r (nextOf t) us (length us)) where
     next-is : nextOf r ≡ nextOf t + length us
-    next-is = y .front 192 (omega arith) ∙ begun-next t (x .long) index (length us) index-small
+    next-is = y .front next-part (omega arith) ∙ begun-next t (x .long) index (length us) index-small
 
     to-is : toOf r index ≡ nextOf t + length us
-    to-is = let s = index-small in y .front (128 + index) (omega arith) ∙ begun-to t (x .long) index (length us) s
+    to-is = let s = index-small in y .front (to-part + index) (omega arith) ∙ begun-to t (x .long) index (length us) s
 
     from-is : fromOf r index ≡ nextOf t
-    from-is = let s = index-small in y .front (64 + index) (omega arith) ∙ begun-from t (x .long) index (length us) s
+    from-is = let s = index-small in y .front (from-part + index) (omega arith) ∙ begun-from t (x .long) index (length us) s
 
     row-here : Row r index (listsOf b) (f .path) us
     row-here = record {
@@ -107,20 +102,20 @@ module _ (b : Bundle) (roomy : Roomy b) (n : ℕ) (g : Graph) (v : Invariant b n
       apart : at ≡ index → ⊥
       apart e = not-before b roomy n g v waits f is p m e
 
-      at-small : at < 64
+      at-small : at < file-limit
       at-small = handled-small b roomy n g v waits f is p m
 
       from-before : fromOf r at ≡ fromOf t at
       from-before =
           let h = at-small in
           let s = index-small in
-          y .front (64 + at) (omega arith) ∙ begun-other t (x .long) index (length us) s (64 + at) (λ e. apart (omega arith)) (λ e. omega arith) (λ e. omega arith)
+          y .front (from-part + at) (omega arith) ∙ begun-other t (x .long) index (length us) s (from-part + at) (λ e. apart (omega arith)) (λ e. omega arith) (λ e. omega arith)
 
       to-before : toOf r at ≡ toOf t at
       to-before =
           let h = at-small in
           let s = index-small in
-          y .front (128 + at) (omega arith) ∙ begun-other t (x .long) index (length us) s (128 + at) (λ e. omega arith) (λ e. apart (omega arith)) (λ e. omega arith)
+          y .front (to-part + at) (omega arith) ∙ begun-other t (x .long) index (length us) s (to-part + at) (λ e. omega arith) (λ e. apart (omega arith)) (λ e. omega arith)
 
       before : RowOf b r p × (toOf r at ≤ nextOf r)
       before =
@@ -166,21 +161,23 @@ all-known b n g t x e k d = record {
     take-whole : (l : List Text) (n : ℕ) → n ≡ length l → take n l ≡ l
     take-whole l n q = rw q (take-length l)
 
--- WHAT IS HANDED UP: in a checked bundle every use of a reached file has its entry, and the marks of a file rise
+-- WHAT IS HANDED UP: in a checked bundle every use of a reached file has its entry, the marks of a file rise, and every file has its
+-- place
 pub record Known (b : Bundle) (t : List ℕ) : Type 0 where
   pub complete : Complete b t
   pub rise : (p : Text) → Rises (uses (programOf (b .files) p))
 
 pub record Carries (s t : List ℕ) : Type 0 where
-  pub long : length t ≡ 1280
+  pub long : length t ≡ known-length
   pub known : verdict s ≡ Ok → Known (decode s) t
+  pub places : verdict s ≡ Ok → Places s t
 
-pub carries-all : (s t : List ℕ) → Bytes s → verdict s ≡ Ok → Complete (decode s) t → Carries s t
-carries-all s t B v x = record { long = x .long; known = λ e. record { complete = x; rise = uses-rise (decode s) (sound s B (decode s) (accepted s v) .1) } }
+pub carries-all : (s t : List ℕ) → Bytes s → verdict s ≡ Ok → Complete (decode s) t → Places s t → Carries s t
+carries-all s t B v x y = record { long = x .long; places = λ e. y; known = λ e. record { complete = x; rise = uses-rise (decode s) (sound s B (decode s) (accepted s v) .1) } }
 
 -- of a bundle that is refused nothing is said
 pub carries-none : (s t : List ℕ) (n p : ℕ) → verdict s ≡ Refused n p → Fresh t → Carries s t
-carries-none s t n p e x = record { long = x .long; known = λ o. absurd (omega (arith, ap refusals (sym o ∙ e))) }
+carries-none s t n p e x = let no : verdict s ≡ Ok → ⊥ = λ o. omega (arith, ap refusals (sym o ∙ e)) in record { long = x .long; known = λ o. absurd (no o); places = λ o. absurd (no o) }
   where
     refusals : Checked → ℕ
     refusals Ok = 0

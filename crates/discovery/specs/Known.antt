@@ -11,6 +11,7 @@ use lib.ListN.{length, getD, set, take, length-set, length-map, List·getD-map}
 use lib.Seq.{getD-set-same, getD-set-other, getD-take, length-take-le, ext-getD}
 use Rattle.names.specs.Bytes.{same}
 use Rattle.bundle.specs.Bundle.{Text, Items, none, named, use-of, module-of, ignored, File, Bundle}
+use Rattle.bundle.specs.Limits.{file-limit, use-limit}
 use Rattle.bundle.specs.Form.{WellFormed, firstFile}
 use Rattle.bundle.specs.Marks.{marksOf, fileMarks, Rising, rising-less, files-rising}
 use Rattle.bundle.specs.Encode.{encode}
@@ -22,28 +23,60 @@ use Rattle.resolution.specs.declared.Resolution.the-variants as resolution
 use Rattle.discovery.specs.Discovery.{Use, uses, programOf}
 use Rattle.discovery.specs.Facts.{cond-elim, mem-getD, getD-any}
 
--- where the entries of the file of an index begin and end, and where the next ones begin
+-- THE PARTS of the array: the units' files; then by a file's index where its entries begin and end, and where the file stands in the
+-- bundle; how many entries there are; and the parts of the entries
+abbrev pub from-part : ℕ
+from-part = file-limit
+
+abbrev pub to-part : ℕ
+to-part = from-part + file-limit
+
+abbrev pub place-part : ℕ
+place-part = to-part + file-limit
+
+abbrev pub next-part : ℕ
+next-part = place-part + file-limit
+
+abbrev pub mark-part : ℕ
+mark-part = next-part + 1
+
+abbrev pub code-part : ℕ
+code-part = mark-part + use-limit
+
+abbrev pub target-part : ℕ
+target-part = code-part + use-limit
+
+abbrev pub left-part : ℕ
+left-part = target-part + use-limit
+
+abbrev pub known-length : ℕ
+known-length = left-part + use-limit
+
+-- where the entries of the file of an index begin and end, where the file stands, and where the next entries begin
 abbrev pub fromOf : List ℕ → ℕ → ℕ
-fromOf t index = getD t (64 + index) 0
+fromOf t index = getD t (from-part + index) 0
 
 abbrev pub toOf : List ℕ → ℕ → ℕ
-toOf t index = getD t (128 + index) 0
+toOf t index = getD t (to-part + index) 0
+
+abbrev pub placeOf : List ℕ → ℕ → ℕ
+placeOf t index = getD t (place-part + index) 0
 
 abbrev pub nextOf : List ℕ → ℕ
-nextOf t = getD t 192 0
+nextOf t = getD t next-part 0
 
 -- the parts of entry i: the mark of the use; whether it resolved to a file, a folder or nothing; the index of that; the segments left
 abbrev pub markOf : List ℕ → ℕ → ℕ
-markOf t i = getD t (256 + i) 0
+markOf t i = getD t (mark-part + i) 0
 
 abbrev pub codeOf : List ℕ → ℕ → ℕ
-codeOf t i = getD t (512 + i) 0
+codeOf t i = getD t (code-part + i) 0
 
 abbrev pub fileOf : List ℕ → ℕ → ℕ
-fileOf t i = getD t (768 + i) 0
+fileOf t i = getD t (target-part + i) 0
 
 abbrev pub leftOf : List ℕ → ℕ → ℕ
-leftOf t i = getD t (1024 + i) 0
+leftOf t i = getD t (left-part + i) 0
 
 abbrev pub codeIn : Resolution → ℕ
 codeIn (resolution.File f left) = 1
@@ -76,117 +109,117 @@ noUse = record { mark = 0; segments = [] }
 -- THE ENTRIES OF A FILE are those of its uses, in their order
 pub record Row (t : List ℕ) (index : ℕ) (l : Lists) (file : Text) (us : List Use) : Type 0 where
   pub ends : toOf t index ≡ fromOf t index + length us
-  pub fits : toOf t index ≤ 256
+  pub fits : toOf t index ≤ use-limit
   pub entries : (j : ℕ) → j < length us → EntryOf l file t (fromOf t index + j) (getD us j noUse)
 
 -- ROOM FOR MORE
 abbrev pub begun : List ℕ → ℕ → ℕ → List ℕ
-begun t index n = set (set (set t (64 + index) (nextOf t)) (128 + index) (nextOf t + n)) 192 (nextOf t + n)
+begun t index n = set (set (set t (from-part + index) (nextOf t)) (to-part + index) (nextOf t + n)) next-part (nextOf t + n)
 
-module _ (t : List ℕ) (wide : length t ≡ 1280) (index n : ℕ) (small : index < 64) where
+module _ (t : List ℕ) (wide : length t ≡ known-length) (index n : ℕ) (small : index < file-limit) where
   abbrev b1 : List ℕ
-  b1 = set t (64 + index) (nextOf t)
+  b1 = set t (from-part + index) (nextOf t)
 
   abbrev b2 : List ℕ
-  b2 = set b1 (128 + index) (nextOf t + n)
+  b2 = set b1 (to-part + index) (nextOf t + n)
 
-  wide1 : length b1 ≡ 1280
-  wide1 = length-set t (64 + index) (nextOf t) ∙ wide
+  wide1 : length b1 ≡ known-length
+  wide1 = length-set t (from-part + index) (nextOf t) ∙ wide
 
-  wide2 : length b2 ≡ 1280
-  wide2 = length-set b1 (128 + index) (nextOf t + n) ∙ wide1
+  wide2 : length b2 ≡ known-length
+  wide2 = length-set b1 (to-part + index) (nextOf t + n) ∙ wide1
 
-  pub begun-wide : length (begun t index n) ≡ 1280
-  begun-wide = length-set b2 192 (nextOf t + n) ∙ wide2
+  pub begun-wide : length (begun t index n) ≡ known-length
+  begun-wide = length-set b2 next-part (nextOf t + n) ∙ wide2
 
   pub begun-from : fromOf (begun t index n) index ≡ nextOf t
   begun-from =
-      getD-set-other b2 192 (64 + index) (nextOf t + n) 0 (λ e. omega arith)
-      ∙ (getD-set-other b1 (128 + index) (64 + index) (nextOf t + n) 0 (λ e. omega arith) ∙ getD-set-same t (64 + index) (nextOf t) 0 (omega arith))
+      getD-set-other b2 next-part (from-part + index) (nextOf t + n) 0 (λ e. omega arith)
+      ∙ (getD-set-other b1 (to-part + index) (from-part + index) (nextOf t + n) 0 (λ e. omega arith) ∙ getD-set-same t (from-part + index) (nextOf t) 0 (omega arith))
 
   pub begun-to : toOf (begun t index n) index ≡ nextOf t + n
-  begun-to = let w = wide1 in getD-set-other b2 192 (128 + index) (nextOf t + n) 0 (λ e. omega arith) ∙ getD-set-same b1 (128 + index) (nextOf t + n) 0 (omega arith)
+  begun-to = let w = wide1 in getD-set-other b2 next-part (to-part + index) (nextOf t + n) 0 (λ e. omega arith) ∙ getD-set-same b1 (to-part + index) (nextOf t + n) 0 (omega arith)
 
   pub begun-next : nextOf (begun t index n) ≡ nextOf t + n
-  begun-next = let w = wide2 in getD-set-same b2 192 (nextOf t + n) 0 (omega arith)
+  begun-next = let w = wide2 in getD-set-same b2 next-part (nextOf t + n) 0 (omega arith)
 
-  pub begun-other : (j : ℕ) → (j ≡ 64 + index → ⊥) → (j ≡ 128 + index → ⊥) → (j ≡ 192 → ⊥) → getD (begun t index n) j 0 ≡ getD t j 0
+  pub begun-other : (j : ℕ) → (j ≡ from-part + index → ⊥) → (j ≡ to-part + index → ⊥) → (j ≡ next-part → ⊥) → getD (begun t index n) j 0 ≡ getD t j 0
   begun-other j a b c =
-      getD-set-other b2 192 j (nextOf t + n) 0 c ∙ (getD-set-other b1 (128 + index) j (nextOf t + n) 0 b ∙ getD-set-other t (64 + index) j (nextOf t) 0 a)
+      getD-set-other b2 next-part j (nextOf t + n) 0 c ∙ (getD-set-other b1 (to-part + index) j (nextOf t + n) 0 b ∙ getD-set-other t (from-part + index) j (nextOf t) 0 a)
 
   pub begun-entry : (i m : ℕ) (x : Resolution) → Entry t i m x → Entry (begun t index n) i m x
   begun-entry i m x e = record {
-    mark = begun-other (256 + i) (λ q. omega arith) (λ q. omega arith) (λ q. omega arith) ∙ e .mark;
-    code = begun-other (512 + i) (λ q. omega arith) (λ q. omega arith) (λ q. omega arith) ∙ e .code;
-    file = begun-other (768 + i) (λ q. omega arith) (λ q. omega arith) (λ q. omega arith) ∙ e .file;
-    left = begun-other (1024 + i) (λ q. omega arith) (λ q. omega arith) (λ q. omega arith) ∙ e .left;
+    mark = begun-other (mark-part + i) (λ q. omega arith) (λ q. omega arith) (λ q. omega arith) ∙ e .mark;
+    code = begun-other (code-part + i) (λ q. omega arith) (λ q. omega arith) (λ q. omega arith) ∙ e .code;
+    file = begun-other (target-part + i) (λ q. omega arith) (λ q. omega arith) (λ q. omega arith) ∙ e .file;
+    left = begun-other (left-part + i) (λ q. omega arith) (λ q. omega arith) (λ q. omega arith) ∙ e .left;
   }
 
 -- ONE MORE ENTRY
 pub record Keeps (t r : List ℕ) (i m : ℕ) (x : Resolution) : Type 0 where
   pub wide : length r ≡ length t
-  pub front : (j : ℕ) → j < 256 → getD r j 0 ≡ getD t j 0
+  pub front : (j : ℕ) → j < mark-part → getD r j 0 ≡ getD t j 0
   pub entry : Entry r i m x
-  pub others : (j : ℕ) → j < 256 → (j ≡ i → ⊥) → (n : ℕ) (y : Resolution) → Entry t j n y → Entry r j n y
+  pub others : (j : ℕ) → j < use-limit → (j ≡ i → ⊥) → (n : ℕ) (y : Resolution) → Entry t j n y → Entry r j n y
 
-module _ (t : List ℕ) (wide : length t ≡ 1280) (i m : ℕ) (h : i < 256) (x : Resolution) (k f l : ℕ) (ek : k ≡ codeIn x) (ef : f ≡ fileIn x) (el : l ≡ leftIn x) where
+module _ (t : List ℕ) (wide : length t ≡ known-length) (i m : ℕ) (h : i < use-limit) (x : Resolution) (k f l : ℕ) (ek : k ≡ codeIn x) (ef : f ≡ fileIn x) (el : l ≡ leftIn x) where
   abbrev s1 : List ℕ
-  s1 = set t (256 + i) m
+  s1 = set t (mark-part + i) m
 
   abbrev s2 : List ℕ
-  s2 = set s1 (512 + i) k
+  s2 = set s1 (code-part + i) k
 
   abbrev s3 : List ℕ
-  s3 = set s2 (768 + i) f
+  s3 = set s2 (target-part + i) f
 
   abbrev s4 : List ℕ
-  s4 = set s3 (1024 + i) l
+  s4 = set s3 (left-part + i) l
 
-  w1 : length s1 ≡ 1280
-  w1 = length-set t (256 + i) m ∙ wide
+  w1 : length s1 ≡ known-length
+  w1 = length-set t (mark-part + i) m ∙ wide
 
-  w2 : length s2 ≡ 1280
-  w2 = length-set s1 (512 + i) k ∙ w1
+  w2 : length s2 ≡ known-length
+  w2 = length-set s1 (code-part + i) k ∙ w1
 
-  w3 : length s3 ≡ 1280
-  w3 = length-set s2 (768 + i) f ∙ w2
+  w3 : length s3 ≡ known-length
+  w3 = length-set s2 (target-part + i) f ∙ w2
 
-  elsewhere : (j : ℕ) → (j ≡ 256 + i → ⊥) → (j ≡ 512 + i → ⊥) → (j ≡ 768 + i → ⊥) → (j ≡ 1024 + i → ⊥) → getD s4 j 0 ≡ getD t j 0
+  elsewhere : (j : ℕ) → (j ≡ mark-part + i → ⊥) → (j ≡ code-part + i → ⊥) → (j ≡ target-part + i → ⊥) → (j ≡ left-part + i → ⊥) → getD s4 j 0 ≡ getD t j 0
   elsewhere j a b c d =
-      getD-set-other s3 (1024 + i) j l 0 d ∙ (getD-set-other s2 (768 + i) j f 0 c ∙ (getD-set-other s1 (512 + i) j k 0 b ∙ getD-set-other t (256 + i) j m 0 a))
+      getD-set-other s3 (left-part + i) j l 0 d ∙ (getD-set-other s2 (target-part + i) j f 0 c ∙ (getD-set-other s1 (code-part + i) j k 0 b ∙ getD-set-other t (mark-part + i) j m 0 a))
 
   pub keeps-one : Keeps t s4 i m x
   keeps-one = record {
-    wide = length-set s3 (1024 + i) l ∙ (w3 ∙ sym wide);
+    wide = length-set s3 (left-part + i) l ∙ (w3 ∙ sym wide);
     front = λ j lt. elsewhere j (λ e. omega arith) (λ e. omega arith) (λ e. omega arith) (λ e. omega arith);
     entry = record {
-      mark = getD-set-other s3 (1024 + i) (256 + i) l 0 (λ e. omega arith) ∙ (getD-set-other s2 (768 + i) (256 + i) f 0 (λ e. omega arith)
-          ∙ (getD-set-other s1 (512 + i) (256 + i) k 0 (λ e. omega arith) ∙ getD-set-same t (256 + i) m 0 (omega arith)));
+      mark = getD-set-other s3 (left-part + i) (mark-part + i) l 0 (λ e. omega arith) ∙ (getD-set-other s2 (target-part + i) (mark-part + i) f 0 (λ e. omega arith)
+          ∙ (getD-set-other s1 (code-part + i) (mark-part + i) k 0 (λ e. omega arith) ∙ getD-set-same t (mark-part + i) m 0 (omega arith)));
       code = let w = w1 in
-          getD-set-other s3 (1024 + i) (512 + i) l 0 (λ e. omega arith) ∙ (getD-set-other s2 (768 + i) (512 + i) f 0 (λ e. omega arith) ∙ (getD-set-same s1 (512 + i) k 0 (omega arith) ∙ ek));
-      file = let w = w2 in getD-set-other s3 (1024 + i) (768 + i) l 0 (λ e. omega arith) ∙ (getD-set-same s2 (768 + i) f 0 (omega arith) ∙ ef);
-      left = let w = w3 in getD-set-same s3 (1024 + i) l 0 (omega arith) ∙ el;
+          getD-set-other s3 (left-part + i) (code-part + i) l 0 (λ e. omega arith) ∙ (getD-set-other s2 (target-part + i) (code-part + i) f 0 (λ e. omega arith) ∙ (getD-set-same s1 (code-part + i) k 0 (omega arith) ∙ ek));
+      file = let w = w2 in getD-set-other s3 (left-part + i) (target-part + i) l 0 (λ e. omega arith) ∙ (getD-set-same s2 (target-part + i) f 0 (omega arith) ∙ ef);
+      left = let w = w3 in getD-set-same s3 (left-part + i) l 0 (omega arith) ∙ el;
     };
     others = λ j lt d n y e. record {
-      mark = elsewhere (256 + j) (λ q. d (omega arith)) (λ q. omega arith) (λ q. omega arith) (λ q. omega arith) ∙ e .mark;
-      code = elsewhere (512 + j) (λ q. omega arith) (λ q. d (omega arith)) (λ q. omega arith) (λ q. omega arith) ∙ e .code;
-      file = elsewhere (768 + j) (λ q. omega arith) (λ q. omega arith) (λ q. d (omega arith)) (λ q. omega arith) ∙ e .file;
-      left = elsewhere (1024 + j) (λ q. omega arith) (λ q. omega arith) (λ q. omega arith) (λ q. d (omega arith)) ∙ e .left;
+      mark = elsewhere (mark-part + j) (λ q. d (omega arith)) (λ q. omega arith) (λ q. omega arith) (λ q. omega arith) ∙ e .mark;
+      code = elsewhere (code-part + j) (λ q. omega arith) (λ q. d (omega arith)) (λ q. omega arith) (λ q. omega arith) ∙ e .code;
+      file = elsewhere (target-part + j) (λ q. omega arith) (λ q. omega arith) (λ q. d (omega arith)) (λ q. omega arith) ∙ e .file;
+      left = elsewhere (left-part + j) (λ q. omega arith) (λ q. omega arith) (λ q. omega arith) (λ q. d (omega arith)) ∙ e .left;
     };
   }
 
 -- THE FIRST n USES of a file, from the entry `first` on
 pub record Fills (l : Lists) (file : Text) (t r : List ℕ) (first : ℕ) (us : List Use) (n : ℕ) : Type 0 where
   pub wide : length r ≡ length t
-  pub front : (j : ℕ) → j < 256 → getD r j 0 ≡ getD t j 0
-  pub before : (i : ℕ) → i < first → i < 256 → (m : ℕ) (x : Resolution) → Entry t i m x → Entry r i m x
+  pub front : (j : ℕ) → j < mark-part → getD r j 0 ≡ getD t j 0
+  pub before : (i : ℕ) → i < first → i < use-limit → (m : ℕ) (x : Resolution) → Entry t i m x → Entry r i m x
   pub entries : (j : ℕ) → j < n → EntryOf l file r (first + j) (getD us j noUse)
 
 module _ (l : Lists) (file : Text) (t : List ℕ) (first : ℕ) (us : List Use) where
   pub fills-none : Fills l file t t first us 0
   fills-none = record { wide = refl; front = λ j h. refl; before = λ i h k m x e. e; entries = λ j h. absurd (omega arith) }
 
-  pub fills-one : (r r' : List ℕ) (i : ℕ) (u : Use) (x : Resolution) → first + i < 256 → Fills l file t r first us i → getD us i noUse ≡ u → Keeps r r' (first + i) (u .mark) x
+  pub fills-one : (r r' : List ℕ) (i : ℕ) (u : Use) (x : Resolution) → first + i < use-limit → Fills l file t r first us i → getD us i noUse ≡ u → Keeps r r' (first + i) (u .mark) x
       → x ≡ answer l (resolvePathInternal l file (u .segments)) → Fills l file t r' first us (i + 1)
   fills-one r r' i u x lt f is k e =
       record {
@@ -211,9 +244,9 @@ module _ (l : Lists) (file : Text) (t : List ℕ) (first : ℕ) (us : List Use) 
 
 -- A SEARCH among the entries of a file, whose marks rise
 pub record Held (t : List ℕ) (index mark : ℕ) : Type 0 where
-  pub long : length t ≡ 1280
-  pub small : index < 64
-  pub fits : toOf t index ≤ 256
+  pub long : length t ≡ known-length
+  pub small : index < file-limit
+  pub fits : toOf t index ≤ use-limit
   pub rising : (i j : ℕ) → fromOf t index ≤ i → i < j → j < toOf t index → markOf t i < markOf t j
   pub place : ℕ
   pub from : fromOf t index ≤ place
@@ -332,7 +365,7 @@ pub uses-rise : (b : Bundle) → WellFormed b → (p : Text) → Rises (uses (pr
 uses-rise b w p = files-rise (b .files) p (firstFile b) _ (files-rising (encode b) (b .files) (firstFile b) (w .form .marks))
 
 -- EVERY USE OF A FILE IS FOUND
-module _ {t : List ℕ} {index : ℕ} {l : Lists} {file : Text} {us : List Use} (long : length t ≡ 1280) (small : index < 64) (w : Row t index l file us) (rise : Rises us) where
+module _ {t : List ℕ} {index : ℕ} {l : Lists} {file : Text} {us : List Use} (long : length t ≡ known-length) (small : index < file-limit) (w : Row t index l file us) (rise : Rises us) where
   row-rising : (i j : ℕ) → fromOf t index ≤ i → i < j → j < toOf t index → markOf t i < markOf t j
   row-rising i j h k m =
       let e = w .ends in
@@ -388,14 +421,14 @@ module _ {t : List ℕ} {index : ℕ} {l : Lists} {file : Text} {us : List Use} 
 -- THE FILES in front
 pub record FilesPut (t files r : List ℕ) : Type 0 where
   pub wide : length r ≡ length t
-  pub front : (j : ℕ) → j < 64 → getD r j 0 ≡ getD files j 0
-  pub rest : (j : ℕ) → 64 ≤ j → getD r j 0 ≡ getD t j 0
+  pub front : (j : ℕ) → j < from-part → getD r j 0 ≡ getD files j 0
+  pub rest : (j : ℕ) → from-part ≤ j → getD r j 0 ≡ getD t j 0
 
 module _ (t files r : List ℕ) (p : FilesPut t files r) where
   pub row-put : (index : ℕ) (l : Lists) (file : Text) (us : List Use) → Row t index l file us → Row r index l file us
   row-put index l file us w =
-      let a : fromOf r index ≡ fromOf t index = p .rest (64 + index) (omega arith) in
-      let b : toOf r index ≡ toOf t index = p .rest (128 + index) (omega arith) in
+      let a : fromOf r index ≡ fromOf t index = p .rest (from-part + index) (omega arith) in
+      let b : toOf r index ≡ toOf t index = p .rest (to-part + index) (omega arith) in
       record {
         ends = b ∙ (w .ends ∙ ap (λ (k : ℕ). k + length us) (sym a));
         fits = let h = w .fits in omega arith;
@@ -404,13 +437,13 @@ module _ (t files r : List ℕ) (p : FilesPut t files r) where
     where
       same-entry : (i m : ℕ) (x : Resolution) → Entry t i m x → Entry r i m x
       same-entry i m x e = record {
-        mark = p .rest (256 + i) (omega arith) ∙ e .mark;
-        code = p .rest (512 + i) (omega arith) ∙ e .code;
-        file = p .rest (768 + i) (omega arith) ∙ e .file;
-        left = p .rest (1024 + i) (omega arith) ∙ e .left;
+        mark = p .rest (mark-part + i) (omega arith) ∙ e .mark;
+        code = p .rest (code-part + i) (omega arith) ∙ e .code;
+        file = p .rest (target-part + i) (omega arith) ∙ e .file;
+        left = p .rest (left-part + i) (omega arith) ∙ e .left;
       }
 
-  pub files-put : (n : ℕ) → n ≤ 64 → n ≤ length files → n ≤ length r → take n r ≡ take n files
+  pub files-put : (n : ℕ) → n ≤ file-limit → n ≤ length files → n ≤ length r → take n r ≡ take n files
   files-put n h k m =
       let a = length-take-le n r m in
       let b = length-take-le n files k in
@@ -419,15 +452,15 @@ module _ (t files r : List ℕ) (p : FilesPut t files r) where
 -- the loop that puts them: i are put
 pub record FilesTo (t₀ files t : List ℕ) (i : ℕ) : Type 0 where
   pub wide : length t ≡ length t₀
-  pub few : i ≤ 64
+  pub few : i ≤ file-limit
   pub front : (j : ℕ) → j < i → getD t j 0 ≡ getD files j 0
-  pub rest : (j : ℕ) → 64 ≤ j → getD t j 0 ≡ getD t₀ j 0
+  pub rest : (j : ℕ) → from-part ≤ j → getD t j 0 ≡ getD t₀ j 0
 
-module _ (t₀ files : List ℕ) (long : length t₀ ≡ 1280) where
+module _ (t₀ files : List ℕ) (long : length t₀ ≡ known-length) where
   pub put-none : FilesTo t₀ files t₀ 0
   put-none = record { wide = refl; few = omega arith; front = λ j h. absurd (omega arith); rest = λ j h. refl }
 
-  pub put-one : (t : List ℕ) (i : ℕ) → i < 64 → FilesTo t₀ files t i → FilesTo t₀ files (set t i (getD files i 0)) (i + 1)
+  pub put-one : (t : List ℕ) (i : ℕ) → i < file-limit → FilesTo t₀ files t i → FilesTo t₀ files (set t i (getD files i 0)) (i + 1)
   put-one t i h x =
       let w = x .wide in
       record {
@@ -450,5 +483,5 @@ module _ (t₀ files : List ℕ) (long : length t₀ ≡ 1280) where
           below-other : (j i : ℕ) → j < i + 1 → (j ≡ i → ⊥) → j < i
           below-other j i a b = omega arith
 
-  pub put-all : (t : List ℕ) (i : ℕ) → 64 ≤ i → FilesTo t₀ files t i → FilesPut t₀ files t
+  pub put-all : (t : List ℕ) (i : ℕ) → file-limit ≤ i → FilesTo t₀ files t i → FilesPut t₀ files t
   put-all t i h x = let f = x .few in record { wide = x .wide; front = λ j lt. x .front j (omega arith); rest = x .rest }

@@ -21,4 +21,5 @@ pub mod Meaning
 pub mod Readings
 pub mod Turns
 pub mod Known
+pub mod Places
 pub mod Complete

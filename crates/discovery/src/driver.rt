@@ -6,7 +6,8 @@ ghost use Rattle.bundle.specs.Read.{verdict};
 ghost use Rattle.bundle.specs.declared.Checked.the-variants.{Ok};
 ghost use Rattle.resolution.specs.Lists.{listsOf};
 ghost use Rattle.resolution.specs.Layouts.{listsAt, Small};
-ghost use Rattle.discovery.specs.Complete.{Table, Fresh, Complete};
+ghost use Rattle.discovery.specs.Complete.{Table, Complete};
+ghost use Rattle.discovery.specs.Places.{Fresh, Places};
 ghost use Rattle.discovery.specs.Turns.{Invariant, Discovers};
 use crate::FOLDERS;
 use crate::Graph;
@@ -15,18 +16,20 @@ use crate::UNITS;
 use crate::imports::uses_of;
 use crate::known::KNOWN;
 use crate::known::begin;
+use crate::known::file_place;
+use crate::known::put_places;
 use crate::lookups::resolve_imports;
 use crate::readings::load_and_parse_dependencies;
 use resolution::Layout;
 
 // All lookups of a unit, then all its readings.
 fn turn(s: &[u8], at: Layout, g: Graph, unit: usize, known: &mut [usize; KNOWN]) -> Graph
-    requires { ⌜ (verdict (now s) ≡ Ok) × ((listsAt (now s) at ≡ listsOf (decode (now s))) × Small at) × (Invariant (decode (now s)) unit g × (unit < g .units)) × Table (decode (now s)) unit g (now known) ⌝ }
+    requires { ⌜ (verdict (now s) ≡ Ok) × ((listsAt (now s) at ≡ listsOf (decode (now s))) × Small at) × (Invariant (decode (now s)) unit g × (unit < g .units)) × (Table (decode (now s)) unit g (now known) × Places (now s) (now known)) ⌝ }
     ensures { λ r. ⌜ Invariant (decode (now (s .entry))) (unit + 1) r ⌝ }
-    ensures { λ r. ⌜ Table (decode (now (s .entry))) (unit + 1) r (now (known .exit)) ⌝ }
+    ensures { λ r. ⌜ Table (decode (now (s .entry))) (unit + 1) r (now (known .exit)) × Places (now (s .entry)) (now (known .exit)) ⌝ }
 {
     let index = g.files[unit];
-    let place = bundle::file_at(s, index);
+    let place = file_place(&*known, index);
     let u = uses_of(s, place);
     let first = begin(&mut *known, index, u.count);
     let w = resolve_imports(
@@ -47,8 +50,9 @@ fn turn(s: &[u8], at: Layout, g: Graph, unit: usize, known: &mut [usize; KNOWN])
 pub fn discover(s: &[u8], known: &mut [usize; KNOWN]) -> Graph
     requires { ⌜ (verdict (now s) ≡ Ok) × Fresh (now known) ⌝ }
     ensures { λ r. ⌜ Discovers (decode (now (s .entry))) r ⌝ }
-    ensures { λ r. ⌜ Complete (decode (now (s .entry))) (now (known .exit)) ⌝ }
+    ensures { λ r. ⌜ Complete (decode (now (s .entry))) (now (known .exit)) × Places (now (s .entry)) (now (known .exit)) ⌝ }
 {
+    put_places(s, &mut *known);
     let at = resolution::layout_of(s);
     let mut g = Graph {
         files: [0; UNITS],

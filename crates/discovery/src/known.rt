@@ -2,29 +2,40 @@
 // reached files resolved to, file by file, an entry for each use: its mark, whether it is a file, a folder or nothing, the index of that,
 // and the segments left.
 ghost use mathlib.Core.Path.{_≡_};
-ghost use Prim.Native.Nat.{_+_, _<_, _≤_};
-ghost use lib.ListN.{length};
-ghost use Rattle.discovery.specs.Known.{codeIn, fileIn, leftIn, nextOf, begun, Keeps, Held, Finds, FilesPut};
+ghost use Prim.Native.Nat.{ℕ, _+_, _<_, _≤_, _^_};
+ghost use mathlib.Core.List.{List};
+ghost use lib.ListN.{length, getD};
+ghost use Rattle.bundle.specs.Bundle.{File};
+ghost use Rattle.bundle.specs.Decode.{decode, fileAt};
+ghost use Rattle.bundle.specs.Read.{verdict};
+ghost use Rattle.bundle.specs.declared.Checked.the-variants.{Ok};
+ghost use Rattle.discovery.specs.Places.{Fresh, Places};
+ghost use Rattle.bundle.specs.Limits.{file-limit, use-limit};
+ghost use Rattle.discovery.specs.Known.{known-length, codeIn, fileIn, leftIn, nextOf, begun, Keeps, Held, Finds, FilesPut};
+use crate::IDS;
 use crate::UNITS;
 use resolution::Resolution;
 
-pub const KNOWN: usize = 1280;
+// By a file's index: where its entries begin and end, and where the file stands in the bundle.
+const FROM: usize = UNITS;
 
-// Where a file's entries begin and end, by its index; how many there are of all.
-const FROM: usize = 64;
+const TO: usize = FROM + UNITS;
 
-const TO: usize = 128;
+const PLACES: usize = TO + UNITS;
 
-const NEXT: usize = 192;
+// How many entries there are of all.
+const NEXT: usize = PLACES + UNITS;
 
 // The parts of the entries.
-const MARKS: usize = 256;
+const MARKS: usize = NEXT + 1;
 
-pub const CODES: usize = 512;
+pub const CODES: usize = MARKS + IDS;
 
-pub const TARGETS: usize = 768;
+pub const TARGETS: usize = CODES + IDS;
 
-pub const LEFTS: usize = 1024;
+pub const LEFTS: usize = TARGETS + IDS;
+
+pub const KNOWN: usize = LEFTS + IDS;
 
 // What a use resolved to, as its entry has it.
 pub const FILE: usize = 1;
@@ -33,9 +44,33 @@ pub const FOLDER: usize = 2;
 
 const NOTHING: usize = 0;
 
+// The position of each file of the bundle is put in its place.
+pub fn put_places(s: &[u8], t: &mut [usize; KNOWN])
+    requires { ⌜ (verdict (now s) ≡ Ok) × Fresh (now t) ⌝ }
+    ensures { λ r. ⌜ Places (now (s .entry)) (now (t .exit)) × (nextOf (now (t .exit)) ≡ 0) ⌝ }
+{
+    let files = bundle::files(s);
+    let n = files.count;
+    let mut at = files.first;
+    let mut i = 0;
+    while i < n {
+        t[PLACES + i] = at;
+        at = bundle::next_file(s, at);
+        i += 1;
+    }
+}
+
+// The position of the file of this index. Ruled out: that of another file.
+pub fn file_place(t: &[usize], i: usize) -> usize
+    requires { ⌜ (length (now t) ≡ known-length) × (i < file-limit) ⌝ }
+    ensures { λ r. ⌜ ((s : List ℕ) → Places s (now (t .entry)) → ((d : File) → i < length (decode s .files) → getD (decode s .files) i d ≡ fileAt s r) × (r < 2 ^ 26)) ⌝ }
+{
+    t[PLACES + i]
+}
+
 // Room for so many entries of the file of this index: where they begin.
 pub fn begin(t: &mut [usize; KNOWN], index: usize, count: usize) -> usize
-    requires { ⌜ (length (now t) ≡ 1280) × (index < 64) × (nextOf (now t) + count ≤ 256) ⌝ }
+    requires { ⌜ (length (now t) ≡ known-length) × (index < file-limit) × (nextOf (now t) + count ≤ use-limit) ⌝ }
     ensures { λ r. ⌜ (r ≡ nextOf (now (t .entry))) × (now (t .exit) ≡ begun (now (t .entry)) index count) ⌝ }
 {
     let next = t[NEXT];
@@ -77,7 +112,7 @@ fn left_in(found: Resolution) -> usize
 
 // Entry i: what the use at `mark` resolved to.
 pub fn keep(t: &mut [usize; KNOWN], i: usize, mark: usize, found: Resolution)
-    requires { ⌜ (length (now t) ≡ 1280) × (i < 256) ⌝ }
+    requires { ⌜ (length (now t) ≡ known-length) × (i < use-limit) ⌝ }
     ensures { λ r. ⌜ Keeps (now (t .entry)) (now (t .exit)) i mark found ⌝ }
 {
     let code = code_in(found);
@@ -109,7 +144,7 @@ pub fn find_use(t: &[usize], index: usize, mark: usize) -> usize
 
 // The units' files are put in their places.
 pub fn put_files(t: &mut [usize; KNOWN], files: [usize; UNITS])
-    requires { ⌜ length (now t) ≡ 1280 ⌝ }
+    requires { ⌜ length (now t) ≡ known-length ⌝ }
     ensures { λ r. ⌜ FilesPut (now (t .entry)) files (now (t .exit)) ⌝ }
 {
     let mut i = 0;

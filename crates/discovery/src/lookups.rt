@@ -8,7 +8,7 @@ ghost use Rattle.discovery.specs.Walk.{useAt, UseMark, UseMarks, useList
 ghost use Rattle.resolution.specs.Call.{answer};
 ghost use Rattle.resolution.specs.Resolution.{resolvePathInternal};
 ghost use Rattle.discovery.specs.Record.{lookedAll, noImports};
-ghost use Rattle.discovery.specs.Known.{Fills};
+ghost use Rattle.discovery.specs.Known.{known-length, Fills};
 use crate::Graph;
 use crate::UNITS;
 use crate::Uses;
@@ -41,7 +41,7 @@ pub fn resolve_imports(
     known: &mut [usize; KNOWN],
     first: usize,
 ) -> Graph
-    requires { ⌜ (Small at × Importer (listsAt (now s) at) (now file) index) × (UseMarks (now s) u × ((u .count ≤ use-limit) × (g .faults + u .count ≤ use-limit))) × ((length (now known) ≡ 1280) × (first + u .count ≤ 256)) ⌝ }
+    requires { ⌜ (Small at × Importer (listsAt (now s) at) (now file) index) × (UseMarks (now s) u × ((u .count ≤ use-limit) × (g .faults + u .count ≤ use-limit))) × ((length (now known) ≡ known-length) × (first + u .count ≤ use-limit)) ⌝ }
     ensures { λ r. ⌜ r ≡ lookedAll (listsAt (now (s .entry)) at) (now (file .entry)) (useList (now (s .entry)) u) (noImports g) ⌝ }
     ensures { λ r. ⌜ Fills (listsAt (now (s .entry)) at) (now (file .entry)) (now (known .entry)) (now (known .exit)) first (useList (now (s .entry)) u) (u .count) ⌝ }
 {

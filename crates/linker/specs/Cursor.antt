@@ -5,30 +5,29 @@ use native.Mathlib.Omega.{arith}
 use mathlib.Core.Bool.{Bool, true, false, cond}
 use mathlib.Core.Path.{_≡_, refl, sym, ap, subst, _∙_}
 use mathlib.Core.List.{List, [], _∷_, _++_, append-assoc}
-use lib.Dec.{ltb}
+use lib.Dec.{eqb, ltb}
 use lib.ListN.{length, getD, set, take, drop, replicate, length-set}
 use lib.Seq.{length-take-le, getD-take, drop-cons, getD-set-same, getD-set-other}
 use mathlib.Core.Logic.{_⊎_, inl, inr, ⊎-elim}
-use borrow.Author.Tests.{lt-ltb, le-ltb, ltb-true, ltb-false}
+use borrow.Author.Tests.{eqb-true, eqb-false, ne-eqb, lt-ltb, le-ltb, ltb-true, ltb-false}
 use Rattle.names.specs.Decimal.{unitName}
-use Rattle.bundle.specs.Bundle.{Text, Items, File, Bundle}
+use Rattle.bundle.specs.Bundle.{Text, Items}
 use Rattle.bundle.specs.Limits.{depth-limit, segment-limit, use-kind, module-kind, ignored-kind}
 use Rattle.bundle.specs.Scan.{byte, text}
 use Rattle.bundle.specs.Stand.{Bytes}
-use Rattle.bundle.specs.Decode.{after, afterLength, fileAt, itemsAt, decode}
+use Rattle.bundle.specs.Decode.{afterLength, itemsAt, decode}
 use Rattle.bundle.specs.Access.{kindOf, restOf, innerOf, first-rest, items-end}
 use Rattle.discovery.specs.Discovery.{Use}
 use Rattle.discovery.specs.Walk.{UseMark}
-use Rattle.resolution.specs.declared.Layout.{Layout}
-use Rattle.scope_tree.specs.Form.{enters, exits, resolves-use}
-use Rattle.scopes.specs.Meets.{declares}
+use Rattle.scope_tree.specs.Form.{Request, enters, exits, resolves-use}
+use Rattle.scopes.specs.Meets.{request, declares}
 use Rattle.assembly.specs.Assemble.{fileOf, itemsOf}
 use Rattle.assembly.specs.Given.{OrderGiven}
-use Rattle.assembly.specs.GivenLaws.{one-unit, below, items-are, path-is}
+use Rattle.assembly.specs.GivenLaws.{below}
 use Rattle.assembly.specs.Targets.{UnitOf, fileUses, InFile}
 use Rattle.assembly.specs.Walk.{segmentsAt, useBytes, oneAt, kind-byte, next-is}
 use Rattle.linker.specs.Scopes.{Asked, asked, isPublic}
-use Rattle.linker.specs.Steps.{Plain, use-size, itemCalls, itemsCalls, calls-end, calls-step, next-calls, ignored-calls, use-calls, named-calls, flat-calls, module-calls, plain-next, plain-first, plain-use, plain-known, plain-mark, plain-inside}
+use Rattle.linker.specs.Steps.{Plain, use-size, item-code, code-declares, itemCalls, itemsCalls, calls-end, calls-step, next-calls, ignored-calls, use-calls, named-calls, flat-calls, module-calls, plain-next, plain-first, plain-use, plain-known, plain-mark, plain-inside}
 use Rattle.linker.specs.Units.{unitCalls, programCalls, program-none, unit-form, unit-ready, order-step, nothing-left}
 use Rattle.linker.specs.declared.cursor.Cursor.{Cursor}
 use Rattle.linker.specs.declared.cursor.Step.{Step}
@@ -44,7 +43,7 @@ abbrev pub open-limit : ℕ
 open-limit = 10
 
 abbrev pub first-cursor : Cursor
-first-cursor = record { unit = 0; id = 0; file = 0; at = 0; end = 0; depth = 0; marks = replicate open-limit 0; ends = replicate open-limit 0 }
+first-cursor = record { unit = 0; id = 0; at = 0; end = 0; depth = 0; marks = replicate open-limit 0; ends = replicate open-limit 0 }
 
 -- where the items of a module start that is entered at a depth
 abbrev pub first-inside : ℕ → ℕ → ℕ → ℕ
@@ -56,30 +55,65 @@ leftCalls s file rest marks ends zero end at = rest
 leftCalls s file rest marks ends (suc k) end at =
     itemsCalls s file (depth-limit - k) end at ++ (asked (getD marks k 0) exits ∷ leftCalls s file rest marks ends k (getD ends k 0) (afterLength s (getD marks k 0)))
 
-abbrev pub pathAt : List ℕ → ℕ → Text
-pathAt s place = fileAt s place .path
-
 unfoldable pub callsFrom : List ℕ → List ℕ → Cursor → List Asked
-callsFrom s o c = leftCalls s (pathAt s (c .file)) (programCalls (decode s) (drop (c .unit) o)) (c .marks) (c .ends) (c .depth) (c .end) (c .at)
+callsFrom s o c = leftCalls s (fileOf (decode s) (c .id)) (programCalls (decode s) (drop (c .unit) o)) (c .marks) (c .ends) (c .depth) (c .end) (c .at)
 
 -- before the first unit: all
 pub calls-first : (s : List ℕ) (o : List ℕ) → callsFrom s o first-cursor ≡ programCalls (decode s) o
 unfolding callsFrom leftCalls
 calls-first s o = refl
 
--- A CALL, by its step: a unit is a private module with its name
-abbrev pub entersName : List ℕ → Text → Bool → ℕ → Text
-entersName s name unit p = cond unit name (text s (p + 4))
+-- A CALL of the unit `id`, by its kind k and its place p: code, bytes and visibility. A unit is a private module with its name
+abbrev pub unit-kind : ℕ
+unit-kind = 256
 
-abbrev pub entersPublic : List ℕ → Bool → ℕ → Bool
-entersPublic s unit p = cond unit false (isPublic (byte s (p + 3)))
+abbrev pub callCode : ℕ → ℕ
+callCode k = cond (eqb k use-kind) 6 (cond (eqb k module-kind) 1 (cond (eqb k unit-kind) 1 (item-code k)))
+
+abbrev pub callBytes : List ℕ → ℕ → ℕ → ℕ → List ℕ
+callBytes s id k p = cond (eqb k use-kind) (useBytes s (fileOf (decode s) id) p) (cond (eqb k unit-kind) (unitName id) (text s (p + 4)))
+
+abbrev pub callPublic : List ℕ → ℕ → ℕ → Bool
+callPublic s k p = cond (eqb k unit-kind) false (isPublic (byte s (p + 3)))
+
+abbrev pub stepRequest : List ℕ → ℕ → ℕ → ℕ → Request
+stepRequest s id k p = request (callCode k) (callBytes s id k p) (callPublic s k p) p
 
 abbrev pub stepCalls : List ℕ → Cursor → Step → List Asked
-stepCalls s c (step.Enter unit p) = asked p (enters (entersName s (unitName (c .id)) unit p) (entersPublic s unit p) p) ∷ []
-stepCalls s c (step.Declare p) = asked p (declares (byte s (p + 2)) (text s (p + 4)) (isPublic (byte s (p + 3))) p) ∷ []
-stepCalls s c (step.Use p) = asked p (resolves-use (useBytes s (pathAt s (c .file)) p) (isPublic (byte s (p + 3)))) ∷ []
+stepCalls s c (step.Call k p) = asked p (stepRequest s (c .id) k p) ∷ []
 stepCalls s c (step.Exit p) = asked p exits ∷ []
 stepCalls s c step.End = []
+
+-- by the kind
+module _ (s : List ℕ) (id p k : ℕ) where
+  request-module : k ≡ module-kind → stepRequest s id k p ≡ enters (text s (p + 4)) (isPublic (byte s (p + 3))) p
+  request-module e = rw e
+
+  request-use : k ≡ use-kind → stepRequest s id k p ≡ resolves-use (useBytes s (fileOf (decode s) id) p) (isPublic (byte s (p + 3)))
+  request-use e = rw e
+
+  request-named : (k ≡ use-kind → ⊥) → (k ≡ module-kind → ⊥) → (k ≡ unit-kind → ⊥) → stepRequest s id k p ≡ declares k (text s (p + 4)) (isPublic (byte s (p + 3))) p
+  request-named a b c = rw (ne-eqb k use-kind a, ne-eqb k module-kind b, ne-eqb k unit-kind c) (code-declares k (text s (p + 4)) (isPublic (byte s (p + 3))) p)
+
+-- what a call's bytes are taken from: the m bytes of a use, or a unit's name as a string, that were put at the start of a buffer; or the
+-- bundle
+pub record Put (s : List ℕ) (id k p m : ℕ) (out : List ℕ) : Type 0 where
+  pub long : length out ≡ use-size
+  pub fits : m ≤ use-size
+  pub of-use : k ≡ use-kind → take m out ≡ useBytes s (fileOf (decode s) id) p
+  pub of-unit : k ≡ unit-kind → text out 0 ≡ unitName id
+
+abbrev pub takenBytes : List ℕ → List ℕ → ℕ → ℕ → ℕ → List ℕ
+takenBytes s out m k p = cond (eqb k use-kind) (take m out) (cond (eqb k unit-kind) (text out 0) (text s (p + 4)))
+
+pub taken-bytes : {s out : List ℕ} {id k p m : ℕ} → Put s id k p m out → takenBytes s out m k p ≡ callBytes s id k p
+taken-bytes {s} {out} {id} {k} {p} {m} x = go (eqb k use-kind) refl (eqb k unit-kind) refl
+  where
+    go : (a : Bool) → eqb k use-kind ≡ a → (b : Bool) → eqb k unit-kind ≡ b
+        → cond a (take m out) (cond b (text out 0) (text s (p + 4))) ≡ cond a (useBytes s (fileOf (decode s) id) p) (cond b (unitName id) (text s (p + 4)))
+    go true e b f = x .of-use (eqb-true k use-kind e)
+    go false e true f = x .of-unit (eqb-true k unit-kind f)
+    go false e false f = refl
 
 -- WHERE A CURSOR MAY STAND
 unfoldable pub Stack : List Use → List ℕ → List ℕ → List ℕ → ℕ → ℕ → ℕ → Type 0
@@ -88,15 +122,9 @@ Stack us s marks ends (suc k) end at =
     ((end ≤ small-limit) × Plain us (itemsAt (depth-limit - k) s end at))
     × (((getD marks k 0 < small-limit) × (0 < k → getD marks k 0 < getD ends k 0)) × Stack us s marks ends k (getD ends k 0) (afterLength s (getD marks k 0)))
 
--- the unit u, whose file stands at a place
-pub record Within (s : List ℕ) (units u place : ℕ) : Type 0 where
-  pub unit : u < units
-  pub file : pathAt s place ≡ fileOf (decode s) u
-  pub small : place < small-limit
-
 -- the uses of the file that a cursor stands in
 abbrev pub usesIn : List ℕ → Cursor → List Use
-usesIn s c = fileUses s (pathAt s (c .file))
+usesIn s c = fileUses s (fileOf (decode s) (c .id))
 
 pub record Stands (s : List ℕ) (units : ℕ) (c : Cursor) : Type 0 where
   pub few : c .unit ≤ units
@@ -104,7 +132,7 @@ pub record Stands (s : List ℕ) (units : ℕ) (c : Cursor) : Type 0 where
   pub bottom : c .depth ≡ open-limit → c .end ≤ c .at
   pub marked : length (c .marks) ≡ open-limit
   pub ended : length (c .ends) ≡ open-limit
-  pub within : 0 < c .depth → Within s units (c .id) (c .file)
+  pub within : 0 < c .depth → c .id < units
   pub stack : Stack (usesIn s c) s (c .marks) (c .ends) (c .depth) (c .end) (c .at)
 
 pub stands-first : (s : List ℕ) (units : ℕ) → Stands s units first-cursor
@@ -114,13 +142,11 @@ stands-first s units =
 
 -- WHAT A CALL NEEDS
 abbrev pub Fitting : List ℕ → ℕ → Type 0
-Fitting s p = (l : Layout) (file : Text) (index : ℕ) (files : List ℕ) (units : ℕ) → UnitOf s l file index files units
-    → (p < 65536) × ((length (segmentsAt s p) ≤ segment-limit) × (length (useBytes s file p) ≤ use-size))
+Fitting s p = (files : List ℕ) (units id : ℕ) → UnitOf s files units id
+    → (p < 65536) × ((length (segmentsAt s p) ≤ segment-limit) × (length (useBytes s (fileOf (decode s) id) p) ≤ use-size))
 
 abbrev pub Ready : List ℕ → List ℕ → Cursor → Step → Type 0
-Ready s o c (step.Enter unit p) = p < 65536
-Ready s o c (step.Declare p) = p < 65536
-Ready s o c (step.Use p) = (0 < c .depth) × ((p < 65536) × (UseMark s p × Fitting s p × InFile s (pathAt s (c .file)) p))
+Ready s o c (step.Call k p) = (0 < c .depth) × ((p < 65536) × (k ≡ use-kind → UseMark s p × Fitting s p × InFile s (fileOf (decode s) (c .id)) p))
 Ready s o c (step.Exit p) = Unit {0}
 Ready s o c step.End = callsFrom s o c ≡ []
 
@@ -269,37 +295,33 @@ module _ (s files ids : List ℕ) (units : ℕ) (x : OrderGiven s files ids unit
     unit-below = rw is (below s files ids units x (c .unit) h)
 
     -- the next one is
-    pub yields-unit : (place : ℕ) → ((d : File) → getD files u 0 < length (decode s .files) → getD (decode s .files) (getD files u 0) d ≡ fileAt s place) → place < 2 ^ 26
-        → (end at : ℕ) → itemsAt depth-limit s end at ≡ fileAt s place .items → end ≤ place + 66000
+    pub yields-unit : (end at : ℕ) → itemsAt depth-limit s end at ≡ itemsOf (decode s) u → end ≤ 2 ^ 27
         → Yields s ids units c (record {
-          step = step.Enter true 0;
-          cursor = record { unit = c .unit + 1; id = u; file = place; at = at; end = end; depth = 1; marks = set (c .marks) 0 0; ends = c .ends };
+          step = step.Call unit-kind 0;
+          cursor = record { unit = c .unit + 1; id = u; at = at; end = end; depth = 1; marks = set (c .marks) 0 0; ends = c .ends };
         })
     unfolding callsFrom leftCalls Stack
-    yields-unit place found small end at items few =
-        let one = one-unit s files units (x .of-units) u unit-below in
-        let p = path-is s files u one place found in
-        let i : itemsAt depth-limit s end at ≡ itemsOf (decode s) u = items ∙ items-are s files u one place found in
+    yields-unit end at i few =
         let l = st .marked in
         let m = getD-set-same (c .marks) 0 0 0 (omega arith) in
         let j = order-step (decode s) ids units (x .ids-fit) (c .unit) h in
         record {
           calls = outside
               ∙ (j ∙ (ap (λ (w : ℕ). unitCalls (decode s) w ++ programCalls (decode s) (drop (c .unit + 1) (take units ids))) (sym is)
-              ∙ (ap (λ (l : List Asked). l ++ programCalls (decode s) (drop (c .unit + 1) (take units ids))) (unit-form s (pathAt s place) u end at p i)
+              ∙ (ap (λ (l : List Asked). l ++ programCalls (decode s) (drop (c .unit + 1) (take units ids))) (unit-form s u end at i)
               ∙ ap (λ (l : List Asked). asked 0 (enters (unitName u) false 0) ∷ l)
-              (append-assoc (itemsCalls s (pathAt s place) depth-limit end at) (asked 0 exits ∷ []) (programCalls (decode s) (drop (c .unit + 1) (take units ids)))
-              ∙ ap (λ (w : ℕ). itemsCalls s (pathAt s place) depth-limit end at ++ (asked w exits ∷ programCalls (decode s) (drop (c .unit + 1) (take units ids)))) (sym m)))));
+              (append-assoc (itemsCalls s (fileOf (decode s) u) depth-limit end at) (asked 0 exits ∷ []) (programCalls (decode s) (drop (c .unit + 1) (take units ids)))
+              ∙ ap (λ (w : ℕ). itemsCalls s (fileOf (decode s) u) depth-limit end at ++ (asked w exits ∷ programCalls (decode s) (drop (c .unit + 1) (take units ids)))) (sym m)))));
           stands = record {
             few = omega arith;
             deep = omega arith;
             bottom = λ q. absurd (omega arith);
             marked = simp length-set l;
             ended = st .ended;
-            within = λ q. record { unit = unit-below; file = p; small = omega arith };
-            stack = ((omega arith, unit-ready s files units u B (x .of-units) (pathAt s place) end at p i), ((rw m (omega arith), λ q. absurd (omega arith)), tt));
+            within = λ q. unit-below;
+            stack = ((omega arith, unit-ready s files units u B (x .of-units) end at i), ((rw m (omega arith), λ q. absurd (omega arith)), tt));
           };
-          ready = omega arith;
+          ready = (omega arith, (omega arith, λ (q : unit-kind ≡ use-kind). absurd (omega arith)));
         }
 
 -- A STEP INSIDE, at depth k + 1
@@ -308,15 +330,15 @@ module _ (s ids : List ℕ) (units : ℕ) (c : Cursor) (st : Stands s units c) (
   us = usesIn s c
 
   abbrev moved : ℕ → Cursor
-  moved next = record { unit = c .unit; id = c .id; file = c .file; at = next; end = c .end; depth = c .depth; marks = c .marks; ends = c .ends }
+  moved next = record { unit = c .unit; id = c .id; at = next; end = c .end; depth = c .depth; marks = c .marks; ends = c .ends }
 
   abbrev left-at : ℕ → List Asked
-  left-at a = leftCalls s (pathAt s (c .file)) (programCalls (decode s) (drop (c .unit) (take units ids))) (c .marks) (c .ends) (suc k) (c .end) a
+  left-at a = leftCalls s (fileOf (decode s) (c .id)) (programCalls (decode s) (drop (c .unit) (take units ids))) (c .marks) (c .ends) (suc k) (c .end) a
 
   here : callsFrom s (take units ids) c ≡ left-at at
   unfolding callsFrom
-  here = ap (λ (d : ℕ). leftCalls s (pathAt s (c .file)) (programCalls (decode s) (drop (c .unit) (take units ids))) (c .marks) (c .ends) d (c .end) (c .at)) e
-      ∙ left-past s (pathAt s (c .file)) (programCalls (decode s) (drop (c .unit) (take units ids))) (c .marks) (c .ends) k (c .end) (c .at) at (p .passed)
+  here = ap (λ (d : ℕ). leftCalls s (fileOf (decode s) (c .id)) (programCalls (decode s) (drop (c .unit) (take units ids))) (c .marks) (c .ends) d (c .end) (c .at)) e
+      ∙ left-past s (fileOf (decode s) (c .id)) (programCalls (decode s) (drop (c .unit) (take units ids))) (c .marks) (c .ends) k (c .end) (c .at) at (p .passed)
 
   stack-here : Stack us s (c .marks) (c .ends) (suc k) (c .end) (c .at)
   stack-here = subst (λ (d : ℕ). Stack us s (c .marks) (c .ends) d (c .end) (c .at)) e (st .stack)
@@ -333,16 +355,16 @@ module _ (s ids : List ℕ) (units : ℕ) (c : Cursor) (st : Stands s units c) (
   pub yields-out : c .end ≤ at → (next : ℕ) → ((d e : ℕ) → getD (c .marks) k 0 < e → itemsAt d s e next ≡ restOf (itemsAt d s e (getD (c .marks) k 0)))
       → Yields s ids units c (record {
         step = step.Exit (getD (c .marks) k 0);
-        cursor = record { unit = c .unit; id = c .id; file = c .file; at = next; end = getD (c .ends) k 0; depth = k; marks = c .marks; ends = c .ends };
+        cursor = record { unit = c .unit; id = c .id; at = next; end = getD (c .ends) k 0; depth = k; marks = c .marks; ends = c .ends };
       })
   unfolding callsFrom Stack
   yields-out h next f =
       let deep = st .deep in
       record {
         calls = here
-            ∙ (left-out s (pathAt s (c .file)) (programCalls (decode s) (drop (c .unit) (take units ids))) (c .marks) (c .ends) k (c .end) at h
+            ∙ (left-out s (fileOf (decode s) (c .id)) (programCalls (decode s) (drop (c .unit) (take units ids))) (c .marks) (c .ends) k (c .end) at h
             ∙ ap (λ (l : List Asked). asked (getD (c .marks) k 0) exits ∷ l)
-            (left-next s (pathAt s (c .file)) (programCalls (decode s) (drop (c .unit) (take units ids))) (c .marks) (c .ends) k (getD (c .ends) k 0) (getD (c .marks) k 0) next (stack-here .1 .0 .1) f));
+            (left-next s (fileOf (decode s) (c .id)) (programCalls (decode s) (drop (c .unit) (take units ids))) (c .marks) (c .ends) k (getD (c .ends) k 0) (getD (c .marks) k 0) next (stack-here .1 .0 .1) f));
         stands = record {
           few = st .few;
           deep = omega arith;
@@ -382,27 +404,39 @@ module _ (s ids : List ℕ) (units : ℕ) (c : Cursor) (st : Stands s units c) (
                 ((stack-here .0 .0, plain-next us s (depth-limit - k) (c .end) at next h f plain-here .1), stack-here .1);
           }
 
-      moved-calls : (a : Asked) → itemCalls s (pathAt s (c .file)) (depth-limit - k) at ≡ a ∷ [] → callsFrom s (take units ids) c ≡ a ∷ callsFrom s (take units ids) (moved next)
+      moved-calls : (a : Asked) → itemCalls s (fileOf (decode s) (c .id)) (depth-limit - k) at ≡ a ∷ [] → callsFrom s (take units ids) c ≡ a ∷ callsFrom s (take units ids) (moved next)
       unfolding callsFrom
       moved-calls a i =
-          here ∙ (left-item s (pathAt s (c .file)) (programCalls (decode s) (drop (c .unit) (take units ids))) (c .marks) (c .ends) k (c .end) at next a h i f
-          ∙ ap (λ (d : ℕ). a ∷ leftCalls s (pathAt s (c .file)) (programCalls (decode s) (drop (c .unit) (take units ids))) (c .marks) (c .ends) d (c .end) next) (sym e))
+          here ∙ (left-item s (fileOf (decode s) (c .id)) (programCalls (decode s) (drop (c .unit) (take units ids))) (c .marks) (c .ends) k (c .end) at next a h i f
+          ∙ ap (λ (d : ℕ). a ∷ leftCalls s (fileOf (decode s) (c .id)) (programCalls (decode s) (drop (c .unit) (take units ids))) (c .marks) (c .ends) d (c .end) next) (sym e))
 
-      pub yields-use : kind ≡ use-kind → Yields s ids units c (record { step = step.Use at; cursor = moved next })
-      yields-use q =
+      item-request : Bytes s → (kind ≡ module-kind → ⊥) → itemCalls s (fileOf (decode s) (c .id)) (depth-limit - k) at ≡ asked at (stepRequest s (c .id) kind at) ∷ []
+      item-request B n5 = go (eqb kind use-kind) refl
+        where
+          go : (t : Bool) → eqb kind use-kind ≡ t → itemCalls s (fileOf (decode s) (c .id)) (depth-limit - k) at ≡ asked at (stepRequest s (c .id) kind at) ∷ []
+          go true w =
+              let q = eqb-true kind use-kind w in
+              use-calls s at kind of (fileOf (decode s) (c .id)) (depth-limit - k) q ∙ ap (λ (r : Request). asked at r ∷ []) (sym (request-use s (c .id) at kind q))
+          go false w =
+              let n3 = eqb-false kind use-kind w in
+              let i = kind-byte s at kind of in
+              let nu : kind ≡ unit-kind → ⊥ = λ q. let l = B (at + 2) in omega arith in
+              named-calls s at kind of (fileOf (decode s) (c .id)) (depth-limit - k) not-ignored n3 n5
+              ∙ (ap (λ (j : ℕ). asked at (declares j (text s (at + 4)) (isPublic (byte s (at + 3))) at) ∷ []) i ∙ ap (λ (r : Request). asked at r ∷ []) (sym (request-named s (c .id) at kind n3 n5 nu)))
+
+      pub yields-item : Bytes s → (kind ≡ module-kind → ⊥) → Yields s ids units c (record { step = step.Call kind at; cursor = moved next })
+      yields-item B n5 =
           let small = small-end in
           record {
-            calls = moved-calls _ (use-calls s at kind of (pathAt s (c .file)) (depth-limit - k) q);
+            calls = moved-calls _ (item-request B n5);
             stands = moved-stands;
-            ready = (omega arith, (plain-mark us s at kind of (depth-limit - k) one-here not-ignored, (record { kind = kind-byte s at kind of ∙ q; small = omega arith }, plain-use us s at kind of (depth-limit - k) one-here q, plain-known us s at kind of (depth-limit - k) one-here q)));
-          }
-
-      pub yields-declare : (kind ≡ use-kind → ⊥) → (kind ≡ module-kind → ⊥) → Yields s ids units c (record { step = step.Declare at; cursor = moved next })
-      yields-declare n3 n5 =
-          record {
-            calls = moved-calls _ (named-calls s at kind of (pathAt s (c .file)) (depth-limit - k) not-ignored n3 n5);
-            stands = moved-stands;
-            ready = plain-mark us s at kind of (depth-limit - k) one-here not-ignored;
+            ready = (
+              omega arith,
+              (
+                plain-mark us s at kind of (depth-limit - k) one-here not-ignored,
+                λ q. (record { kind = kind-byte s at kind of ∙ q; small = omega arith }, plain-use us s at kind of (depth-limit - k) one-here q, plain-known us s at kind of (depth-limit - k) one-here q),
+              ),
+            );
           }
 
     -- a module
@@ -420,22 +454,22 @@ module _ (s ids : List ℕ) (units : ℕ) (c : Cursor) (st : Stands s units c) (
       start-in : k < 8 → start ≡ at'
       start-in y = let l : c .depth < 9 = omega arith in rw (lt-ltb (c .depth) 9 l)
 
-      inside-calls : k ≤ 8 → itemCalls s (pathAt s (c .file)) (depth-limit - k) at
-          ≡ asked at (enters (text s (at + 4)) (isPublic (byte s (at + 3))) at) ∷ (itemsCalls s (pathAt s (c .file)) (depth-limit - suc k) end' start ++ (asked at exits ∷ []))
+      inside-calls : k ≤ 8 → itemCalls s (fileOf (decode s) (c .id)) (depth-limit - k) at
+          ≡ asked at (enters (text s (at + 4)) (isPublic (byte s (at + 3))) at) ∷ (itemsCalls s (fileOf (decode s) (c .id)) (depth-limit - suc k) end' start ++ (asked at exits ∷ []))
       inside-calls y = ⊎-elim low deepest (by-lt k 8 y)
         where
-          low : k < 8 → itemCalls s (pathAt s (c .file)) (depth-limit - k) at
-              ≡ asked at (enters (text s (at + 4)) (isPublic (byte s (at + 3))) at) ∷ (itemsCalls s (pathAt s (c .file)) (depth-limit - suc k) end' start ++ (asked at exits ∷ []))
+          low : k < 8 → itemCalls s (fileOf (decode s) (c .id)) (depth-limit - k) at
+              ≡ asked at (enters (text s (at + 4)) (isPublic (byte s (at + 3))) at) ∷ (itemsCalls s (fileOf (decode s) (c .id)) (depth-limit - suc k) end' start ++ (asked at exits ∷ []))
           low w =
               let o : depth-limit - suc k ≡ depth-limit - k - 1 = omega arith in
-              rw (o, start-in w) (module-calls s at kind of (pathAt s (c .file)) (depth-limit - k) end' at' q (λ (n : depth-limit - k ≡ 0). omega arith) inner)
+              rw (o, start-in w) (module-calls s at kind of (fileOf (decode s) (c .id)) (depth-limit - k) end' at' q (λ (n : depth-limit - k ≡ 0). omega arith) inner)
 
-          deepest : k ≡ 8 → itemCalls s (pathAt s (c .file)) (depth-limit - k) at
-              ≡ asked at (enters (text s (at + 4)) (isPublic (byte s (at + 3))) at) ∷ (itemsCalls s (pathAt s (c .file)) (depth-limit - suc k) end' start ++ (asked at exits ∷ []))
+          deepest : k ≡ 8 → itemCalls s (fileOf (decode s) (c .id)) (depth-limit - k) at
+              ≡ asked at (enters (text s (at + 4)) (isPublic (byte s (at + 3))) at) ∷ (itemsCalls s (fileOf (decode s) (c .id)) (depth-limit - suc k) end' start ++ (asked at exits ∷ []))
           deepest w =
               let o : depth-limit - k ≡ 0 = omega arith in
-              let n = calls-end s (pathAt s (c .file)) (depth-limit - suc k) end' start (let v = start-deep w in omega arith) in
-              flat-calls s at kind of (pathAt s (c .file)) (depth-limit - k) q o
+              let n = calls-end s (fileOf (decode s) (c .id)) (depth-limit - suc k) end' start (let v = start-deep w in omega arith) in
+              flat-calls s at kind of (fileOf (decode s) (c .id)) (depth-limit - k) q o
               ∙ ap (λ (l : List Asked). asked at (enters (text s (at + 4)) (isPublic (byte s (at + 3))) at) ∷ (l ++ (asked at exits ∷ []))) (sym n)
 
       inside-plain : k ≤ 8 → Plain us (itemsAt (depth-limit - suc k) s end' start)
@@ -451,14 +485,14 @@ module _ (s ids : List ℕ) (units : ℕ) (c : Cursor) (st : Stands s units c) (
           deepest w = rw (items-end (depth-limit - suc k) s end' start (let v = start-deep w in omega arith)) tt
 
       abbrev left-in-at : ℕ → ℕ → List Asked
-      left-in-at n m = leftCalls s (pathAt s (c .file)) (programCalls (decode s) (drop (c .unit) (take units ids))) (set (c .marks) n at) (set (c .ends) n (c .end)) m end' start
+      left-in-at n m = leftCalls s (fileOf (decode s) (c .id)) (programCalls (decode s) (drop (c .unit) (take units ids))) (set (c .marks) n at) (set (c .ends) n (c .end)) m end' start
 
       abbrev stack-in-at : ℕ → ℕ → Type 0
       stack-in-at n m = Stack us s (set (c .marks) n at) (set (c .ends) n (c .end)) m end' start
 
       pub yields-in : Yields s ids units c (record {
-        step = step.Enter false at;
-        cursor = record { unit = c .unit; id = c .id; file = c .file; at = start; end = end'; depth = c .depth + 1; marks = set (c .marks) (c .depth) at; ends = set (c .ends) (c .depth) (c .end) };
+        step = step.Call kind at;
+        cursor = record { unit = c .unit; id = c .id; at = start; end = end'; depth = c .depth + 1; marks = set (c .marks) (c .depth) at; ends = set (c .ends) (c .depth) (c .end) };
       })
       unfolding callsFrom Stack
       yields-in =
@@ -469,9 +503,10 @@ module _ (s ids : List ℕ) (units : ℕ) (c : Cursor) (st : Stands s units c) (
           let ge = getD-set-same (c .ends) (suc k) (c .end) 0 le in
           record {
             calls = here
-                ∙ (left-in s (pathAt s (c .file)) (programCalls (decode s) (drop (c .unit) (take units ids))) (c .marks) (c .ends) k (c .end) at end' start _ h lm le (inside-calls d)
-                ∙ ap (λ (l : List Asked). asked at (enters (text s (at + 4)) (isPublic (byte s (at + 3))) at) ∷ l)
-                (ap (left-in-at (suc k)) (sym (add-one (suc k))) ∙ ap (λ (n : ℕ). left-in-at n (n + 1)) (sym e)));
+                ∙ (left-in s (fileOf (decode s) (c .id)) (programCalls (decode s) (drop (c .unit) (take units ids))) (c .marks) (c .ends) k (c .end) at end' start _ h lm le (inside-calls d)
+                ∙ (ap (λ (l : List Asked). asked at (enters (text s (at + 4)) (isPublic (byte s (at + 3))) at) ∷ l)
+                (ap (left-in-at (suc k)) (sym (add-one (suc k))) ∙ ap (λ (n : ℕ). left-in-at n (n + 1)) (sym e))
+                ∙ ap (λ (r : Request). asked at r ∷ left-in-at (c .depth) (c .depth + 1)) (sym (request-module s (c .id) at kind q))));
             stands = record {
               few = st .few;
               deep = omega arith;
@@ -489,7 +524,7 @@ module _ (s ids : List ℕ) (units : ℕ) (c : Cursor) (st : Stands s units c) (
                     ),
                   ));
             };
-            ready = mark-small;
+            ready = (omega arith, (mark-small, λ (w : kind ≡ use-kind). absurd (omega arith)));
           }
 
 -- what the code needs of a cursor that stands inside

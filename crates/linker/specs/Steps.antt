@@ -11,6 +11,7 @@ use borrow.Author.Tests.{eq-eqb, ne-eqb}
 use Rattle.bundle.specs.Bundle.{Text, Items, none, named, use-of, module-of, ignored}
 use Rattle.bundle.specs.Form.{Every, FormedElement}
 use Rattle.bundle.specs.Limits.{segment-limit, element-limit, use-kind, module-kind, ignored-kind}
+use Rattle.bundle.specs.Encode.{string}
 use Rattle.bundle.specs.Scan.{byte, text}
 use Rattle.bundle.specs.Decode.{after, afterLength, itemAt, itemsAt, decode}
 use Rattle.bundle.specs.Access.{insideOf, items-end, items-step, item-module, item-use, item-ignored, item-named, by-kind, kindOf, restOf, innerOf, visibilityOf, first-inner, first-visibility}
@@ -26,10 +27,9 @@ use Rattle.scope_tree.specs.Step.{Answer, ok, marked, refused, Model, step}
 use Rattle.scope_tree.specs.Flat.{Flat, flat}
 use Rattle.scope_tree.specs.Trees.{Good, flat-of}
 use Rattle.scope_tree.specs.declared.Tree.{Tree}
-use Rattle.resolution.specs.declared.Layout.{Layout}
 use Rattle.discovery.specs.Discovery.{Use}
 use Rattle.discovery.specs.Walk.{useAt}
-use Rattle.assembly.specs.Assemble.{rewriteUse, rewriteItems}
+use Rattle.assembly.specs.Assemble.{fileOf, rewriteUse, rewriteItems}
 use Rattle.assembly.specs.Paths.{FormedPath}
 use Rattle.assembly.specs.Targets.{UnitOf}
 use Rattle.assembly.specs.UseRoom.{use-few}
@@ -52,18 +52,9 @@ code-declares k s v m = go (eqb k 2) (eqb k 4)
 pub visible-is : (s : List ℕ) (at v : ℕ) → ((d e : ℕ) → at < e → v ≡ visibilityOf (itemsAt d s e at)) → isPublic v ≡ isPublic (byte s (at + 3))
 visible-is s at v f = ap isPublic (f 0 (suc at) (omega arith) ∙ first-visibility 0 s (suc at) at (omega arith))
 
-pub meets-declares : {t : Tree} {r : Outcome} (k k' : ℕ) {code m m' : ℕ} {name name' : List ℕ} {v v' : Bool} → code ≡ item-code k → k ≡ k' → name ≡ name' → v ≡ v' → m ≡ m'
-    → Meets t (request code name v m) r → Meets t (declares k' name' v' m') r
-meets-declares {t} {r} k k' {code} {m} {m'} {name} {name'} {v} {v'} a b c d e h =
-    subst (λ (q : Request). Meets t q r)
-    (ap (λ (x : ℕ). request x name v m) a ∙ (code-declares k name v m ∙ (λ i. declares (b i) (c i) (d i) (e i))))
-    h
-
-pub meets-enters : {t : Tree} {r : Outcome} {m m' : ℕ} {name name' : List ℕ} {v v' : Bool} → name ≡ name' → v ≡ v' → m ≡ m' → Meets t (enters name v m) r → Meets t (enters name' v' m') r
-meets-enters {t} {r} c d e h = subst (λ (q : Request). Meets t q r) (λ i. enters (c i) (d i) (e i)) h
-
-pub meets-uses : {t : Tree} {r : Outcome} {form form' : List ℕ} {v v' : Bool} → form ≡ form' → v ≡ v' → Meets t (resolves-use form v) r → Meets t (resolves-use form' v') r
-meets-uses {t} {r} c d h = subst (λ (q : Request). Meets t q r) (λ i. resolves-use (c i) (d i)) h
+pub meets-request : {t : Tree} {r : Outcome} {code code' m m' : ℕ} {bytes bytes' : List ℕ} {v v' : Bool} → code ≡ code' → bytes ≡ bytes' → v ≡ v' → m ≡ m'
+    → Meets t (request code bytes v m) r → Meets t (request code' bytes' v' m') r
+meets-request {t} {r} a b c d h = subst (λ (q : Request). Meets t q r) (λ i. request (a i) (b i) (c i) (d i)) h
 
 -- what was written to the start of a buffer
 pub taken-start : (w out last : List ℕ) (n : ℕ) → n ≡ length w → last ≡ started w out → take n last ≡ w
@@ -71,6 +62,11 @@ taken-start w out last n h e = ap (take n) e ∙ take-at w (drop (length w) out)
 
 pub taken-length : (w out last : List ℕ) (n : ℕ) → n ≡ length w → last ≡ started w out → n ≡ length (take n last)
 taken-length w out last n h e = h ∙ sym (ap length (taken-start w out last n h e))
+
+-- a string that was
+pub taken-string : (w out last : List ℕ) → last ≡ started (string w) out → text last 0 ≡ w
+unfolding string
+taken-string w out last e = ap (λ (l : List ℕ). text l 0) e ∙ take-at w (drop (length (string w)) out) (length w) refl
 
 -- CALLS ONE AFTER ANOTHER
 abbrev andThen : {X : Type 0} → Walked X → (X → Walked X) → Walked X
@@ -263,14 +259,14 @@ pub plain-first : (us : List Use) (s : List ℕ) (depth end at : ℕ) → at < e
 plain-first us s depth end at h b = plain-item us (insideOf depth s) s at (itemsAt depth s end (afterLength s at)) (subst (Plain us) (items-step depth s end at h) b) .0
 
 module _ (us : List Use) (s : List ℕ) (at k : ℕ) (kind : (d e : ℕ) → at < e → k ≡ kindOf (itemsAt d s e at)) (depth : ℕ) (b : Plain us (oneAt depth s at)) where
-  pub plain-use : k ≡ use-kind → (l : Layout) (file : Text) (index : ℕ) (files : List ℕ) (units : ℕ) → UnitOf s l file index files units
-      → (at < 65536) × ((length (segmentsAt s at) ≤ segment-limit) × (length (useBytes s file at) ≤ use-size))
+  pub plain-use : k ≡ use-kind → (files : List ℕ) (units id : ℕ) → UnitOf s files units id
+      → (at < 65536) × ((length (segmentsAt s at) ≤ segment-limit) × (length (useBytes s (fileOf (decode s) id) at) ≤ use-size))
   unfolding Plain
-  plain-use e l file index files units u =
+  plain-use e files units id u =
       let q : byte s (at + 2) ≡ use-kind = kind-byte s at k kind ∙ e in
       let i = item-use (insideOf depth s) s at none (λ (x : byte s (at + 2) ≡ module-kind). omega arith) q in
       let f = subst (Plain us) i b .0 in
-      (f .0, (f .1 .0 .0, use-few s l file index files units at u (f .1 .0) (f .1 .1)))
+      (f .0, (f .1 .0 .0, use-few s files units id at u (f .1 .0) (f .1 .1)))
 
   pub plain-known : k ≡ use-kind → List·Memᴰ (useAt s at) us
   unfolding Plain

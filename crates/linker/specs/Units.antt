@@ -44,13 +44,13 @@ program-one b u o =
     ap (λ (l : List Asked). asked 0 (enters (unitName u) false 0) ∷ l) (sym (append-assoc (scopeCalls (localItems b u)) (asked 0 exits ∷ []) (scopeCalls (assembled b o))))
 
 -- A UNIT, by the items that the code reads
-pub unit-form : (s : List ℕ) (file : Text) (u end at : ℕ) → file ≡ fileOf (decode s) u → itemsAt depth-limit s end at ≡ itemsOf (decode s) u
-    → unitCalls (decode s) u ≡ asked 0 (enters (unitName u) false 0) ∷ (itemsCalls s file depth-limit end at ++ (asked 0 exits ∷ []))
+pub unit-form : (s : List ℕ) (u end at : ℕ) → itemsAt depth-limit s end at ≡ itemsOf (decode s) u
+    → unitCalls (decode s) u ≡ asked 0 (enters (unitName u) false 0) ∷ (itemsCalls s (fileOf (decode s) u) depth-limit end at ++ (asked 0 exits ∷ []))
 unfolding unitCalls scopeCalls itemsCalls localItems
-unit-form s file u end at e i = rw (e, i)
+unit-form s u end at i = rw i
 
-pub unit-ready : (s files : List ℕ) (units u : ℕ) → Bytes s → UnitsGiven s files units → (file : Text) (end at : ℕ) → file ≡ fileOf (decode s) u → itemsAt depth-limit s end at ≡ itemsOf (decode s) u → Plain (fileUses s file) (itemsAt depth-limit s end at)
-unit-ready s files units u B x file end at e i = rw (e, i) (unit-plain (decode s) (sound s B (decode s) (accepted s (x .checked)) .1) u)
+pub unit-ready : (s files : List ℕ) (units u : ℕ) → Bytes s → UnitsGiven s files units → (end at : ℕ) → itemsAt depth-limit s end at ≡ itemsOf (decode s) u → Plain (fileUses s (fileOf (decode s) u)) (itemsAt depth-limit s end at)
+unit-ready s files units u B x end at i = rw i (unit-plain (decode s) (sound s B (decode s) (accepted s (x .checked)) .1) u)
 
 -- UNITS ONE AFTER THE OTHER
 pub nothing-left : (l : List ℕ) (i : ℕ) → length l ≤ i → drop i l ≡ []

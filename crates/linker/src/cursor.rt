@@ -5,18 +5,18 @@ ghost use Rattle.assembly.specs.Given.{OrderGiven};
 ghost use Rattle.linker.specs.Cursor.{first-cursor, first-inside, small-limit, Past, Stands, Yields};
 use bundle::limits::IGNORED;
 use bundle::limits::MODULE;
-use bundle::limits::USE;
+
+// The kind of a unit: no item has it, since an item's is a byte.
+pub const UNIT: usize = 256;
 
 // The most that are open: a unit, and modules in it.
 pub const OPEN: usize = 10;
 
-// Where a walk stands. `unit` units of the order were entered; the last is `id`, its file stands at `file`. `depth` are open, the unit
-// first; of the innermost the items from `at` to `end` are left. For each that is open: its mark, 0 for the unit, and the end of what
-// it stands in.
+// Where a walk stands. `unit` units of the order were entered; the last is `id`. `depth` are open, the unit first; of the innermost the
+// items from `at` to `end` are left. For each that is open: its mark, 0 for the unit, and the end of what it stands in.
 pub struct Cursor {
     pub unit: usize,
     pub id: usize,
-    pub file: usize,
     pub at: usize,
     pub end: usize,
     pub depth: usize,
@@ -24,11 +24,9 @@ pub struct Cursor {
     pub ends: [usize; OPEN],
 }
 
-// A call of the walk, by the place of its item. What is entered is a unit, with place 0, or a module.
+// A call of the walk, by the kind and the place of its item; a unit, which is entered as a module is, has the kind UNIT and the place 0.
 pub enum Step {
-    Enter(bool, usize),
-    Declare(usize),
-    Use(usize),
+    Call(usize, usize),
     Exit(usize),
     End,
 }
@@ -52,7 +50,6 @@ pub fn start() -> Cursor
     Cursor {
         unit: 0,
         id: 0,
-        file: 0,
         at: 0,
         end: 0,
         depth: 0,
@@ -89,17 +86,15 @@ fn next_unit<'a>(s: &[u8], files: &'a [usize], ids: &'a [u16], units: usize, c: 
         };
     }
     let u = wide(ids[i]);
-    let place = bundle::file_at(s, files[u]);
-    let items = bundle::file_items(s, place);
+    let items = assembly::unit_items(s, files, u);
     let mut marks = c.marks;
     marks[0] = 0;
     let ends = c.ends;
     Stepped {
-        step: Step::Enter(true, 0),
+        step: Step::Call(UNIT, 0),
         cursor: Cursor {
             unit: i + 1,
             id: u,
-            file: place,
             at: items.at,
             end: items.end,
             depth: 1,
@@ -137,7 +132,6 @@ pub fn next<'a>(s: &[u8], files: &'a [usize], ids: &'a [u16], units: usize, c: C
             cursor: Cursor {
                 unit: c.unit,
                 id: c.id,
-                file: c.file,
                 at: bundle::next_item(s, mark),
                 end: ends[k],
                 depth: k,
@@ -152,11 +146,10 @@ pub fn next<'a>(s: &[u8], files: &'a [usize], ids: &'a [u16], units: usize, c: C
         marks[depth] = at;
         ends[depth] = end;
         return Stepped {
-            step: Step::Enter(false, at),
+            step: Step::Call(kind, at),
             cursor: Cursor {
                 unit: c.unit,
                 id: c.id,
-                file: c.file,
                 at: first_inside(depth, inner.at, inner.end),
                 end: inner.end,
                 depth: depth + 1,
@@ -165,24 +158,16 @@ pub fn next<'a>(s: &[u8], files: &'a [usize], ids: &'a [u16], units: usize, c: C
             },
         };
     }
-    let after = Cursor {
-        unit: c.unit,
-        id: c.id,
-        file: c.file,
-        at: bundle::next_item(s, at),
-        end: end,
-        depth: depth,
-        marks: marks,
-        ends: ends,
-    };
-    if kind == USE {
-        return Stepped {
-            step: Step::Use(at),
-            cursor: after,
-        };
-    }
     Stepped {
-        step: Step::Declare(at),
-        cursor: after,
+        step: Step::Call(kind, at),
+        cursor: Cursor {
+            unit: c.unit,
+            id: c.id,
+            at: bundle::next_item(s, at),
+            end: end,
+            depth: depth,
+            marks: marks,
+            ends: ends,
+        },
     }
 }

@@ -1,24 +1,23 @@
 // Step 6, the scope walk: the tree calls of a linked program, up to the first that is refused.
 ghost use mathlib.Core.Path.{_≡_};
-ghost use Prim.Native.Nat.{_+_, _<_, _≤_};
+ghost use Prim.Native.Nat.{_<_, _≤_};
 ghost use lib.ListN.{length, take};
+ghost use Rattle.bundle.specs.Limits.{use-kind};
 ghost use Rattle.bundle.specs.Decode.{decode};
-ghost use Rattle.bundle.specs.Scan.{byte};
-ghost use Rattle.order.specs.Writing.{started};
 ghost use Rattle.discovery.specs.Walk.{UseMark};
-ghost use Rattle.assembly.specs.Assemble.{assembled};
-ghost use Rattle.assembly.specs.Given.{Lies, UnitsGiven, OrderGiven};
+ghost use Rattle.assembly.specs.Assemble.{fileOf, assembled};
+ghost use Rattle.assembly.specs.Given.{UnitsGiven, OrderGiven};
 ghost use Rattle.assembly.specs.Targets.{InFile};
-ghost use Rattle.assembly.specs.Walk.{useBytes};
-ghost use Rattle.linker.specs.Scopes.{isPublic};
-ghost use Rattle.linker.specs.Steps.{item-code, use-size};
+ghost use Rattle.linker.specs.Steps.{use-size};
 ghost use Rattle.linker.specs.Units.{ScopedAs};
-ghost use Rattle.linker.specs.Cursor.{pathAt, entersName, entersPublic, Fitting, Within};
+ghost use Rattle.linker.specs.Cursor.{callCode, callPublic, takenBytes, Fitting, Put};
 use crate::Scoped;
 use crate::cursor::Step;
+use crate::cursor::UNIT;
 use crate::cursor::next;
 use crate::cursor::start;
-use resolution::Layout;
+use bundle::limits::MODULE;
+use bundle::limits::USE;
 use scopes::CELLS;
 use scopes::OPENED;
 use scopes::Tree;
@@ -37,10 +36,19 @@ const RESOLVE_USE: u8 = 6;
 // The most bytes of a use with its path rewritten.
 const USE_SIZE: usize = 2681;
 
-// The call of a declaration, by the kind of its item.
-fn item_code(kind: usize) -> u8
-    ensures { λ r. ⌜ r ≡ item-code kind ⌝ }
+// The code of a call, by its kind.
+fn call_code(kind: usize) -> u8
+    ensures { λ r. ⌜ r ≡ callCode kind ⌝ }
 {
+    if kind == USE {
+        return RESOLVE_USE;
+    }
+    if kind == MODULE {
+        return ENTER;
+    }
+    if kind == UNIT {
+        return ENTER;
+    }
     if kind == 2 {
         return FUNCTION;
     }
@@ -50,13 +58,6 @@ fn item_code(kind: usize) -> u8
     ALIAS
 }
 
-fn code_at(s: &[u8], place: usize) -> u8
-    requires { ⌜ place < 65536 ⌝ }
-    ensures { λ r. ⌜ r ≡ item-code (byte (now (s .entry)) (place + 2)) ⌝ }
-{
-    item_code(bundle::item_kind(s, place))
-}
-
 fn mark_of(place: usize) -> u16
     requires { ⌜ place < 65536 ⌝ }
     ensures { λ r. ⌜ r ≡ place ⌝ }
@@ -64,58 +65,52 @@ fn mark_of(place: usize) -> u16
     place as u16
 }
 
-fn is_public(s: &[u8], place: usize) -> bool
+// A unit is private, an item what its visibility says.
+fn is_public(s: &[u8], kind: usize, place: usize) -> bool
     requires { ⌜ place < 65536 ⌝ }
-    ensures { λ r. ⌜ r ≡ isPublic (byte (now (s .entry)) (place + 3)) ⌝ }
+    ensures { λ r. ⌜ r ≡ callPublic (now (s .entry)) kind place ⌝ }
 {
+    if kind == UNIT {
+        return false;
+    }
     bundle::item_visibility(s, place) == 1
 }
 
-// What is entered: a private module of the unit's name, or the module at `place`.
-fn enters_public(s: &[u8], unit: bool, place: usize) -> bool
-    requires { ⌜ place < 65536 ⌝ }
-    ensures { λ r. ⌜ r ≡ entersPublic (now (s .entry)) unit place ⌝ }
-{
-    if unit {
-        return false;
-    }
-    is_public(s, place)
-}
-
-fn enters_name<'a>(s: &'a [u8], name: &'a [u8], unit: bool, place: usize) -> &'a [u8]
-    requires { ⌜ place < 65536 ⌝ }
-    ensures { λ r. ⌜ now r ≡ entersName (now (s .entry)) (now (name .entry)) unit place ⌝ }
-{
-    if unit {
-        return name;
-    }
-    bundle::string(s, place + 4)
-}
-
-// The use at `place` in the unit of this id, whose file stands at `file`, its path rewritten: written to the start of `out`.
-fn use_form(
+// What does not stand in the bundle: a use of the unit `id`, its path rewritten, or the name of the unit, put at the start of `out`. The
+// answer is how many bytes it has.
+fn put_call(
     s: &[u8],
-    at: Layout,
     files: &[usize],
     units: usize,
     id: usize,
-    file: usize,
+    kind: usize,
     place: usize,
     out: &mut [u8],
 ) -> usize
-    requires { ⌜ (Lies (now s) at × UnitsGiven (now s) (now files) units) × (Within (now s) units id file × ((UseMark (now s) place × Fitting (now s) place × InFile (now s) (pathAt (now s) file) place) × (use-size ≤ length (now out)))) ⌝ }
-    ensures { λ r. ⌜ (r ≡ length (useBytes (now (s .entry)) (pathAt (now (s .entry)) file) place)) × ((r ≤ use-size) × (now (out .exit) ≡ started (useBytes (now (s .entry)) (pathAt (now (s .entry)) file) place) (now (out .entry)))) ⌝ }
+    requires { ⌜ (UnitsGiven (now s) (now files) units × (id < units)) × ((kind ≡ use-kind → UseMark (now s) place × Fitting (now s) place × InFile (now s) (fileOf (decode (now s)) id) place) × (length (now out) ≡ use-size)) ⌝ }
+    ensures { λ r. ⌜ Put (now (s .entry)) id kind place r (now (out .exit)) ⌝ }
 {
-    assembly::rewrite_use(
-        s,
-        at,
-        bundle::file_path(s, file),
-        files[id],
-        files,
-        units,
-        place,
-        out,
-    )
+    if kind == USE {
+        return assembly::rewrite_use(s, files, units, id, place, out);
+    }
+    if kind == UNIT {
+        return assembly::put_unit(out, id);
+    }
+    0
+}
+
+// The bytes of a call: a use's, the first `n` that were put; a unit's name; or the name of the item at `place`.
+fn call_bytes<'a>(s: &'a [u8], put: &'a [u8], n: usize, kind: usize, place: usize) -> &'a [u8]
+    requires { ⌜ (place < 65536) × (n ≤ length (now put)) ⌝ }
+    ensures { λ r. ⌜ now r ≡ takenBytes (now (s .entry)) (now (put .entry)) n kind place ⌝ }
+{
+    if kind == USE {
+        return &put[..n];
+    }
+    if kind == UNIT {
+        return bundle::string(put, 0);
+    }
+    bundle::string(s, place + 4)
 }
 
 // The tree of the units in their order, or the number and the place of the first call that is refused. Ruled out: the tree of the
@@ -124,7 +119,6 @@ pub fn walk_program<'a>(s: &[u8], files: &'a [usize], ids: &'a [u16], units: usi
     requires { ⌜ OrderGiven (now s) (now files) (now ids) units ⌝ }
     ensures { λ r. ⌜ ScopedAs (assembled (decode (now (s .entry))) (take units (now (ids .entry)))) r ⌝ }
 {
-    let at = resolution::layout_of(s);
     let mut opened = [0u16; OPENED];
     let mut cells = [0u16; CELLS];
     let mut visible = [0u8; 1024];
@@ -134,6 +128,7 @@ pub fn walk_program<'a>(s: &[u8], files: &'a [usize], ids: &'a [u16], units: usi
     let mut n1 = [0u64; 1024];
     let mut n2 = [0u64; 1024];
     let mut n3 = [0u64; 1024];
+    let mut put = [0u8; USE_SIZE];
     let mut cursor = start();
     let mut number: u8 = 0;
     let mut place: usize = 0;
@@ -143,11 +138,9 @@ pub fn walk_program<'a>(s: &[u8], files: &'a [usize], ids: &'a [u16], units: usi
         let step = n.step;
         cursor = n.cursor;
         match step {
-            Step::Enter(unit, p) => {
-                let name = names::unit_name(cursor.id as u64);
-                let bytes = name.bytes;
-                let len = name.len;
-                let public = enters_public(s, unit, p);
+            Step::Call(kind, p) => {
+                let m = put_call(s, files, units, cursor.id, kind, p, &mut put);
+                let public = is_public(s, kind, p);
                 place = p;
                 number = scopes::number_of(scopes::lent::call(
                     &mut opened,
@@ -159,54 +152,10 @@ pub fn walk_program<'a>(s: &[u8], files: &'a [usize], ids: &'a [u16], units: usi
                     &mut n1,
                     &mut n2,
                     &mut n3,
-                    ENTER,
-                    enters_name(s, &bytes[..len], unit, p),
+                    call_code(kind),
+                    call_bytes(s, &put, m, kind, p),
                     public,
                     mark_of(p),
-                ));
-                going = number == 0;
-                continue;
-            }
-            Step::Declare(p) => {
-                let public = is_public(s, p);
-                place = p;
-                number = scopes::number_of(scopes::lent::call(
-                    &mut opened,
-                    &mut cells,
-                    &mut visible,
-                    &mut scopes,
-                    &mut marks,
-                    &mut n0,
-                    &mut n1,
-                    &mut n2,
-                    &mut n3,
-                    code_at(s, p),
-                    bundle::string(s, p + 4),
-                    public,
-                    mark_of(p),
-                ));
-                going = number == 0;
-                continue;
-            }
-            Step::Use(p) => {
-                let mut decl = [0u8; USE_SIZE];
-                let m = use_form(s, at, files, units, cursor.id, cursor.file, p, &mut decl);
-                let public = is_public(s, p);
-                place = p;
-                number = scopes::number_of(scopes::lent::call(
-                    &mut opened,
-                    &mut cells,
-                    &mut visible,
-                    &mut scopes,
-                    &mut marks,
-                    &mut n0,
-                    &mut n1,
-                    &mut n2,
-                    &mut n3,
-                    RESOLVE_USE,
-                    &decl[..m],
-                    public,
-                    0,
                 ));
                 going = number == 0;
                 continue;

@@ -25,7 +25,7 @@ use Rattle.discovery.specs.Facts.{pathsAt}
 use Rattle.discovery.specs.Cases.{at-path, below-r, printed-entry}
 use Rattle.graph.specs.Linearize.{linearize, visit, memb, from}
 use Rattle.graph.specs.Linearize as graph
-use Rattle.order.specs.Run.{Outcome, faulty, closed, linked, ordered, filesOf}
+use Rattle.order.specs.Run.{Outcome, faulty, closed, ended, result, linked, ordered, filesOf}
 use Rattle.order.specs.Report.{Record, fault, ring, recordsOf, recordBytes, reportBytes, recordLength, reportLength, lentReport, reporting}
 use Rattle.order.specs.declared.Reported.{Reported}
 use Rattle.order.specs.declared.Reported.the-variants as reported
@@ -38,7 +38,8 @@ pub data OrderCase : Type 0 where
 abbrev idsOf : Outcome → List ℕ
 idsOf (faulty l) = []
 idsOf (closed r) = r
-idsOf (linked o) = o
+idsOf (ended n p) = []
+idsOf (result o) = o
 
 unfoldable pub telling : Bundle → Outcome → OrderCase
 telling b x = told x (filesOf b (idsOf x)) (reportBytes (recordsOf x))

@@ -18,9 +18,9 @@ use Rattle.discovery.specs.Discovery.{Fault, pathsOf}
 use Rattle.discovery.specs.Facts.{getD-mem, id-found, pathsAt}
 use Rattle.discovery.specs.Weight.{reached-file}
 use Rattle.discovery.specs.Right.{discovered}
-use Rattle.order.specs.Run.{Outcome, faulty, closed, linked, ordered, unitsOf, filesOf}
+use Rattle.order.specs.Run.{Outcome, faulty, closed, ended, result, linked, ordered, unitsOf, filesOf}
 use Rattle.order.specs.Files.{LinkedFiles, ImportEachOther}
-use Rattle.order.specs.Theorems.{faultsOf, LinkedIds, RingMet, FirstHalf, first-half-read, order-count, ring-met-only}
+use Rattle.order.specs.Theorems.{faultsOf, LinkedIds, RingMet, FirstHalf, first-half-read, order-count, ring-met-only, never-ended}
 use Rattle.order.specs.Report.{Record, fault, ring, small-buffer, recordsOf, reportLength, lentReport, reporting, fits, exceeds, nothing-lent}
 use Rattle.order.specs.Report as report
 use Rattle.order.specs.Call.{pathsOfIds, Wrote, padded, refusing, reportedTo, linking, answering, unitFiles, answerTo, reportTo, orderAnswer, orderReport}
@@ -96,6 +96,16 @@ pub ring-some : (r : List ℕ) → 0 < reportLength (ring r ∷ [])
 unfolding reportLength report.recordLength
 ring-some r = omega arith
 
+-- what is told of a report: 14 where it exceeds its buffer, which is as it was, and otherwise its length, once it is written
+pub report-told : (P : List ℕ → Answer → Type 0) (rs : List Record) (out : List ℕ) → (length out < reportLength rs → P out (refusing small-buffer 0))
+    → (Wrote rs out (lentReport rs out) 0 (reportLength rs) → P (lentReport rs out) (reportedTo (reported.Report (reportLength rs))))
+    → 0 < reportLength rs → P (lentReport rs out) (reportedTo (reporting rs (length out)))
+report-told P rs out less more some = go (report-ends rs out)
+  where
+    go : ReportEnds rs out → P (lentReport rs out) (reportedTo (reporting rs (length out)))
+    go (too-small l x) = subst (λ (y : List ℕ). P y (reportedTo (reporting rs (length out)))) (sym (x .untouched)) (subst (λ (y : Reported). P out (reportedTo y)) (sym (x .answered)) (less l))
+    go (whole f) = subst (λ (y : Reported). P (lentReport rs out) (reportedTo y)) (sym (f .answered)) (more (wrote f some))
+
 -- THE THEOREM
 module _ (s out : List ℕ) where
   abbrev Due : Reading → Type 0
@@ -103,24 +113,16 @@ module _ (s out : List ℕ) where
 
   by-outcome : (b : Bundle) → read s ≡ value b → FirstHalf b (ordered b) → (x : Outcome) → ordered b ≡ x
       → OrderTold s out (lentReport (recordsOf x) out) (answering (unitFiles b) (length out) x)
-  by-outcome b v h (linked o) e =
+  by-outcome b v h (result o) e =
       let files = h .order o e in
       in-order b o v e (h .no-ring o e) (files-linked b o (h .ids o e) files) refl (nothing-lent out)
-  by-outcome b v h (closed r) e = go (report-ends (ring r ∷ []) out)
-    where
-      go : ReportEnds (ring r ∷ []) out → OrderTold s out (lentReport (ring r ∷ []) out) (reportedTo (reporting (ring r ∷ []) (length out)))
-      go (too-small l x) = small b v (subst (λ (y : Outcome). length out < reportLength (recordsOf y)) (sym e) l) (ap reportedTo (x .answered)) (x .untouched)
-      go (whole f) =
-          subst (λ (y : Reported). OrderTold s out (lentReport (ring r ∷ []) out) (reportedTo y)) (sym (f .answered))
-          (ring-met b r v (ring-met-only s b v r e) refl (wrote f (ring-some r)))
+  by-outcome b v h (closed r) e =
+      report-told (OrderTold s out) (ring r ∷ []) out (λ l. small b v (subst (λ (y : Outcome). length out < reportLength (recordsOf y)) (sym e) l) refl refl) (λ w. ring-met b r v (ring-met-only s b v r e) refl w) (ring-some r)
+  by-outcome b v h (ended n p) e = absurd (never-ended b n p e)
   by-outcome b v h (faulty []) e = absurd (h .faults [] e .1 refl)
-  by-outcome b v h (faulty (f ∷ fs)) e = go (report-ends (map fault (f ∷ fs)) out)
-    where
-      go : ReportEnds (map fault (f ∷ fs)) out → OrderTold s out (lentReport (map fault (f ∷ fs)) out) (reportedTo (reporting (map fault (f ∷ fs)) (length out)))
-      go (too-small l x) = small b v (subst (λ (y : Outcome). length out < reportLength (recordsOf y)) (sym e) l) (ap reportedTo (x .answered)) (x .untouched)
-      go (whole x) =
-          subst (λ (y : Reported). OrderTold s out (lentReport (map fault (f ∷ fs)) out) (reportedTo y)) (sym (x .answered))
-          (faults b v refl (subst (λ (l : List Fault). Wrote (map fault l) out (lentReport (map fault (f ∷ fs)) out) 0 (reportLength (map fault (f ∷ fs)))) (h .faults (f ∷ fs) e .0) (wrote x (fault-some f fs))))
+  by-outcome b v h (faulty (f ∷ fs)) e =
+      report-told (OrderTold s out) (map fault (f ∷ fs)) out (λ l. small b v (subst (λ (y : Outcome). length out < reportLength (recordsOf y)) (sym e) l) refl refl)
+      (λ w. faults b v refl (subst (λ (l : List Fault). Wrote (map fault l) out (lentReport (map fault (f ∷ fs)) out) 0 (reportLength (map fault (f ∷ fs)))) (h .faults (f ∷ fs) e .0) w)) (fault-some f fs)
 
   by-reading : (x : Reading) → read s ≡ x → Due x
   by-reading (refused n p) e = turned-back n p e refl refl

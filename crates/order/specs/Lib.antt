@@ -1,4 +1,5 @@
 -- definitions
+pub mod Outcome
 pub mod Run
 pub mod Files
 pub mod Report
@@ -15,3 +16,4 @@ pub mod Listed
 pub mod Writing
 pub mod Steps
 pub mod Join
+pub mod Carried

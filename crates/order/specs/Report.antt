@@ -11,7 +11,7 @@ use lib.Seq.{take-at, drop-at}
 use borrow.Author.Tests.{leb-true, leb-false, le-leb, lt-leb}
 use Rattle.bundle.specs.Encode.{two, joined}
 use Rattle.discovery.specs.Discovery.{Fault}
-use Rattle.order.specs.Run.{Outcome, faulty, closed, linked}
+use Rattle.order.specs.Outcome.{Outcome, faulty, closed, ended, result}
 use Rattle.order.specs.declared.Reported.{Reported}
 use Rattle.order.specs.declared.Reported.the-variants as reported
 
@@ -29,11 +29,12 @@ pub data Record : Type 0 where
   -- 26 at place 0, with the ids of the ring
   ring : List ℕ → Record
 
--- the report of the two steps: one record per fault, or one for the ring alone; none of an order
-abbrev pub recordsOf : Outcome → List Record
+-- the report of an outcome: one record per fault, or one for the ring alone; otherwise there is none
+abbrev pub recordsOf : {A : Type 0} → Outcome A → List Record
 recordsOf (faulty l) = map fault l
 recordsOf (closed r) = ring r ∷ []
-recordsOf (linked o) = []
+recordsOf (ended n p) = []
+recordsOf (result x) = []
 
 -- BYTES
 -- a number's last byte

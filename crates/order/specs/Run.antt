@@ -1,11 +1,13 @@
 -- Steps 3 and 4 of document 01, one after the other: discovery, then the linked order or a ring. Assumes nothing.
 use Prim.Native.Nat.{ℕ}
-use mathlib.Core.List.{List, [], _∷_}
+use mathlib.Core.List.{List, []}
 use lib.ListN.{length, getD}
 use Rattle.bundle.specs.Bundle.{Text, Bundle}
 use Rattle.discovery.specs.Discovery.{Fault, Graph, discoverDependencies}
 use Rattle.discovery.specs.Facts.{pathsAt}
 use Rattle.graph.specs.Linearize.{Out, order, ring, linearize}
+use Rattle.order.specs.Outcome as steps
+pub use Rattle.order.specs.Outcome.{faulty, closed, ended, result, unless}
 
 -- the ids that a unit of a discovered graph lists
 abbrev pub listOf : Graph → ℕ → List ℕ
@@ -15,14 +17,12 @@ listOf g u = getD (g .dependencies) u []
 abbrev pub walkOf : Graph → Out
 walkOf g = linearize (listOf g) (length (g .sources))
 
--- what the two steps come to
-pub data Outcome : Type 0 where
-  -- the faults of discovery, in the order of their pushes
-  faulty : List Fault → Outcome
-  -- the ids of a ring
-  closed : List ℕ → Outcome
-  -- the ids of the units in linked order
-  linked : List ℕ → Outcome
+-- what the two steps come to: the faults of discovery, a ring, or the ids of the units in linked order
+abbrev pub Outcome : Type 0
+Outcome = steps.Outcome (List ℕ)
+
+abbrev pub linked : List ℕ → Outcome
+linked o = result o
 
 abbrev pub step4 : Out → Outcome
 step4 (order o) = linked o
@@ -30,8 +30,7 @@ step4 (ring r) = closed r
 
 -- discovery faults prevent step 4
 abbrev pub outcome : List Fault → Out → Outcome
-outcome [] x = step4 x
-outcome (f ∷ fs) x = faulty (f ∷ fs)
+outcome fs x = unless fs (step4 x)
 
 abbrev pub orderedBy : Graph → Outcome
 orderedBy g = outcome (g .faults) (walkOf g)

@@ -60,13 +60,13 @@ module _ (files : List ℕ) (units : ℕ) (fit : units ≤ length files) (small 
       }
 
   pub copied-all : (found ids : List ℕ) (i : ℕ) → units ≤ i → CopiedTo files found units i
-      → _≡_ {A = Answer} (record { number = 0; place = 0; report = 0; units = units; files = found; ids = ids }) (linking (take units files) ids)
+      → _≡_ {A = Answer} (record { number = 0; place = 0; report = 0; units = units; files = found; ids = ids; image = 0 }) (linking (take units files) ids)
   copied-all found ids i h c =
       let e : i ≡ units = let k = c .few in omega arith in
       let n = length-take-le units files fit in
       let f : found ≡ take units files ++ drop (length (take units files)) cleared = c .so-far ∙ (ap (λ (k : ℕ). take k files ++ drop k cleared) e ∙ ap (λ (k : ℕ). take units files ++ drop k cleared) (sym n)) in
-      ap (λ (k : ℕ). record { number = 0; place = 0; report = 0; units = k; files = found; ids = ids }) (sym n)
-      ∙ ap (λ (l : List ℕ). record { number = 0; place = 0; report = 0; units = length (take units files); files = l; ids = ids }) f
+      ap (λ (k : ℕ). record { number = 0; place = 0; report = 0; units = k; files = found; ids = ids; image = 0 }) (sym n)
+      ∙ ap (λ (l : List ℕ). record { number = 0; place = 0; report = 0; units = length (take units files); files = l; ids = ids; image = 0 }) f
 
 -- THE ANSWERS
 some-faulty : (fs : List Fault) (x : Out) → 0 < length fs → outcome fs x ≡ faulty fs
@@ -81,7 +81,7 @@ module _ (files : List ℕ) (n : ℕ) where
 
   walked-ring : (x : Out) → (numbered x .number ≡ 0 → ⊥) → (ringRecords (numbered x .ids) (numbered x .count) ≡ recordsOf (step4 x)) × (reportedTo (reporting (recordsOf (step4 x)) n) ≡ answering files n (step4 x))
   walked-ring (order o) f = absurd (f refl)
-  walked-ring (ring r) f = (ap (λ (l : List ℕ). recordsOf (closed l)) (take-at r (drop (length r) (replicate unit-limit 0)) (length r) refl), refl)
+  walked-ring (ring r) f = (ap (λ (l : List ℕ). recordsOf {A = List ℕ} (closed l)) (take-at r (drop (length r) (replicate unit-limit 0)) (length r) refl), refl)
 
 -- the ids that were walked are no more than the array has
 walked-few : (w : Linearized) (x : Out) → w ≡ numbered x → length (w .ids) ≡ unit-limit → w .count ≤ unit-limit

@@ -23,7 +23,7 @@ use Rattle.graph.specs.Linearize.{Out, order, ring}
 use Rattle.graph.specs.Order.{Within}
 use Rattle.graph.specs.Order as graph
 use Rattle.graph.specs.OrderTheorems.{Linearizes, linearize-right, ring-there}
-use Rattle.order.specs.Run.{listOf, walkOf, Outcome, faulty, closed, linked, outcome, ordered, unitsOf, filesOf}
+use Rattle.order.specs.Run.{listOf, walkOf, Outcome, faulty, closed, ended, linked, outcome, ordered, unitsOf, filesOf}
 use Rattle.order.specs.Files.{LinkedFiles, RingOfFiles, ImportEachOther, NamedRing}
 use Rattle.order.specs.Units.{within, reaches-below, ids-below, all-units, linked-files, ring-files, named-files, cyclic-files, files-cyclic, ring-each-other, reached-some}
 
@@ -79,7 +79,7 @@ linked-closed e = let z : _≡_ {A = ℕ} 0 1 = cc in omega arith
 faulty-linked : {l : List Fault} {o : List ℕ} → faulty l ≡ linked o → ⊥
 faulty-linked e = let z : _≡_ {A = ℕ} 0 1 = cc in omega arith
 
-faulty-closed : {l : List Fault} {r : List ℕ} → faulty l ≡ closed r → ⊥
+faulty-closed : {l : List Fault} {r : List ℕ} → _≡_ {A = Outcome} (faulty l) (closed r) → ⊥
 faulty-closed e = let z : _≡_ {A = ℕ} 0 1 = cc in omega arith
 
 some-faults : {f : Fault} {l : List Fault} → f ∷ l ≡ [] → ⊥
@@ -183,6 +183,16 @@ module _ (b : Bundle) (some : 0 < length (b .files)) where
   first-half =
       right-outcome (faultsOf b) refl (walkOf (discoverDependencies b))
       (linearize-right (listOf (discoverDependencies b)) (length (unitsOf b)) units-within)
+
+-- neither step refuses
+pub never-ended : (b : Bundle) (n p : ℕ) → ordered b ≡ ended n p → ⊥
+unfolding ordered
+never-ended b n p e = go (faultsOf b) (walkOf (discoverDependencies b)) e
+  where
+    go : (fs : List Fault) (x : Out) → outcome fs x ≡ ended n p → ⊥
+    go [] (order o) h = let z : _≡_ {A = ℕ} 0 1 = cc in omega arith
+    go [] (ring r) h = let z : _≡_ {A = ℕ} 0 1 = cc in omega arith
+    go (f ∷ fs) x h = let z : _≡_ {A = ℕ} 0 1 = cc in omega arith
 
 -- as many ids as units
 paths-length : (l : List Text) (ids : List ℕ) → length (pathsAt l ids) ≡ length ids

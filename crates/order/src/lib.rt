@@ -3,8 +3,11 @@ mod report;
 mod steps;
 
 pub use report::write_faults;
+pub use steps::refuse;
+pub use steps::report_told;
 ghost use mathlib.Core.Path.{_≡_};
-ghost use Rattle.discovery.specs.Complete.{Fresh, Carries};
+ghost use Rattle.discovery.specs.Complete.{Carries};
+ghost use Rattle.discovery.specs.Places.{Fresh};
 ghost use Rattle.order.specs.Call.{orderAnswer, orderReport};
 use discovery::known::KNOWN;
 
@@ -19,9 +22,9 @@ pub enum Reported {
     Refused(u8, usize),
 }
 
-// What the two steps answer: a refusal's number, 1 to 14, and its place; or how many bytes at the start of the lent buffer are
-// the report; or, where there is neither, the units. Unit u, below `units`, is the file files[u] of the bundle, and the first
-// `units` of ids are the linked order. What is not told is 0.
+// What a run of the steps answers: a refusal's number and its place; or how many bytes at the start of the report buffer are the
+// report; or, where there is neither, the units, and after step 5 how many bytes at the start of the image buffer are the image. Unit
+// u, below `units`, is the file files[u] of the bundle, and the first `units` of ids are the linked order. What is not told is 0.
 pub struct Answer {
     pub number: u8,
     pub place: usize,
@@ -29,6 +32,7 @@ pub struct Answer {
     pub units: usize,
     pub files: [usize; UNITS],
     pub ids: [u16; UNITS],
+    pub image: usize,
 }
 
 // The units of a bundle in linked order, or a refusal: 1 to 13 of the bundle, the report of discovery's faults or of a ring, or

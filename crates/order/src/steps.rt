@@ -23,10 +23,12 @@ pub fn refuse(number: u8, place: usize) -> Answer
         units: 0,
         files: [0; UNITS],
         ids: [0; UNITS],
+        image: 0,
     }
 }
 
-fn reported(r: Reported) -> Answer
+// A report: its length, or 14.
+pub fn report_told(r: Reported) -> Answer
     ensures { λ a. ⌜ a ≡ reportedTo r ⌝ }
 {
     match r {
@@ -38,6 +40,7 @@ fn reported(r: Reported) -> Answer
             units: 0,
             files: [0; UNITS],
             ids: [0; UNITS],
+            image: 0,
         },
     }
 }
@@ -60,6 +63,7 @@ fn linked(files: &[usize], units: usize, ids: [u16; UNITS]) -> Answer
         units: units,
         files: found,
         ids: ids,
+        image: 0,
     }
 }
 
@@ -72,7 +76,7 @@ pub fn order_of(g: discovery::Graph, out: &mut [u8]) -> Answer
 {
     let faults = g.faults;
     if faults > 0 {
-        return reported(write_faults(&g.numbers, &g.places, faults, out));
+        return report_told(write_faults(&g.numbers, &g.places, faults, out));
     }
     let start = g.start;
     let len = g.len;
@@ -88,5 +92,5 @@ pub fn order_of(g: discovery::Graph, out: &mut [u8]) -> Answer
         let order = walked.ids;
         return linked(&g.files, g.units, order);
     }
-    reported(write_ring(&walked.ids, walked.count, out))
+    report_told(write_ring(&walked.ids, walked.count, out))
 }

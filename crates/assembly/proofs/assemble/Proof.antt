@@ -8,7 +8,7 @@ use denote.Ref.{now}
 use borrow.Author.Needs.{needs}
 use Rattle.order.specs.Writing.{faultRecords}
 use Rattle.order.specs.Report.{reporting, lentReport}
-use Rattle.discovery.specs.Complete.{fresh}
+use Rattle.discovery.specs.Places.{fresh}
 use Rattle.assembly.specs.GivenLaws.{known-linked}
 use Rattle.assembly.specs.Join.{no-units, units-linked, faults-told, image-told}
 use Rattle.assembly.proofs.assemble.Statement.{statement}
@@ -17,14 +17,11 @@ use Rattle.assembly.proofs.assemble.Tie as tie
 order-known-requires : tie.Need-order-known-requires
 order-known-requires c κs = fresh
 
-told-requires : tie.Need-told-requires
-told-requires c κs = search needs
-
 same-length : tie.Need-same-length
 same-length c = search needs
 
 returns : tie.Need-returns
-returns c = let d = no-units (now (c .before .before .before .before .before .before .before .before .before .before .args .s)) (now (c .before .before .before .before .before .before .before .before .before .before .args .report)) (now (c .before .before .before .before .before .before .before .before .before .before .args .image)) (c .before .before .before .before .order-known .result) (c .before .before .before .before .order-known .last .1 .0) (c .before .before .before .before .order-known .ensures .0) (c .before .before .before .before .order-known .ensures .1 .0) (c .before .if1 .taken) in (c .told .ensures ∙ d .0, d .1)
+returns c = let d = no-units (now (c .before .before .before .before .before .before .before .before .before .args .s)) (now (c .before .before .before .before .before .before .before .before .before .args .report)) (now (c .before .before .before .before .before .before .before .before .before .args .image)) (c .before .before .before .order-known .result) (c .before .before .before .order-known .last .1 .0) (c .before .before .before .order-known .ensures .0) (c .before .before .before .order-known .ensures .1 .0) (c .if1 .taken) in d
 
 put-files-requires : tie.Need-put-files-requires
 put-files-requires c κs = c .before .before .before .before .before .before .order-known .ensures .1 .1 .long
@@ -41,8 +38,8 @@ assembly-faults-requires c κs = known-linked (units-linked (now (c .before .bef
 write-faults-requires : tie.Need-write-faults-requires
 write-faults-requires c κs = search needs
 
-reported-requires : tie.Need-reported-requires
-reported-requires c κs = search needs
+report-told-requires : tie.Need-report-told-requires
+report-told-requires c κs = search needs
 
 same-length-2 : tie.Need-same-length-2
 same-length-2 c = search needs
@@ -53,9 +50,9 @@ returns-2 c =
     let zn : length (c .before .before .before .before .before .before .before .before .before .before .before .assembly-faults .result .numbers) ≡ 1025 = search (needs, c .before .before .before .before .before .before .before .before .before .before .before .assembly-faults) in
     let zp : length (c .before .before .before .before .before .before .before .before .before .before .before .assembly-faults .result .places) ≡ 1025 = search (needs, c .before .before .before .before .before .before .before .before .before .before .before .assembly-faults) in
     let few = c .before .before .before .before .before .before .before .before .before .before .before .assembly-faults .ensures .1 in
-    faults-told (now (c .before .before .before .before .before .before .before .before .before .before .before .before .before .before .before .before .before .before .before .before .before .before .before .before .before .before .before .args .s)) (now (c .before .before .before .before .before .before .before .before .before .before .before .before .before .before .before .before .before .before .before .before .before .before .before .before .before .before .before .args .report)) (now (c .before .before .before .before .before .before .before .before .before .before .before .before .before .before .before .before .before .before .before .before .before .before .before .before .before .before .before .args .image)) (c .before .before .before .before .before .before .before .before .before .before .before .before .before .before .before .before .before .before .before .before .before .order-known .result) (c .before .before .before .before .before .before .before .before .before .before .before .before .before .before .before .before .before .before .before .before .before .order-known .last .1 .0) (c .before .before .before .before .before .before .before .before .before .before .before .before .before .before .before .before .before .before .before .before .before .order-known .ensures .0) (c .before .before .before .before .before .before .before .before .before .before .before .before .before .before .before .before .before .before .before .before .before .order-known .ensures .1 .0) (l .0) (c .before .before .before .before .before .before .before .before .before .before .before .assembly-faults .result .numbers) (c .before .before .before .before .before .before .before .before .before .before .before .assembly-faults .result .places) (c .before .before .before .write-faults .last .1 .1 .1 .0) (c .before .before .before .before .before .before .before .before .before .before .before .assembly-faults .result .count) (c .before .before .before .write-faults .result) (c .reported .result)
+    faults-told (now (c .before .before .before .before .before .before .before .before .before .before .before .before .before .before .before .before .before .before .before .before .before .before .before .before .before .before .before .args .s)) (now (c .before .before .before .before .before .before .before .before .before .before .before .before .before .before .before .before .before .before .before .before .before .before .before .before .before .before .before .args .report)) (now (c .before .before .before .before .before .before .before .before .before .before .before .before .before .before .before .before .before .before .before .before .before .before .before .before .before .before .before .args .image)) (c .before .before .before .before .before .before .before .before .before .before .before .before .before .before .before .before .before .before .before .before .before .order-known .result) (c .before .before .before .before .before .before .before .before .before .before .before .before .before .before .before .before .before .before .before .before .before .order-known .last .1 .0) (c .before .before .before .before .before .before .before .before .before .before .before .before .before .before .before .before .before .before .before .before .before .order-known .ensures .0) (c .before .before .before .before .before .before .before .before .before .before .before .before .before .before .before .before .before .before .before .before .before .order-known .ensures .1 .0) (l .0) (c .before .before .before .before .before .before .before .before .before .before .before .assembly-faults .result .numbers) (c .before .before .before .before .before .before .before .before .before .before .before .assembly-faults .result .places) (c .before .before .before .write-faults .last .1 .1 .1 .0) (c .before .before .before .before .before .before .before .before .before .before .before .assembly-faults .result .count) (c .before .before .before .write-faults .result) (c .report-told .result)
     (omega arith) (omega arith) (c .before .before .before .before .before .before .before .before .before .before .if2 .taken) (c .before .before .before .before .before .before .before .before .before .before .before .assembly-faults .ensures .0)
-    (c .before .before .before .write-faults .ensures .0 ∙ ap (λ (x : List ℕ). reporting (faultRecords (c .before .before .before .before .before .before .before .before .before .before .before .assembly-faults .result .numbers) (c .before .before .before .before .before .before .before .before .before .before .before .assembly-faults .result .places) (c .before .before .before .before .before .before .before .before .before .before .before .assembly-faults .result .count)) (length x)) (l .1)) (c .reported .ensures)
+    (c .before .before .before .write-faults .ensures .0 ∙ ap (λ (x : List ℕ). reporting (faultRecords (c .before .before .before .before .before .before .before .before .before .before .before .assembly-faults .result .numbers) (c .before .before .before .before .before .before .before .before .before .before .before .assembly-faults .result .places) (c .before .before .before .before .before .before .before .before .before .before .before .assembly-faults .result .count)) (length x)) (l .1)) (c .report-told .ensures)
     (c .before .before .before .write-faults .ensures .1 ∙ ap (lentReport (faultRecords (c .before .before .before .before .before .before .before .before .before .before .before .assembly-faults .result .numbers) (c .before .before .before .before .before .before .before .before .before .before .before .assembly-faults .result .places) (c .before .before .before .before .before .before .before .before .before .before .before .assembly-faults .result .count))) (l .1))
 
 slice-aggregate-write-image : tie.Need-slice-aggregate-write-image
@@ -67,8 +64,8 @@ slice-aggregate-write-image-2 c = search (needs, c .before .before .before .befo
 write-image-requires : tie.Need-write-image-requires
 write-image-requires c κs = known-linked (units-linked (now (c .before .before .before .before .before .before .before .before .before .before .before .before .before .before .before .before .before .before .before .before .args .s)) (now (c .before .before .before .before .before .before .before .before .before .before .before .before .before .before .before .before .before .before .before .before .args .report)) (now (c .before .before .before .before .before .before .before .before .before .before .before .before .before .before .before .before .before .before .before .before .args .image)) (c .before .before .before .before .before .before .before .before .before .before .before .before .before .before .order-known .result) (c .before .before .before .before .before .before .before .before .before .before .before .before .before .before .order-known .last .1 .0) (c .before .before .before .before .before .before .before .before .before .before .before .before .before .before .order-known .ensures .0) (c .before .before .before .before .before .before .before .before .before .before .before .before .before .before .order-known .ensures .1 .0) (c .before .before .before .before .before .before .before .before .before .before .before .if1 .left) .0) (c .before .before .before .before .before .before .before .before .before .before .before .before .before .before .order-known .ensures .1 .1) (c .before .before .before .before .before .before .before .put-files .ensures)
 
-imaged-requires : tie.Need-imaged-requires
-imaged-requires c κs = search needs
+with-image-requires : tie.Need-with-image-requires
+with-image-requires c κs = search needs
 
 same-length-3 : tie.Need-same-length-3
 same-length-3 c = search needs
@@ -80,15 +77,14 @@ returns-3 : tie.Need-returns-3
 returns-3 c =
     let l = units-linked (now (c .before .before .before .before .before .before .before .before .before .before .before .before .before .before .before .before .before .before .before .before .before .before .before .before .args .s)) (now (c .before .before .before .before .before .before .before .before .before .before .before .before .before .before .before .before .before .before .before .before .before .before .before .before .args .report)) (now (c .before .before .before .before .before .before .before .before .before .before .before .before .before .before .before .before .before .before .before .before .before .before .before .before .args .image)) (c .before .before .before .before .before .before .before .before .before .before .before .before .before .before .before .before .before .before .order-known .result) (c .before .before .before .before .before .before .before .before .before .before .before .before .before .before .before .before .before .before .order-known .last .1 .0) (c .before .before .before .before .before .before .before .before .before .before .before .before .before .before .before .before .before .before .order-known .ensures .0) (c .before .before .before .before .before .before .before .before .before .before .before .before .before .before .before .before .before .before .order-known .ensures .1 .0) (c .before .before .before .before .before .before .before .before .before .before .before .before .before .before .before .if1 .left) in
     let z : c .before .before .before .before .before .before .before .before .assembly-faults .result .count ≡ 0 = omega (arith, c .before .before .before .before .before .before .before .if2 .left) in
-    image-told (now (c .before .before .before .before .before .before .before .before .before .before .before .before .before .before .before .before .before .before .before .before .before .before .before .before .args .s)) (now (c .before .before .before .before .before .before .before .before .before .before .before .before .before .before .before .before .before .before .before .before .before .before .before .before .args .report)) (now (c .before .before .before .before .before .before .before .before .before .before .before .before .before .before .before .before .before .before .before .before .before .before .before .before .args .image)) (c .before .before .before .before .before .before .before .before .before .before .before .before .before .before .before .before .before .before .order-known .result) (c .before .before .before .before .before .before .before .before .before .before .before .before .before .before .before .before .before .before .order-known .last .1 .0) (c .before .before .before .before .before .before .before .before .before .before .before .before .before .before .before .before .before .before .order-known .ensures .0) (c .before .before .before .before .before .before .before .before .before .before .before .before .before .before .before .before .before .before .order-known .ensures .1 .0) (l .0) (c .before .before .before .before .before .before .before .before .assembly-faults .result .numbers) (c .before .before .before .before .before .before .before .before .assembly-faults .result .places) (c .before .before .before .write-image .last .1 .1 .1 .1 .0) (c .before .before .before .before .before .before .before .before .assembly-faults .result .count) (c .before .before .before .write-image .result) (c .imaged .result) z
-    (c .before .before .before .before .before .before .before .before .assembly-faults .ensures .0) (c .before .before .before .write-image .ensures .0) (c .imaged .ensures) (c .before .before .before .write-image .ensures .1) (l .1)
+    image-told (now (c .before .before .before .before .before .before .before .before .before .before .before .before .before .before .before .before .before .before .before .before .before .before .before .before .args .s)) (now (c .before .before .before .before .before .before .before .before .before .before .before .before .before .before .before .before .before .before .before .before .before .before .before .before .args .report)) (now (c .before .before .before .before .before .before .before .before .before .before .before .before .before .before .before .before .before .before .before .before .before .before .before .before .args .image)) (c .before .before .before .before .before .before .before .before .before .before .before .before .before .before .before .before .before .before .order-known .result) (c .before .before .before .before .before .before .before .before .before .before .before .before .before .before .before .before .before .before .order-known .last .1 .0) (c .before .before .before .before .before .before .before .before .before .before .before .before .before .before .before .before .before .before .order-known .ensures .0) (c .before .before .before .before .before .before .before .before .before .before .before .before .before .before .before .before .before .before .order-known .ensures .1 .0) (l .0) (c .before .before .before .before .before .before .before .before .assembly-faults .result .numbers) (c .before .before .before .before .before .before .before .before .assembly-faults .result .places) (c .before .before .before .write-image .last .1 .1 .1 .1 .0) (c .before .before .before .before .before .before .before .before .assembly-faults .result .count) (c .before .before .before .write-image .result) (c .with-image .result) z
+    (c .before .before .before .before .before .before .before .before .assembly-faults .ensures .0) (c .before .before .before .write-image .ensures .0) (c .with-image .ensures) (c .before .before .before .write-image .ensures .1) (l .1)
 
 pub assemble-spec : {M : Type 1} → statement M
 assemble-spec =
     tie.close
     (tie.spec
     order-known-requires
-    told-requires
     same-length
     returns
     put-files-requires
@@ -96,13 +92,13 @@ assemble-spec =
     slice-aggregate-assembly-faults-2
     assembly-faults-requires
     write-faults-requires
-    reported-requires
+    report-told-requires
     same-length-2
     returns-2
     slice-aggregate-write-image
     slice-aggregate-write-image-2
     write-image-requires
-    imaged-requires
+    with-image-requires
     same-length-3
     same-length-4
     returns-3)

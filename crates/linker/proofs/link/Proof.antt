@@ -2,7 +2,7 @@ use native.Mathlib.Omega.{arith}
 use mathlib.Core.Path.{_≡_, _∙_}
 use lib.ListN.{length}
 use denote.Ref.{now}
-use Rattle.discovery.specs.Complete.{fresh}
+use Rattle.discovery.specs.Places.{fresh}
 use Rattle.assembly.specs.GivenLaws.{known-linked}
 use Rattle.assembly.specs.Join.{units-linked}
 use Rattle.linker.specs.Join.{no-units, faults-due, ended-due, image-due}

@@ -1,6 +1,6 @@
 -- `order` meets its contract. Assumes nothing.
 use borrow.Author.Needs.{needs}
-use Rattle.discovery.specs.Complete.{fresh}
+use Rattle.discovery.specs.Places.{fresh}
 use Rattle.order.proofs.order.Statement.{statement}
 use Rattle.order.proofs.order.Tie as tie
 

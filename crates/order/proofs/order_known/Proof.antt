@@ -44,7 +44,7 @@ returns-2 c =
     let bytes : Bytes (now (c .before .before .before .before .before .before .before .before .before .before .before .args .s)) = λ i. omega (arith, c .before .before .before .before .before .before .before .before .before .before .shared-slice-known .given i) in
     let t = answered (now (c .before .before .before .before .before .before .before .before .before .before .before .args .s)) bytes (sym (c .before .before .before .before .before .before .before .before .check .ensures) ∙ c .before .before .before .before .before .before .enum-told .given .1) (c .before .before .before .before .discover .result) (c .before .before .before .before .discover .ensures .0)
     (now (c .before .before .before .before .before .before .before .before .before .before .before .args .out)) (c .before .before .order-of .last .1 .0) (c .before .before .order-of .result) (c .before .before .order-of .ensures .0) (c .before .before .order-of .ensures .1) in
-    (t .0, (t .1, carries-all _ _ bytes (sym (c .before .before .before .before .before .before .before .before .check .ensures) ∙ c .before .before .before .before .before .before .enum-told .given .1) (c .before .before .before .before .discover .ensures .1)))
+    (t .0, (t .1, carries-all _ _ bytes (sym (c .before .before .before .before .before .before .before .before .check .ensures) ∙ c .before .before .before .before .before .before .enum-told .given .1) (c .before .before .before .before .discover .ensures .1 .0) (c .before .before .before .before .discover .ensures .1 .1)))
 
 pub order-known-spec : {M : Type 1} → statement M
 order-known-spec =

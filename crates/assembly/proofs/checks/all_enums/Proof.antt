@@ -9,8 +9,8 @@ use borrow.Author.Needs.{needs}
 use Rattle.bundle.specs.Decode.{decode}
 use Rattle.order.specs.Writing.{started}
 use Rattle.assembly.specs.EnumRoom.{enums-step, enums-end}
-use Rattle.assembly.specs.Given.{OneUnit}
-use Rattle.assembly.specs.GivenLaws.{one-unit, below}
+use Rattle.assembly.specs.Given.{PlacedUnit}
+use Rattle.assembly.specs.GivenLaws.{placed-unit, below}
 use Rattle.assembly.specs.Assemble.{itemsOf, enumDeclarations}
 use Rattle.assembly.specs.Faults.{enumsOf}
 use Rattle.assembly.specs.Parts.{Filled, lent-length, filled-none, filled-length, filled-start, filled-room, filled-more, filled-all}
@@ -55,7 +55,7 @@ unit-enums-requires c κs =
     let r = filled-room _ _ _ _ _ (c .before .before .before .before .loop .inv .1 .0) (c .before .before .before .before .loop .inv .1 .1) (enumDeclarations (itemsOf (decode (c .before .before .before .before .before .before .before .before .before .args .s .now)) (getD (c .before .before .before .before .before .before .before .before .before .args .ids .now) (c .before .before .before .before .loop .i) 0))) (enumsOf (decode (c .before .before .before .before .before .before .before .before .before .args .s .now)) (drop (c .before .before .before .before .loop .i + 1) (take ((c .before .before .before .before .before .before .before .before .before .args .units) - 1) (c .before .before .before .before .before .before .before .before .before .args .ids .now)))) (enums-step (c .before .before .before .before .before .before .before .before .before .args .s .now) (λ i. omega (arith, c .before .before .before .before .before .before .before .before .shared-slice-known .given i)) (c .before .before .before .before .before .before .before .before .before .args .files .now) (c .before .before .before .before .before .before .before .before .before .args .ids .now) (c .before .before .before .before .before .before .before .before .before .args .units) (c .before .before .before .before .before .before .before .before .before .pre .0) (c .before .before .before .before .loop .i) (c .before .before .before .loop-test .taken)) in
     let b = below (c .before .before .before .before .before .before .before .before .before .args .s .now) (c .before .before .before .before .before .before .before .before .before .args .files .now) (c .before .before .before .before .before .before .before .before .before .args .ids .now) (c .before .before .before .before .before .before .before .before .before .args .units) (c .before .before .before .before .before .before .before .before .before .pre .0) (c .before .before .before .before .loop .i) (let q = c .before .before .before .loop-test .taken in omega arith) in
     let w = c .before .wide .ensures in
-    subst (λ (u : ℕ). OneUnit (c .before .before .before .before .before .before .before .before .before .args .s .now) (c .before .before .before .before .before .before .before .before .before .args .files .now) u × (length (enumDeclarations (itemsOf (decode (c .before .before .before .before .before .before .before .before .before .args .s .now)) u)) ≤ length (midOf (c .before .before .before .before .loop .sum) (length (c .before .before .before .before .loop .marks) - c .before .before .before .before .loop .sum) (c .before .before .before .before .loop .marks)))) (sym w) (one-unit (c .before .before .before .before .before .before .before .before .before .args .s .now) (c .before .before .before .before .before .before .before .before .before .args .files .now) (c .before .before .before .before .before .before .before .before .before .args .units) (c .before .before .before .before .before .before .before .before .before .pre .0 .of-units) (getD (c .before .before .before .before .before .before .before .before .before .args .ids .now) (c .before .before .before .before .loop .i) 0) b, r)
+    subst (λ (u : ℕ). PlacedUnit (c .before .before .before .before .before .before .before .before .before .args .s .now) (c .before .before .before .before .before .before .before .before .before .args .files .now) u × (length (enumDeclarations (itemsOf (decode (c .before .before .before .before .before .before .before .before .before .args .s .now)) u)) ≤ length (midOf (c .before .before .before .before .loop .sum) (length (c .before .before .before .before .loop .marks) - c .before .before .before .before .loop .sum) (c .before .before .before .before .loop .marks)))) (sym w) (placed-unit (c .before .before .before .before .before .before .before .before .before .args .s .now) (c .before .before .before .before .before .before .before .before .before .args .files .now) (c .before .before .before .before .before .before .before .before .before .args .units) (c .before .before .before .before .before .before .before .before .before .pre .0 .of-units) (getD (c .before .before .before .before .before .before .before .before .before .args .ids .now) (c .before .before .before .before .loop .i) 0) b, r)
 
 add-sum : tie.Need-add-sum Inv-loop μ-loop
 add-sum c =

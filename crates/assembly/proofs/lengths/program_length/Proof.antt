@@ -13,10 +13,10 @@ use Rattle.assembly.proofs.lengths.program_length.Statement.{statement}
 use Rattle.assembly.proofs.lengths.program_length.Tie as tie
 
 abbrev Inv-loop : tie.InvT-loop
-Inv-loop s at files ids units sum₀ i₀ sum i = (i ≤ units) × Counted (programBytes (decode s) (take units ids)) (programBytes (decode s) (drop i (take units ids))) 65536 sum
+Inv-loop s files ids units sum₀ i₀ sum i = (i ≤ units) × Counted (programBytes (decode s) (take units ids)) (programBytes (decode s) (drop i (take units ids))) 65536 sum
 
 abbrev μ-loop : tie.MeasureT-loop
-μ-loop s at files ids units sum₀ i₀ sum i = units - i
+μ-loop s files ids units sum₀ i₀ sum i = units - i
 
 loop-holds : tie.Need-loop-holds Inv-loop μ-loop
 loop-holds c = (omega arith, counted-none (programBytes (decode (c .before .before .before .args .s .now)) (take (c .before .before .before .args .units) (c .before .before .before .args .ids .now))) 65536)
@@ -31,7 +31,7 @@ wide-requires : tie.Need-wide-requires Inv-loop μ-loop
 wide-requires c κs = search needs
 
 unit-length-requires : tie.Need-unit-length-requires Inv-loop μ-loop
-unit-length-requires c κs = let b = below (c .before .before .before .before .before .before .before .args .s .now) (c .before .before .before .before .before .before .before .args .files .now) (c .before .before .before .before .before .before .before .args .ids .now) (c .before .before .before .before .before .before .before .args .units) (c .before .before .before .before .before .before .before .pre .1) (c .before .before .before .loop .i) (c .before .before .loop-test .taken) in let w = c .wide .ensures in ((c .before .before .before .before .before .before .before .pre .0, c .before .before .before .before .before .before .before .pre .1 .of-units), omega arith)
+unit-length-requires c κs = let b = below (c .before .before .before .before .before .before .before .args .s .now) (c .before .before .before .before .before .before .before .args .files .now) (c .before .before .before .before .before .before .before .args .ids .now) (c .before .before .before .before .before .before .before .args .units) (c .before .before .before .before .before .before .before .pre) (c .before .before .before .loop .i) (c .before .before .loop-test .taken) in let w = c .wide .ensures in (c .before .before .before .before .before .before .before .pre .of-units, omega arith)
 
 capped-requires : tie.Need-capped-requires Inv-loop μ-loop
 capped-requires c κs = search needs
@@ -43,10 +43,10 @@ loop-less : tie.Need-loop-less Inv-loop μ-loop
 loop-less c = search needs
 
 loop-again : tie.Need-loop-again Inv-loop μ-loop
-loop-again c = (omega arith, counted-more _ _ _ _ (c .before .before .before .before .before .loop .inv .1) (unitBytes (decode (c .before .before .before .before .before .before .before .before .before .args .s .now)) (getD (c .before .before .before .before .before .before .before .before .before .args .ids .now) (c .before .before .before .before .before .loop .i) 0)) (programBytes (decode (c .before .before .before .before .before .before .before .before .before .args .s .now)) (drop (c .before .before .before .before .before .loop .i + 1) (take (c .before .before .before .before .before .before .before .before .before .args .units) (c .before .before .before .before .before .before .before .before .before .args .ids .now)))) (c .before .unit-length .result) (c .capped .result) (order-step (c .before .before .before .before .before .before .before .before .before .args .s .now) (c .before .before .before .before .before .before .before .before .before .args .files .now) (c .before .before .before .before .before .before .before .before .before .args .ids .now) (c .before .before .before .before .before .before .before .before .before .args .units) (c .before .before .before .before .before .before .before .before .before .pre .1) (c .before .before .before .before .before .loop .i) (c .before .before .before .before .loop-test .taken)) (c .before .unit-length .ensures ∙ ap (λ (u : ℕ). min (length (unitBytes (decode (c .before .before .before .before .before .before .before .before .before .args .s .now)) u)) 65536) (c .before .before .wide .ensures)) (c .capped .ensures))
+loop-again c = (omega arith, counted-more _ _ _ _ (c .before .before .before .before .before .loop .inv .1) (unitBytes (decode (c .before .before .before .before .before .before .before .before .before .args .s .now)) (getD (c .before .before .before .before .before .before .before .before .before .args .ids .now) (c .before .before .before .before .before .loop .i) 0)) (programBytes (decode (c .before .before .before .before .before .before .before .before .before .args .s .now)) (drop (c .before .before .before .before .before .loop .i + 1) (take (c .before .before .before .before .before .before .before .before .before .args .units) (c .before .before .before .before .before .before .before .before .before .args .ids .now)))) (c .before .unit-length .result) (c .capped .result) (order-step (c .before .before .before .before .before .before .before .before .before .args .s .now) (c .before .before .before .before .before .before .before .before .before .args .files .now) (c .before .before .before .before .before .before .before .before .before .args .ids .now) (c .before .before .before .before .before .before .before .before .before .args .units) (c .before .before .before .before .before .before .before .before .before .pre) (c .before .before .before .before .before .loop .i) (c .before .before .before .before .loop-test .taken)) (c .before .unit-length .ensures ∙ ap (λ (u : ℕ). min (length (unitBytes (decode (c .before .before .before .before .before .before .before .before .before .args .s .now)) u)) 65536) (c .before .before .wide .ensures)) (c .capped .ensures))
 
 returns : tie.Need-returns Inv-loop μ-loop
-returns c = counted-all _ _ _ _ (c .before .loop .inv .1) (order-end (c .before .before .before .before .before .args .s .now) (c .before .before .before .before .before .args .files .now) (c .before .before .before .before .before .args .ids .now) (c .before .before .before .before .before .args .units) (c .before .before .before .before .before .pre .1) (c .before .loop .i) (c .loop-test .left))
+returns c = counted-all _ _ _ _ (c .before .loop .inv .1) (order-end (c .before .before .before .before .before .args .s .now) (c .before .before .before .before .before .args .files .now) (c .before .before .before .before .before .args .ids .now) (c .before .before .before .before .before .args .units) (c .before .before .before .before .before .pre) (c .before .loop .i) (c .loop-test .left))
 
 pub program-length-spec : {M : Type 1} → statement M
 program-length-spec =

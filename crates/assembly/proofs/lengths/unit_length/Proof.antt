@@ -1,38 +1,29 @@
 -- `unit_length` meets its contract. Assumes nothing.
 use Prim.Native.Nat.{min}
 use native.Mathlib.Omega.{arith}
-use mathlib.Core.Path.{_≡_, ap, _∙_}
+use mathlib.Core.Path.{_≡_, ap}
 use lib.ListN.{length, length-append}
-use denote.Ref.{now}
 use borrow.Author.Needs.{needs}
 use Rattle.names.specs.Decimal.{unitName}
+use Rattle.bundle.specs.Decode.{decode}
 use Rattle.bundle.specs.Encode.{string}
-use Rattle.assembly.specs.GivenLaws.{index-small, items-are, path-is, one-unit, unit-of, unit-brief, unit-form}
+use Rattle.assembly.specs.Assemble.{fileOf}
+use Rattle.assembly.specs.GivenLaws.{placed-unit, unit-of, unit-brief, unit-form}
 use Rattle.assembly.specs.Uses.{name-length}
 use Rattle.assembly.specs.Walk.{itemsBytes}
 use Rattle.assembly.proofs.lengths.unit_length.Statement.{statement}
 use Rattle.assembly.proofs.lengths.unit_length.Tie as tie
 
-mul-index : tie.Need-mul-index
-mul-index c = search needs
-
-shared-slice-read-index : tie.Need-shared-slice-read-index
-shared-slice-read-index c = search needs
-
-file-at-requires : tie.Need-file-at-requires
-file-at-requires c κs = index-small (c .before .before .before .args .s .now) (c .before .before .before .args .files .now) (c .before .before .before .args .u) (one-unit (c .before .before .before .args .s .now) (c .before .before .before .args .files .now) (c .before .before .before .args .units) (c .before .before .before .pre .0 .1) (c .before .before .before .args .u) (c .before .before .before .pre .1))
-
-file-items-requires : tie.Need-file-items-requires
-file-items-requires c κs = search needs
+unit-items-requires : tie.Need-unit-items-requires
+unit-items-requires c κs = let b = c .before .before in placed-unit (b .args .s .now) (b .args .files .now) (b .args .units) (b .pre .0) (b .args .u) (b .pre .1)
 
 unit-name-requires : tie.Need-unit-name-requires
 unit-name-requires c κs = search needs
 
-file-path-requires : tie.Need-file-path-requires
-file-path-requires c κs = search needs
-
 items-length-requires : tie.Need-items-length-requires
-items-length-requires c κs = (unit-of (c .before .before .before .before .before .before .before .args .s .now) (c .before .before .before .before .before .before .before .args .files .now) (c .before .before .before .before .before .before .before .args .units) (c .before .before .before .before .before .before .before .pre .0 .1) (c .before .before .before .before .before .before .before .args .at) (now (c .file-path .result)) (c .before .before .before .before .before .before .before .args .u) (c .before .before .before .before .before .before .before .pre .0 .0) (c .before .before .before .before .before .before .before .pre .1) (c .file-path .ensures ∙ path-is (c .before .before .before .before .before .before .before .args .s .now) (c .before .before .before .before .before .before .before .args .files .now) (c .before .before .before .before .before .before .before .args .u) (one-unit (c .before .before .before .before .before .before .before .args .s .now) (c .before .before .before .before .before .before .before .args .files .now) (c .before .before .before .before .before .before .before .args .units) (c .before .before .before .before .before .before .before .pre .0 .1) (c .before .before .before .before .before .before .before .args .u) (c .before .before .before .before .before .before .before .pre .1)) (c .before .before .before .file-at .result) (c .before .before .before .file-at .ensures .0)), (let x = c .before .before .file-items .ensures .1 in let y = c .before .before .before .file-at .ensures .1 in omega arith), unit-brief (c .before .before .before .before .before .before .before .args .s .now) (c .before .before .before .before .before .before .before .args .files .now) (c .before .before .before .before .before .before .before .args .units) (c .before .before .before .before .before .before .before .pre .0 .1) (λ i. omega (arith, c .before .before .before .before .before .before .shared-slice-known .given i)) (c .before .before .before .before .before .before .before .args .u) (now (c .file-path .result)) _ (c .file-path .ensures ∙ path-is (c .before .before .before .before .before .before .before .args .s .now) (c .before .before .before .before .before .before .before .args .files .now) (c .before .before .before .before .before .before .before .args .u) (one-unit (c .before .before .before .before .before .before .before .args .s .now) (c .before .before .before .before .before .before .before .args .files .now) (c .before .before .before .before .before .before .before .args .units) (c .before .before .before .before .before .before .before .pre .0 .1) (c .before .before .before .before .before .before .before .args .u) (c .before .before .before .before .before .before .before .pre .1)) (c .before .before .before .file-at .result) (c .before .before .before .file-at .ensures .0)) (c .before .before .file-items .ensures .0 ∙ items-are (c .before .before .before .before .before .before .before .args .s .now) (c .before .before .before .before .before .before .before .args .files .now) (c .before .before .before .before .before .before .before .args .u) (one-unit (c .before .before .before .before .before .before .before .args .s .now) (c .before .before .before .before .before .before .before .args .files .now) (c .before .before .before .before .before .before .before .args .units) (c .before .before .before .before .before .before .before .pre .0 .1) (c .before .before .before .before .before .before .before .args .u) (c .before .before .before .before .before .before .before .pre .1)) (c .before .before .before .file-at .result) (c .before .before .before .file-at .ensures .0)))
+items-length-requires c κs =
+    let b = c .before .before .before .before in
+    (unit-of (b .args .s .now) (b .args .files .now) (b .args .units) (b .pre .0) (b .args .u) (b .pre .1), (let x = c .before .unit-items .ensures .1 in omega arith), unit-brief (b .args .s .now) (b .args .files .now) (b .args .units) (b .pre .0) (λ i. omega (arith, c .before .before .before .shared-slice-known .given i)) (b .args .u) _ (c .before .unit-items .ensures .0))
 
 add-capped : tie.Need-add-capped
 add-capped c = search needs
@@ -42,22 +33,19 @@ capped-requires c κs = search needs
 
 returns : tie.Need-returns
 returns c =
-    let f = ap length (unit-form (c .before .before .before .before .before .before .before .before .before .before .args .s .now) (now (c .before .before .before .file-path .result)) (c .before .before .before .before .before .before .before .before .before .before .args .u) (c .before .before .before .before .before .file-items .result .end) (c .before .before .before .before .before .file-items .result .at) (c .before .before .before .file-path .ensures ∙ path-is (c .before .before .before .before .before .before .before .before .before .before .args .s .now) (c .before .before .before .before .before .before .before .before .before .before .args .files .now) (c .before .before .before .before .before .before .before .before .before .before .args .u) (one-unit (c .before .before .before .before .before .before .before .before .before .before .args .s .now) (c .before .before .before .before .before .before .before .before .before .before .args .files .now) (c .before .before .before .before .before .before .before .before .before .before .args .units) (c .before .before .before .before .before .before .before .before .before .before .pre .0 .1) (c .before .before .before .before .before .before .before .before .before .before .args .u) (c .before .before .before .before .before .before .before .before .before .before .pre .1)) (c .before .before .before .before .before .before .file-at .result) (c .before .before .before .before .before .before .file-at .ensures .0)) (c .before .before .before .before .before .file-items .ensures .0 ∙ items-are (c .before .before .before .before .before .before .before .before .before .before .args .s .now) (c .before .before .before .before .before .before .before .before .before .before .args .files .now) (c .before .before .before .before .before .before .before .before .before .before .args .u) (one-unit (c .before .before .before .before .before .before .before .before .before .before .args .s .now) (c .before .before .before .before .before .before .before .before .before .before .args .files .now) (c .before .before .before .before .before .before .before .before .before .before .args .units) (c .before .before .before .before .before .before .before .before .before .before .pre .0 .1) (c .before .before .before .before .before .before .before .before .before .before .args .u) (c .before .before .before .before .before .before .before .before .before .before .pre .1)) (c .before .before .before .before .before .before .file-at .result) (c .before .before .before .before .before .before .file-at .ensures .0))) in
-    let l = name-length (c .before .before .before .before .unit-name .result .bytes) (c .before .before .before .before .unit-name .result .len) (c .before .before .before .before .before .before .before .before .before .before .args .u) (c .before .before .before .before .unit-name .ensures .0) (let x = c .before .before .before .before .unit-name .ensures .1 in let y = c .before .before .before .before .unit-name .ensures .2 in omega arith) in
-    let m : c .before .before .items-length .result ≡ min (length (itemsBytes (c .before .before .before .before .before .before .before .before .before .before .args .s .now) (now (c .before .before .before .file-path .result)) 8 (c .before .before .before .before .before .file-items .result .end) (c .before .before .before .before .before .file-items .result .at))) 65536 = c .before .before .items-length .ensures in
+    let b = c .before .before .before .before .before .before .before in
+    let f = ap length (unit-form (b .args .s .now) (b .args .u) (c .before .before .before .before .unit-items .result .end) (c .before .before .before .before .unit-items .result .at) (c .before .before .before .before .unit-items .ensures .0)) in
+    let l = name-length (c .before .before .before .unit-name .result .bytes) (c .before .before .before .unit-name .result .len) (b .args .u) (c .before .before .before .unit-name .ensures .0) (let x = c .before .before .before .unit-name .ensures .1 in let y = c .before .before .before .unit-name .ensures .2 in omega arith) in
+    let m : c .before .before .items-length .result ≡ min (length (itemsBytes (b .args .s .now) (fileOf (decode (b .args .s .now)) (b .args .u)) 8 (c .before .before .before .before .unit-items .result .end) (c .before .before .before .before .unit-items .result .at))) 65536 = c .before .before .items-length .ensures in
     let r = c .capped .ensures in
-    omega (arith, length-append (string (unitName (c .before .before .before .before .before .before .before .before .before .before .args .u))) (itemsBytes (c .before .before .before .before .before .before .before .before .before .before .args .s .now) (now (c .before .before .before .file-path .result)) 8 (c .before .before .before .before .before .file-items .result .end) (c .before .before .before .before .before .file-items .result .at)))
+    omega (arith, length-append (string (unitName (b .args .u))) (itemsBytes (b .args .s .now) (fileOf (decode (b .args .s .now)) (b .args .u)) 8 (c .before .before .before .before .unit-items .result .end) (c .before .before .before .before .unit-items .result .at)))
 
 pub unit-length-spec : {M : Type 1} → statement M
 unit-length-spec =
     tie.close
     (tie.spec
-    mul-index
-    shared-slice-read-index
-    file-at-requires
-    file-items-requires
+    unit-items-requires
     unit-name-requires
-    file-path-requires
     items-length-requires
     add-capped
     capped-requires

@@ -15,10 +15,10 @@ use Rattle.assembly.proofs.writing.write_program.Statement.{statement}
 use Rattle.assembly.proofs.writing.write_program.Tie as tie
 
 abbrev Inv-loop : tie.InvT-loop
-Inv-loop s at files ids units out₀ sum₀ i₀ out sum i = (i ≤ units) × (Filled (programBytes (decode s) (take units ids)) (programBytes (decode s) (drop i (take units ids))) out₀ out sum × (length (programBytes (decode s) (take units ids)) ≤ length out₀))
+Inv-loop s files ids units out₀ sum₀ i₀ out sum i = (i ≤ units) × (Filled (programBytes (decode s) (take units ids)) (programBytes (decode s) (drop i (take units ids))) out₀ out sum × (length (programBytes (decode s) (take units ids)) ≤ length out₀))
 
 abbrev μ-loop : tie.MeasureT-loop
-μ-loop s at files ids units out₀ sum₀ i₀ out sum i = units - i
+μ-loop s files ids units out₀ sum₀ i₀ out sum i = units - i
 
 loop-holds : tie.Need-loop-holds Inv-loop μ-loop
 loop-holds c = (omega arith, (filled-none (programBytes (decode (c .before .before .before .before .args .s .now)) (take (c .before .before .before .before .args .units) (c .before .before .before .before .args .ids .now))) (c .before .before .before .before .args .out .now), c .before .before .before .before .pre .1 .0))
@@ -43,16 +43,16 @@ part-write-unit-end c = search needs
 
 write-unit-requires : tie.Need-write-unit-requires Inv-loop μ-loop
 write-unit-requires c κs =
-    let r = filled-room _ _ _ _ _ (c .before .before .before .before .loop .inv .1 .0) (c .before .before .before .before .loop .inv .1 .1) (unitBytes (decode (c .before .before .before .before .before .before .before .before .before .args .s .now)) (getD (c .before .before .before .before .before .before .before .before .before .args .ids .now) (c .before .before .before .before .loop .i) 0)) (programBytes (decode (c .before .before .before .before .before .before .before .before .before .args .s .now)) (drop (c .before .before .before .before .loop .i + 1) (take (c .before .before .before .before .before .before .before .before .before .args .units) (c .before .before .before .before .before .before .before .before .before .args .ids .now)))) (order-step (c .before .before .before .before .before .before .before .before .before .args .s .now) (c .before .before .before .before .before .before .before .before .before .args .files .now) (c .before .before .before .before .before .before .before .before .before .args .ids .now) (c .before .before .before .before .before .before .before .before .before .args .units) (c .before .before .before .before .before .before .before .before .before .pre .0 .1) (c .before .before .before .before .loop .i) (c .before .before .before .loop-test .taken)) in
-    let l = filled-part _ _ _ _ _ (c .before .before .before .before .loop .inv .1 .0) (c .before .before .before .before .loop .inv .1 .1) (unitBytes (decode (c .before .before .before .before .before .before .before .before .before .args .s .now)) (getD (c .before .before .before .before .before .before .before .before .before .args .ids .now) (c .before .before .before .before .loop .i) 0)) (programBytes (decode (c .before .before .before .before .before .before .before .before .before .args .s .now)) (drop (c .before .before .before .before .loop .i + 1) (take (c .before .before .before .before .before .before .before .before .before .args .units) (c .before .before .before .before .before .before .before .before .before .args .ids .now)))) (order-step (c .before .before .before .before .before .before .before .before .before .args .s .now) (c .before .before .before .before .before .before .before .before .before .args .files .now) (c .before .before .before .before .before .before .before .before .before .args .ids .now) (c .before .before .before .before .before .before .before .before .before .args .units) (c .before .before .before .before .before .before .before .before .before .pre .0 .1) (c .before .before .before .before .loop .i) (c .before .before .before .loop-test .taken)) in
-    let b = below (c .before .before .before .before .before .before .before .before .before .args .s .now) (c .before .before .before .before .before .before .before .before .before .args .files .now) (c .before .before .before .before .before .before .before .before .before .args .ids .now) (c .before .before .before .before .before .before .before .before .before .args .units) (c .before .before .before .before .before .before .before .before .before .pre .0 .1) (c .before .before .before .before .loop .i) (c .before .before .before .loop-test .taken) in
+    let r = filled-room _ _ _ _ _ (c .before .before .before .before .loop .inv .1 .0) (c .before .before .before .before .loop .inv .1 .1) (unitBytes (decode (c .before .before .before .before .before .before .before .before .before .args .s .now)) (getD (c .before .before .before .before .before .before .before .before .before .args .ids .now) (c .before .before .before .before .loop .i) 0)) (programBytes (decode (c .before .before .before .before .before .before .before .before .before .args .s .now)) (drop (c .before .before .before .before .loop .i + 1) (take (c .before .before .before .before .before .before .before .before .before .args .units) (c .before .before .before .before .before .before .before .before .before .args .ids .now)))) (order-step (c .before .before .before .before .before .before .before .before .before .args .s .now) (c .before .before .before .before .before .before .before .before .before .args .files .now) (c .before .before .before .before .before .before .before .before .before .args .ids .now) (c .before .before .before .before .before .before .before .before .before .args .units) (c .before .before .before .before .before .before .before .before .before .pre .0) (c .before .before .before .before .loop .i) (c .before .before .before .loop-test .taken)) in
+    let l = filled-part _ _ _ _ _ (c .before .before .before .before .loop .inv .1 .0) (c .before .before .before .before .loop .inv .1 .1) (unitBytes (decode (c .before .before .before .before .before .before .before .before .before .args .s .now)) (getD (c .before .before .before .before .before .before .before .before .before .args .ids .now) (c .before .before .before .before .loop .i) 0)) (programBytes (decode (c .before .before .before .before .before .before .before .before .before .args .s .now)) (drop (c .before .before .before .before .loop .i + 1) (take (c .before .before .before .before .before .before .before .before .before .args .units) (c .before .before .before .before .before .before .before .before .before .args .ids .now)))) (order-step (c .before .before .before .before .before .before .before .before .before .args .s .now) (c .before .before .before .before .before .before .before .before .before .args .files .now) (c .before .before .before .before .before .before .before .before .before .args .ids .now) (c .before .before .before .before .before .before .before .before .before .args .units) (c .before .before .before .before .before .before .before .before .before .pre .0) (c .before .before .before .before .loop .i) (c .before .before .before .loop-test .taken)) in
+    let b = below (c .before .before .before .before .before .before .before .before .before .args .s .now) (c .before .before .before .before .before .before .before .before .before .args .files .now) (c .before .before .before .before .before .before .before .before .before .args .ids .now) (c .before .before .before .before .before .before .before .before .before .args .units) (c .before .before .before .before .before .before .before .before .before .pre .0) (c .before .before .before .before .loop .i) (c .before .before .before .loop-test .taken) in
     let w = c .before .wide .ensures in
     let h = c .before .before .before .before .before .before .before .before .before .pre .1 .1 in
-    (((c .before .before .before .before .before .before .before .before .before .pre .0 .0, c .before .before .before .before .before .before .before .before .before .pre .0 .1 .of-units), omega arith), subst (λ (u : ℕ). (length (unitBytes (decode (c .before .before .before .before .before .before .before .before .before .args .s .now)) u) ≤ length (midOf (c .before .before .before .before .loop .sum) (length (c .before .before .before .before .loop .out) - c .before .before .before .before .loop .sum) (c .before .before .before .before .loop .out))) × (length (unitBytes (decode (c .before .before .before .before .before .before .before .before .before .args .s .now)) u) < 65536)) (sym w) (r, omega arith))
+    ((c .before .before .before .before .before .before .before .before .before .pre .0 .of-units, omega arith), subst (λ (u : ℕ). (length (unitBytes (decode (c .before .before .before .before .before .before .before .before .before .args .s .now)) u) ≤ length (midOf (c .before .before .before .before .loop .sum) (length (c .before .before .before .before .loop .out) - c .before .before .before .before .loop .sum) (c .before .before .before .before .loop .out))) × (length (unitBytes (decode (c .before .before .before .before .before .before .before .before .before .args .s .now)) u) < 65536)) (sym w) (r, omega arith))
 
 add-sum : tie.Need-add-sum Inv-loop μ-loop
 add-sum c =
-    let r = filled-room _ _ _ _ _ (c .before .before .before .before .before .before .before .loop .inv .1 .0) (c .before .before .before .before .before .before .before .loop .inv .1 .1) (unitBytes (decode (c .before .before .before .before .before .before .before .before .before .before .before .before .args .s .now)) (getD (c .before .before .before .before .before .before .before .before .before .before .before .before .args .ids .now) (c .before .before .before .before .before .before .before .loop .i) 0)) (programBytes (decode (c .before .before .before .before .before .before .before .before .before .before .before .before .args .s .now)) (drop (c .before .before .before .before .before .before .before .loop .i + 1) (take (c .before .before .before .before .before .before .before .before .before .before .before .before .args .units) (c .before .before .before .before .before .before .before .before .before .before .before .before .args .ids .now)))) (order-step (c .before .before .before .before .before .before .before .before .before .before .before .before .args .s .now) (c .before .before .before .before .before .before .before .before .before .before .before .before .args .files .now) (c .before .before .before .before .before .before .before .before .before .before .before .before .args .ids .now) (c .before .before .before .before .before .before .before .before .before .before .before .before .args .units) (c .before .before .before .before .before .before .before .before .before .before .before .before .pre .0 .1) (c .before .before .before .before .before .before .before .loop .i) (c .before .before .before .before .before .before .loop-test .taken)) in
+    let r = filled-room _ _ _ _ _ (c .before .before .before .before .before .before .before .loop .inv .1 .0) (c .before .before .before .before .before .before .before .loop .inv .1 .1) (unitBytes (decode (c .before .before .before .before .before .before .before .before .before .before .before .before .args .s .now)) (getD (c .before .before .before .before .before .before .before .before .before .before .before .before .args .ids .now) (c .before .before .before .before .before .before .before .loop .i) 0)) (programBytes (decode (c .before .before .before .before .before .before .before .before .before .before .before .before .args .s .now)) (drop (c .before .before .before .before .before .before .before .loop .i + 1) (take (c .before .before .before .before .before .before .before .before .before .before .before .before .args .units) (c .before .before .before .before .before .before .before .before .before .before .before .before .args .ids .now)))) (order-step (c .before .before .before .before .before .before .before .before .before .before .before .before .args .s .now) (c .before .before .before .before .before .before .before .before .before .before .before .before .args .files .now) (c .before .before .before .before .before .before .before .before .before .before .before .before .args .ids .now) (c .before .before .before .before .before .before .before .before .before .before .before .before .args .units) (c .before .before .before .before .before .before .before .before .before .before .before .before .pre .0) (c .before .before .before .before .before .before .before .loop .i) (c .before .before .before .before .before .before .loop-test .taken)) in
     let h = filled-start _ _ _ _ _ (c .before .before .before .before .before .before .before .loop .inv .1 .0) (c .before .before .before .before .before .before .before .loop .inv .1 .1) in
     let l = lent-length (c .before .before .before .before .before .before .before .loop .out) (c .before .before .before .before .before .before .before .loop .sum) h in
     let n = filled-length _ _ _ _ _ (c .before .before .before .before .before .before .before .loop .inv .1 .0) (c .before .before .before .before .before .before .before .loop .inv .1 .1) in
@@ -67,13 +67,13 @@ loop-less : tie.Need-loop-less Inv-loop μ-loop
 loop-less c = search needs
 
 loop-again : tie.Need-loop-again Inv-loop μ-loop
-loop-again c = (omega arith, (filled-more _ _ _ _ _ (c .before .before .before .before .before .before .before .loop .inv .1 .0) (c .before .before .before .before .before .before .before .loop .inv .1 .1) (unitBytes (decode (c .before .before .before .before .before .before .before .before .before .before .before .before .args .s .now)) (getD (c .before .before .before .before .before .before .before .before .before .before .before .before .args .ids .now) (c .before .before .before .before .before .before .before .loop .i) 0)) (programBytes (decode (c .before .before .before .before .before .before .before .before .before .before .before .before .args .s .now)) (drop (c .before .before .before .before .before .before .before .loop .i + 1) (take (c .before .before .before .before .before .before .before .before .before .before .before .before .args .units) (c .before .before .before .before .before .before .before .before .before .before .before .before .args .ids .now)))) (c .before .before .write-unit .last .1 .1 .1 .1 .1 .0) (c .before .before .write-unit .result) (order-step (c .before .before .before .before .before .before .before .before .before .before .before .before .args .s .now) (c .before .before .before .before .before .before .before .before .before .before .before .before .args .files .now) (c .before .before .before .before .before .before .before .before .before .before .before .before .args .ids .now) (c .before .before .before .before .before .before .before .before .before .before .before .before .args .units) (c .before .before .before .before .before .before .before .before .before .before .before .before .pre .0 .1) (c .before .before .before .before .before .before .before .loop .i) (c .before .before .before .before .before .before .loop-test .taken)) (c .before .before .write-unit .ensures .1 ∙ ap (λ (u : ℕ). started (unitBytes (decode (c .before .before .before .before .before .before .before .before .before .before .before .before .args .s .now)) u) (midOf (c .before .before .before .before .before .before .before .loop .sum) (length (c .before .before .before .before .before .before .before .loop .out) - c .before .before .before .before .before .before .before .loop .sum) (c .before .before .before .before .before .before .before .loop .out))) (c .before .before .before .before .wide .ensures)) (c .before .before .write-unit .ensures .0 ∙ ap (λ (u : ℕ). length (unitBytes (decode (c .before .before .before .before .before .before .before .before .before .before .before .before .args .s .now)) u)) (c .before .before .before .before .wide .ensures)), c .before .before .before .before .before .before .before .loop .inv .1 .1))
+loop-again c = (omega arith, (filled-more _ _ _ _ _ (c .before .before .before .before .before .before .before .loop .inv .1 .0) (c .before .before .before .before .before .before .before .loop .inv .1 .1) (unitBytes (decode (c .before .before .before .before .before .before .before .before .before .before .before .before .args .s .now)) (getD (c .before .before .before .before .before .before .before .before .before .before .before .before .args .ids .now) (c .before .before .before .before .before .before .before .loop .i) 0)) (programBytes (decode (c .before .before .before .before .before .before .before .before .before .before .before .before .args .s .now)) (drop (c .before .before .before .before .before .before .before .loop .i + 1) (take (c .before .before .before .before .before .before .before .before .before .before .before .before .args .units) (c .before .before .before .before .before .before .before .before .before .before .before .before .args .ids .now)))) (c .before .before .write-unit .last .1 .1 .1 .1 .0) (c .before .before .write-unit .result) (order-step (c .before .before .before .before .before .before .before .before .before .before .before .before .args .s .now) (c .before .before .before .before .before .before .before .before .before .before .before .before .args .files .now) (c .before .before .before .before .before .before .before .before .before .before .before .before .args .ids .now) (c .before .before .before .before .before .before .before .before .before .before .before .before .args .units) (c .before .before .before .before .before .before .before .before .before .before .before .before .pre .0) (c .before .before .before .before .before .before .before .loop .i) (c .before .before .before .before .before .before .loop-test .taken)) (c .before .before .write-unit .ensures .1 ∙ ap (λ (u : ℕ). started (unitBytes (decode (c .before .before .before .before .before .before .before .before .before .before .before .before .args .s .now)) u) (midOf (c .before .before .before .before .before .before .before .loop .sum) (length (c .before .before .before .before .before .before .before .loop .out) - c .before .before .before .before .before .before .before .loop .sum) (c .before .before .before .before .before .before .before .loop .out))) (c .before .before .before .before .wide .ensures)) (c .before .before .write-unit .ensures .0 ∙ ap (λ (u : ℕ). length (unitBytes (decode (c .before .before .before .before .before .before .before .before .before .before .before .before .args .s .now)) u)) (c .before .before .before .before .wide .ensures)), c .before .before .before .before .before .before .before .loop .inv .1 .1))
 
 same-length : tie.Need-same-length Inv-loop μ-loop
 same-length c = filled-length _ _ _ _ _ (c .before .loop .inv .1 .0) (c .before .loop .inv .1 .1)
 
 returns : tie.Need-returns Inv-loop μ-loop
-returns c = filled-all _ _ _ _ _ (c .before .loop .inv .1 .0) (c .before .loop .inv .1 .1) (order-end (c .before .before .before .before .before .before .args .s .now) (c .before .before .before .before .before .before .args .files .now) (c .before .before .before .before .before .before .args .ids .now) (c .before .before .before .before .before .before .args .units) (c .before .before .before .before .before .before .pre .0 .1) (c .before .loop .i) (c .loop-test .left))
+returns c = filled-all _ _ _ _ _ (c .before .loop .inv .1 .0) (c .before .loop .inv .1 .1) (order-end (c .before .before .before .before .before .before .args .s .now) (c .before .before .before .before .before .before .args .files .now) (c .before .before .before .before .before .before .args .ids .now) (c .before .before .before .before .before .before .args .units) (c .before .before .before .before .before .before .pre .0) (c .before .loop .i) (c .loop-test .left))
 
 pub write-program-spec : {M : Type 1} → statement M
 write-program-spec =

@@ -1,6 +1,6 @@
 -- `discover_dependencies` meets its contract. Assumes nothing.
 use borrow.Author.Needs.{needs}
-use Rattle.discovery.specs.Complete.{fresh}
+use Rattle.discovery.specs.Places.{fresh}
 use Rattle.discovery.proofs.driver.discover_dependencies.Statement.{statement}
 use Rattle.discovery.proofs.driver.discover_dependencies.Tie as tie
 

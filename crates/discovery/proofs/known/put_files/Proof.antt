@@ -2,6 +2,7 @@
 use Prim.Native.Nat.{_-_}
 use native.Mathlib.Omega.{arith}
 use borrow.Author.Needs.{needs}
+use Rattle.bundle.specs.Limits.{file-limit}
 use Rattle.discovery.specs.Known.{FilesTo, put-none, put-one, put-all}
 use Rattle.discovery.proofs.known.put_files.Statement.{statement}
 use Rattle.discovery.proofs.known.put_files.Tie as tie
@@ -10,7 +11,7 @@ abbrev Inv-loop : tie.InvT-loop
 Inv-loop t₀ files i₀ t i = FilesTo t₀ files t i
 
 abbrev μ-loop : tie.MeasureT-loop
-μ-loop t₀ files i₀ t i = 64 - i
+μ-loop t₀ files i₀ t i = file-limit - i
 
 loop-holds : tie.Need-loop-holds Inv-loop μ-loop
 loop-holds c = put-none _ _ (c .pre)

@@ -2,7 +2,7 @@ use Prim.Native.Nat.{ℕ, suc, _+_, _-_}
 use native.Mathlib.Omega.{arith}
 use mathlib.Core.Bool.{false}
 use mathlib.Core.Path.{_≡_, ap, sym, subst}
-use Rattle.linker.specs.Cursor.{first-inside, Yields, standing-small, out-small, standing-room, yields-out, yields-use, yields-declare, yields-in}
+use Rattle.linker.specs.Cursor.{first-inside, Yields, standing-small, out-small, standing-room, yields-out, yields-item, yields-in}
 use Rattle.linker.specs.declared.cursor.Step.the-variants as step
 use borrow.Author.Needs.{needs}
 use Rattle.linker.proofs.cursor.next.Statement.{statement}
@@ -36,11 +36,11 @@ next-item-requires c κs =
     let m = out-small (b .args .s .now) (b .args .units) (b .args .c) (b .pre .1) (c .before .before .before .before .if1 .left) in
     omega arith
 
-mul-t20 : tie.Need-mul-t20
-mul-t20 c = search needs
+mul-t19 : tie.Need-mul-t19
+mul-t19 c = search needs
 
-array-read-t24 : tie.Need-array-read-t24
-array-read-t24 c = search needs
+array-read-t23 : tie.Need-array-read-t23
+array-read-t23 c = search needs
 
 returns-2 : tie.Need-returns-2
 returns-2 c =
@@ -82,8 +82,8 @@ array-write-ends c =
 first-inside-requires : tie.Need-first-inside-requires
 first-inside-requires c κs = search needs
 
-add-t34 : tie.Need-add-t34
-add-t34 c = search needs
+add-t33 : tie.Need-add-t33
+add-t33 c = search needs
 
 returns-3 : tie.Need-returns-3
 returns-3 c =
@@ -93,8 +93,8 @@ returns-3 c =
     let i = c .before .module-items in
     subst
     (λ (x : ℕ). Yields (b .args .s .now) (b .args .ids .now) (b .args .units) (b .args .c) (record {
-      step = step.Enter false (c .before .before .before .before .before .past-ignored .result);
-      cursor = record { unit = b .args .c .unit; id = b .args .c .id; file = b .args .c .file; at = x; end = i .result .end; depth = b .args .c .depth + 1; marks = lib.ListN.set (b .args .c .marks) (b .args .c .depth) (c .before .before .before .before .before .past-ignored .result); ends = lib.ListN.set (b .args .c .ends) (b .args .c .depth) (b .args .c .end) };
+      step = step.Call (c .before .before .before .item-kind .result) (c .before .before .before .before .before .past-ignored .result);
+      cursor = record { unit = b .args .c .unit; id = b .args .c .id; at = x; end = i .result .end; depth = b .args .c .depth + 1; marks = lib.ListN.set (b .args .c .marks) (b .args .c .depth) (c .before .before .before .before .before .past-ignored .result); ends = lib.ListN.set (b .args .c .ends) (b .args .c .depth) (b .args .c .end) };
     }))
     (sym (c .first-inside .ensures))
     (yields-in (b .args .s .now) (b .args .ids .now) (b .args .units) (b .args .c) (b .pre .1) (b .args .c .depth - 1) e (c .before .before .before .before .before .past-ignored .result) (c .before .before .before .before .before .past-ignored .ensures) (c .before .before .before .before .if2 .left)
@@ -108,19 +108,11 @@ next-item-requires-2 c κs =
 
 returns-4 : tie.Need-returns-4
 returns-4 c =
-    let b = c .before .before .before .before .before .before .before .before .before .before .before .before in
-    let n = c .before .before .before .before .before .before .before .before .if1 .left in
+    let b = c .before .before .before .before .before .before .before .before .before .before .before in
+    let n = c .before .before .before .before .before .before .before .if1 .left in
     let e : b .args .c .depth ≡ suc (b .args .c .depth - 1) = omega arith in
-    yields-use (b .args .s .now) (b .args .ids .now) (b .args .units) (b .args .c) (b .pre .1) (b .args .c .depth - 1) e (c .before .before .before .before .before .past-ignored .result) (c .before .before .before .before .before .past-ignored .ensures) (c .before .before .before .before .if2 .left)
-    (c .before .before .before .item-kind .result) (c .before .before .before .item-kind .ensures) (c .before .next-item2 .result) (c .before .next-item2 .ensures .0) (c .if4 .taken)
-
-returns-5 : tie.Need-returns-5
-returns-5 c =
-    let b = c .before .before .before .before .before .before .before .before .before .before .before .before in
-    let n = c .before .before .before .before .before .before .before .before .if1 .left in
-    let e : b .args .c .depth ≡ suc (b .args .c .depth - 1) = omega arith in
-    yields-declare (b .args .s .now) (b .args .ids .now) (b .args .units) (b .args .c) (b .pre .1) (b .args .c .depth - 1) e (c .before .before .before .before .before .past-ignored .result) (c .before .before .before .before .before .past-ignored .ensures) (c .before .before .before .before .if2 .left)
-    (c .before .before .before .item-kind .result) (c .before .before .before .item-kind .ensures) (c .before .next-item2 .result) (c .before .next-item2 .ensures .0) (c .if4 .left) (c .before .before .if3 .left)
+    yields-item (b .args .s .now) (b .args .ids .now) (b .args .units) (b .args .c) (b .pre .1) (b .args .c .depth - 1) e (c .before .before .before .before .past-ignored .result) (c .before .before .before .before .past-ignored .ensures) (c .before .before .before .if2 .left)
+    (c .before .before .item-kind .result) (c .before .before .item-kind .ensures) (c .next-item2 .result) (c .next-item2 .ensures .0) (λ i. let f = c .before .before .before .before .before .before .before .before .before .before .shared-slice-known .given i in omega arith) (c .before .if3 .left)
 
 pub next-spec : {M : Type 1} → statement M
 next-spec =
@@ -133,8 +125,8 @@ next-spec =
     mul-mark
     array-read-mark
     next-item-requires
-    mul-t20
-    array-read-t24
+    mul-t19
+    array-read-t23
     returns-2
     item-kind-requires
     module-items-requires
@@ -143,8 +135,7 @@ next-spec =
     mul-ends
     array-write-ends
     first-inside-requires
-    add-t34
+    add-t33
     returns-3
     next-item-requires-2
-    returns-4
-    returns-5)
+    returns-4)

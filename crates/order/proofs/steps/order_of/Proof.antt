@@ -13,8 +13,8 @@ use Rattle.order.proofs.steps.order_of.Tie as tie
 write-faults-requires : tie.Need-write-faults-requires
 write-faults-requires c κs = search needs
 
-reported-requires : tie.Need-reported-requires
-reported-requires c κs = search needs
+report-told-requires : tie.Need-report-told-requires
+report-told-requires c κs = search needs
 
 same-length : tie.Need-same-length
 same-length c = search needs
@@ -24,8 +24,8 @@ returns c =
     let zn : length (c .before .before .before .before .before .before .before .before .before .before .before .before .args .t1 .numbers) ≡ use-limit = search (needs, c .before .before .before .before .before .before .before .before .before .before .before .before .good) in
     let zp : length (c .before .before .before .before .before .before .before .before .before .before .before .before .args .t1 .places) ≡ use-limit = search (needs, c .before .before .before .before .before .before .before .before .before .before .before .before .good) in
     let few = c .before .before .before .before .before .before .before .before .before .before .before .before .pre .few in
-    told-faults (c .before .before .before .before .before .before .before .before .before .before .before .before .args .t1) (c .before .before .before .before .before .before .before .before .before .before .before .before .pre) (now (c .before .before .before .before .before .before .before .before .before .before .before .before .args .out)) (c .reported .result) (c .before .before .before .write-faults .result) (c .before .before .before .write-faults .last .1 .1 .1 .0)
-    (omega arith) (omega arith) (omega arith) (c .before .before .before .write-faults .ensures .0) (c .reported .ensures) (c .before .before .before .write-faults .ensures .1)
+    told-faults (c .before .before .before .before .before .before .before .before .before .before .before .before .args .t1) (c .before .before .before .before .before .before .before .before .before .before .before .before .pre) (now (c .before .before .before .before .before .before .before .before .before .before .before .before .args .out)) (c .report-told .result) (c .before .before .before .write-faults .result) (c .before .before .before .write-faults .last .1 .1 .1 .0)
+    (omega arith) (omega arith) (omega arith) (c .before .before .before .write-faults .ensures .0) (c .report-told .ensures) (c .before .before .before .write-faults .ensures .1)
 
 linearize-given-requires : tie.Need-linearize-given-requires
 linearize-given-requires c κs = search needs
@@ -47,29 +47,29 @@ write-ring-requires c κs =
     let few = ring-few (c .before .before .before .before .before .before .before .before .before .before .before .args .t1) (c .before .before .before .before .before .before .before .before .before .before .before .pre) (c .before .before .before .before .before .linearize-given .result) (c .before .before .before .before .before .linearize-given .ensures) zi in
     (few, omega arith)
 
-reported-requires-2 : tie.Need-reported-requires-2
-reported-requires-2 c κs = search needs
+report-told-requires-2 : tie.Need-report-told-requires-2
+report-told-requires-2 c κs = search needs
 
 same-length-2 : tie.Need-same-length-2
 same-length-2 c = search needs
 
 returns-3 : tie.Need-returns-3
 returns-3 c =
-    told-ring (c .before .before .before .before .before .before .before .before .before .before .before .before .before .before .before .args .t1) (c .before .before .before .before .before .before .before .before .before .before .before .before .before .before .before .pre) (now (c .before .before .before .before .before .before .before .before .before .before .before .before .before .before .before .args .out)) (c .reported2 .result) (omega arith) (c .before .before .before .before .before .before .before .before .before .linearize-given .result) (c .before .before .before .before .before .before .before .before .before .linearize-given .ensures) (c .before .before .before .write-ring .result) (c .before .before .before .write-ring .last .1 .1 .0)
-    (c .before .before .before .before .before .before .before .before .if2 .left) (c .before .before .before .write-ring .ensures .0) (c .reported2 .ensures) (c .before .before .before .write-ring .ensures .1)
+    told-ring (c .before .before .before .before .before .before .before .before .before .before .before .before .before .before .before .args .t1) (c .before .before .before .before .before .before .before .before .before .before .before .before .before .before .before .pre) (now (c .before .before .before .before .before .before .before .before .before .before .before .before .before .before .before .args .out)) (c .report-told2 .result) (omega arith) (c .before .before .before .before .before .before .before .before .before .linearize-given .result) (c .before .before .before .before .before .before .before .before .before .linearize-given .ensures) (c .before .before .before .write-ring .result) (c .before .before .before .write-ring .last .1 .1 .0)
+    (c .before .before .before .before .before .before .before .before .if2 .left) (c .before .before .before .write-ring .ensures .0) (c .report-told2 .ensures) (c .before .before .before .write-ring .ensures .1)
 
 pub order-of-spec : {M : Type 1} → statement M
 order-of-spec =
     tie.close
     (tie.spec
     write-faults-requires
-    reported-requires
+    report-told-requires
     same-length
     returns
     linearize-given-requires
     linked-requires
     returns-2
     write-ring-requires
-    reported-requires-2
+    report-told-requires-2
     same-length-2
     returns-3)

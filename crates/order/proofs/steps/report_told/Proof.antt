@@ -1,7 +1,7 @@
--- `order::steps::reported` meets its contract. Assumes nothing.
+-- `order::steps::report_told` meets its contract. Assumes nothing.
 use borrow.Author.Needs.{needs}
-use Rattle.order.proofs.steps.reported.Statement.{statement}
-use Rattle.order.proofs.steps.reported.Tie as tie
+use Rattle.order.proofs.steps.report_told.Statement.{statement}
+use Rattle.order.proofs.steps.report_told.Tie as tie
 
 enum-known-r : tie.Need-enum-known-r
 enum-known-r c = search needs
@@ -18,5 +18,5 @@ returns c = rw (c .before .before .r .given .1) (c .refuse .ensures)
 returns-2 : tie.Need-returns-2
 returns-2 c = rw (c .before .r2 .given .1)
 
-pub reported-spec : {M : Type 1} → statement M
-reported-spec = tie.close (tie.spec enum-known-r refuse-requires enum-known-r-2 returns returns-2)
+pub report-told-spec : {M : Type 1} → statement M
+report-told-spec = tie.close (tie.spec enum-known-r refuse-requires enum-known-r-2 returns returns-2)
