@@ -1,6 +1,7 @@
 -- DEFINITIONS: what contracts speak of
 pub mod Answers
 pub mod LinkTold
+pub mod TreeTold
 -- THEOREMS to cite
 pub mod Theorems
 -- LAWS for the code

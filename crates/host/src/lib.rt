@@ -14,6 +14,8 @@ ghost use Rattle.names.specs.Keywords.{isKeyword};
 ghost use Rattle.names.specs.Prefix.{startsWith};
 use assembly::Answer;
 
+mod tree;
+
 // The most units, and the most entries of a tree.
 pub const FILES: usize = bundle::limits::FILES;
 

@@ -1,0 +1,88 @@
+-- What the eight tree calls on a lent tree tell, and what they leave there. Assumes nothing.
+use Prim.Native.Nat.{ℕ}
+use mathlib.Core.Path.{_≡_, refl, ap, sym, _∙_}
+use mathlib.Core.Bool.{true, false}
+use mathlib.Core.List.{List}
+use lib.ListN.{set}
+use Rattle.scopes.specs.declared.Tree.{Tree}
+use Rattle.scopes.specs.declared.Answer.{Answer as Told}
+use Rattle.scopes.specs.declared.Answer.the-variants.{Done, Mark, Refused}
+use Rattle.scopes.specs.Step.{Answer, ok, marked, refused, step}
+use Rattle.scopes.specs.Flat.{flat}
+use Rattle.scopes.specs.Form.{Request, call-of}
+use Rattle.scopes.specs.Note.{accepted}
+use Rattle.scopes.specs.Views.{told}
+use Rattle.scopes.specs.Trees.{Good, flat-of}
+use Rattle.scopes.specs.Meets.{Meets, Answers, number-of, left}
+
+-- an answer's number: 0 where the call is accepted
+abbrev pub numberOf : Answer → ℕ
+numberOf ok = 0
+numberOf (marked m) = 0
+numberOf (refused n) = n
+
+-- a mark that was found, at the start of what is lent, if that has a place
+abbrev pub markTold : Answer → List ℕ → List ℕ
+markTold ok l = l
+markTold (marked m) l = set l 0 m
+markTold (refused n) l = l
+
+-- of a tree and a call: the number, and the tree that is left. On a tree that calls from the empty one left both are the definition's;
+-- on any arrays a refusal leaves them as they were
+pub record TreeTold (t : Tree) (q : Request) (n : ℕ) (u : Tree) : Type 0 where
+  pub good : Good t → Good u
+  pub tree : Good t → flat-of u ≡ step flat (flat-of t) (call-of q) .0
+  pub number : Good t → n ≡ numberOf (step flat (flat-of t) (call-of q) .1)
+  pub taken : Good t → n ≡ 0 → accepted (step flat (flat-of t) (call-of q) .1) ≡ true
+  pub kept : (n ≡ 0 → ⊥) → u ≡ t
+
+-- of a tree and a call that only asks: the number, and the mark in what is lent
+pub record FoundTold (t : Tree) (q : Request) (l : List ℕ) (n : ℕ) (m : List ℕ) : Type 0 where
+  pub number : Good t → n ≡ numberOf (step flat (flat-of t) (call-of q) .1)
+  pub mark : Good t → m ≡ markTold (step flat (flat-of t) (call-of q) .1) l
+  pub same : Good t → step flat (flat-of t) (call-of q) .0 ≡ flat-of t
+  pub kept : (n ≡ 0 → ⊥) → m ≡ l
+
+-- AS THE CODE HAS IT
+abbrev pub numberIn : Told → ℕ
+numberIn a = numberOf (told a)
+
+abbrev pub markIn : Told → List ℕ → List ℕ
+markIn a l = markTold (told a) l
+
+number-in : (a : Told) → number-of a ≡ numberIn a
+number-in Done = refl
+number-in (Mark m) = refl
+number-in (Refused n) = refl
+
+refusing : (a : Told) → (number-of a ≡ 0 → ⊥) → accepted (told a) ≡ false
+refusing Done h = absurd (h refl)
+refusing (Mark m) h = absurd (h refl)
+refusing (Refused n) h = refl
+
+pub tree-told : {t u : Tree} {q : Request} {a : Told} {n : ℕ} → Meets t q (left a u) → n ≡ number-of a → TreeTold t q n u
+tree-told {t} {u} {q} {a} {n} m e =
+    record {
+      good = m .good;
+      tree = m .tree;
+      number = λ g. e ∙ number-in a ∙ ap numberOf (m .answer g);
+      taken = λ g z. ap accepted (sym (m .answer g)) ∙ m .numbered (sym e ∙ z);
+      kept = λ z. m .kept (refusing a (λ y. z (e ∙ y)));
+    }
+
+pub found-mark : (a : Told) (m w : ℕ) (l l′ : List ℕ) → a ≡ Mark m → w ≡ m → l′ ≡ set l 0 w → (0 ≡ numberIn a) × (l′ ≡ markIn a l)
+found-mark a m w l l′ e f g = rw e (refl, g ∙ ap (set l 0) f)
+
+mark-kept : (a : Told) (l : List ℕ) → (numberIn a ≡ 0 → ⊥) → markIn a l ≡ l
+mark-kept Done l h = refl
+mark-kept (Mark m) l h = absurd (h refl)
+mark-kept (Refused n) l h = refl
+
+pub found-told : {t : Tree} {q : Request} {a : Told} {l m : List ℕ} {n : ℕ} → Answers t q a → n ≡ numberIn a → m ≡ markIn a l → FoundTold t q l n m
+found-told {t} {q} {a} {l} {m} {n} h e f =
+    record {
+      number = λ g. e ∙ ap numberOf (h .answer g);
+      mark = λ g. f ∙ ap (λ (x : Answer). markTold x l) (h .answer g);
+      same = λ g. sym (h .tree g);
+      kept = λ z. f ∙ mark-kept a l (λ y. z (e ∙ y));
+    }
