@@ -25,7 +25,7 @@ fn tell_found(answer: Answer, mark: &mut [usize]) -> u8
     match answer {
         Answer::Done => 0,
         Answer::Mark(m) => {
-            crate::tell(mark, 0, wide(m));
+            steps_c::tell(mark, 0, wide(m));
             0
         }
         Answer::Refused(n) => n,

@@ -5,9 +5,9 @@ use mathlib.Core.Path.{_≡_, ap, _∙_}
 use borrow.Author.Needs.{needs}
 use lib.ListN.{length, set, take}
 use lib.Seq.{sets, length-sets}
-use Rattle.host.specs.Answers.{told-next, told-end}
-use Rattle.host.proofs.tell_ids.Statement.{statement}
-use Rattle.host.proofs.tell_ids.Tie as tie
+use Rattle.steps_c.specs.Steps.{told-next, told-end}
+use Rattle.steps_c.proofs.tell_ids.Statement.{statement}
+use Rattle.steps_c.proofs.tell_ids.Tie as tie
 
 abbrev Inv-loop : tie.InvT-loop
 Inv-loop out₀ at l n i₀ out i = (i ≤ n) × (out ≡ sets out₀ at (take i l))

@@ -1,4 +1,4 @@
--- How an answer is told in numbers. Assumes nothing.
+-- How an answer of a step is told in numbers, by bare places, for the differential run. Assumes nothing.
 use Prim.Native.Nat.{ℕ, suc, _+_, _≤_, _<_}
 use native.Mathlib.Numerals.{add-one}
 use native.Mathlib.Omega.{arith}
@@ -13,12 +13,9 @@ use Rattle.bundle.specs.Read.{numberOf, verdict}
 use Rattle.bundle.specs.Decode.{decode}
 use Rattle.discovery.specs.declared.Graph.{Graph}
 use Rattle.discovery.specs.Turns.{Discovers}
-use Rattle.order.specs.declared.Answer.{Answer}
-use Rattle.assembly.specs.declared.Answer as assembled
+use Rattle.assembly.specs.declared.Answer.{Answer}
 use Rattle.bundle.specs.declared.Checked.{Checked}
 use Rattle.bundle.specs.declared.Checked.the-variants.{Ok, Refused}
-use Rattle.resolution.specs.declared.Resolution.{Resolution}
-use Rattle.resolution.specs.declared.Resolution.the-variants.{File, Folder, Refused as Refused′}
 
 -- a truth
 abbrev pub bitOf : Bool → ℕ
@@ -30,27 +27,8 @@ abbrev pub placeTold : Checked → List ℕ → List ℕ
 placeTold Ok l = l
 placeTold (Refused n p) l = set l 0 p
 
--- a resolution's kind: 0 a file, 255 a folder, else document 01's number
-abbrev pub kindOf : Resolution → ℕ
-kindOf (File i left) = 0
-kindOf (Folder i left) = 255
-kindOf (Refused′ n p) = n
-
--- which one and how many segments are left, or the place
-abbrev pub resolvedTold : Resolution → List ℕ → List ℕ
-resolvedTold (File i left) l = set (set l 0 i) 1 left
-resolvedTold (Folder i left) l = set (set l 0 i) 1 left
-resolvedTold (Refused′ n p) l = set l 0 p
-
--- a refusal's place; or the report's length, the number of units, their files and the linked order
-unfoldable pub orderTold : Answer → List ℕ → List ℕ
-orderTold a l =
-    cond (eqb (a .number) 0)
-    (sets (sets (set (set l 0 (a .report)) 1 (a .units)) 2 (take (a .units) (a .files))) 66 (take (a .units) (a .ids)))
-    (set l 0 (a .place))
-
--- the same with the image's length
-unfoldable pub assembleTold : assembled.Answer → List ℕ → List ℕ
+-- a refusal's place; or the report's length, the number of units, the image's length, the units' files and the linked order
+unfoldable pub assembleTold : Answer → List ℕ → List ℕ
 assembleTold a l =
     cond (eqb (a .number) 0)
     (sets (sets (set (set (set l 0 (a .report)) 1 (a .units)) 2 (a .image)) 3 (take (a .units) (a .files))) 67 (take (a .units) (a .ids)))
@@ -75,16 +53,6 @@ module _ (v : Checked) (l : List ℕ) where
   unfolding numberOf
   told-refused n p e m q = rw e (refl, q)
 
-module _ (v : Resolution) (l m : List ℕ) where
-  pub told-file : (i left : ℕ) → v ≡ File i left → m ≡ set (set l 0 i) 1 left → (0 ≡ kindOf v) × (m ≡ resolvedTold v l)
-  told-file i left e q = rw e (refl, q)
-
-  pub told-folder : (i left : ℕ) → v ≡ Folder i left → m ≡ set (set l 0 i) 1 left → (255 ≡ kindOf v) × (m ≡ resolvedTold v l)
-  told-folder i left e q = rw e (refl, q)
-
-  pub told-fault : (n p : ℕ) → v ≡ Refused′ n p → m ≡ set l 0 p → (n ≡ kindOf v) × (m ≡ resolvedTold v l)
-  told-fault n p e q = rw e (refl, q)
-
 -- A RUN OF STORES, one more at a time
 sets-snoc : (vs l : List ℕ) (i a : ℕ) → sets l i (vs ++ (a ∷ [])) ≡ set (sets l i vs) (i + length vs) a
 sets-snoc [] l i a = let e : i ≡ i + 0 = omega arith in ap (λ (k : ℕ). set l k a) e
@@ -104,18 +72,6 @@ module _ (o : List ℕ) (at : ℕ) (l : List ℕ) where
 
 -- WHAT THE CALLS TELL
 module _ (a : Answer) (l : List ℕ) where
-  pub order-refused : (a .number ≡ 0 → ⊥) → (m : List ℕ) → m ≡ set l 0 (a .place) → m ≡ orderTold a l
-  unfolding orderTold
-  order-refused h m e = rw (ne-eqb (a .number) 0 h) e
-
-  pub order-told : a .number ≡ 0 → (m₁ m₂ m₃ : List ℕ) → m₁ ≡ set (set l 0 (a .report)) 1 (a .units) → m₂ ≡ sets m₁ 2 (take (a .units) (a .files))
-      → m₃ ≡ sets m₂ 66 (take (a .units) (a .ids)) → m₃ ≡ orderTold a l
-  unfolding orderTold
-  order-told h m₁ m₂ m₃ e₁ e₂ e₃ =
-      rw (eq-eqb (a .number) 0 h)
-      (e₃ ∙ ap (λ (m : List ℕ). sets m 66 (take (a .units) (a .ids))) (e₂ ∙ ap (λ (m : List ℕ). sets m 2 (take (a .units) (a .files))) e₁))
-
-module _ (a : assembled.Answer) (l : List ℕ) where
   pub assemble-refused : (a .number ≡ 0 → ⊥) → (m : List ℕ) → m ≡ set l 0 (a .place) → m ≡ assembleTold a l
   unfolding assembleTold
   assemble-refused h m e = rw (ne-eqb (a .number) 0 h) e

@@ -1,9 +1,9 @@
--- `host::tell` meets its contract. Assumes nothing.
+-- `steps_c::tell` meets its contract. Assumes nothing.
 use mathlib.Core.Path.{sym}
 use lib.Seq.{set-out}
 use borrow.Author.Needs.{needs}
-use Rattle.host.proofs.tell.Statement.{statement}
-use Rattle.host.proofs.tell.Tie as tie
+use Rattle.steps_c.proofs.tell.Statement.{statement}
+use Rattle.steps_c.proofs.tell.Tie as tie
 
 mul-out : tie.Need-mul-out
 mul-out c = search needs

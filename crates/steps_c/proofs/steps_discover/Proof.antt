@@ -1,9 +1,9 @@
--- `gontsamy_discover` meets its contract. Assumes nothing.
+-- `steps_discover` meets its contract. Assumes nothing.
 use mathlib.Core.Path.{sym, _∙_}
 use borrow.Author.Needs.{needs}
-use Rattle.host.specs.Answers.{told-ok, told-refused, refused, accepted, graph-told}
-use Rattle.host.proofs.gontsamy_discover.Statement.{statement}
-use Rattle.host.proofs.gontsamy_discover.Tie as tie
+use Rattle.steps_c.specs.Steps.{told-ok, told-refused, refused, accepted, graph-told}
+use Rattle.steps_c.proofs.steps_discover.Statement.{statement}
+use Rattle.steps_c.proofs.steps_discover.Tie as tie
 
 -- src/lib.rt:158:9
 check-requires : tie.Need-check-requires
@@ -68,8 +68,8 @@ returns-2 c =
           (graph-told (c .before .before .before .before .before .before .before .before .before .before .before .before .before .before .before .before .before .before .before .before .before .before .before .before .before .before .before .before .before .before .before .before .discover-dependencies .result) (c .before .before .before .before .before .before .before .before .before .before .before .before .before .before .before .before .before .before .before .before .before .before .before .before .before .before .before .before .before .before .before .before .before .before .before .before .before .before .args .out .now) _ _ _ _ _ (c .before .before .before .before .before .before .before .before .before .before .before .before .before .before .before .before .before .before .before .before .before .before .before .before .before .before .before .before .before .before .tell2 .ensures) (c .before .before .before .before .before .before .before .before .before .before .before .before .before .before .before .before .before .before .before .before .before .before .before .tell-places .ensures) (c .before .before .before .before .before .before .before .before .before .before .before .before .before .before .before .before .tell-ids .ensures) (c .before .before .before .before .before .before .before .before .before .tell-ids2 .ensures) (c .before .before .tell-ids3 .ensures)),
     )
 
-pub gontsamy-discover-spec : {M : Type 1} → statement M
-gontsamy-discover-spec =
+pub steps-discover-spec : {M : Type 1} → statement M
+steps-discover-spec =
     tie.close
     (tie.spec
     check-requires

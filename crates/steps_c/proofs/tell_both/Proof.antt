@@ -1,11 +1,11 @@
--- `host::tell_both` meets its contract. Assumes nothing.
+-- `steps_c::tell_both` meets its contract. Assumes nothing.
 use Prim.Native.Nat.{ℕ}
 use mathlib.Core.List.{List}
 use mathlib.Core.Path.{ap, _∙_}
 use lib.ListN.{set}
 use borrow.Author.Needs.{needs}
-use Rattle.host.proofs.tell_both.Statement.{statement}
-use Rattle.host.proofs.tell_both.Tie as tie
+use Rattle.steps_c.proofs.tell_both.Statement.{statement}
+use Rattle.steps_c.proofs.tell_both.Tie as tie
 
 tell-requires : tie.Need-tell-requires
 tell-requires c κs = search needs

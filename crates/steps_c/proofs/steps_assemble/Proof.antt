@@ -1,10 +1,10 @@
--- `gontsamy_assemble` meets its contract. Assumes nothing.
-use Rattle.host.specs.Answers.{assembleTold, assemble-refused, assemble-told}
+-- `steps_assemble` meets its contract. Assumes nothing.
+use Rattle.steps_c.specs.Steps.{assembleTold, assemble-refused, assemble-told}
 use Rattle.assembly.specs.declared.Answer.{Answer}
 use mathlib.Core.Path.{ap, _∙_}
 use borrow.Author.Needs.{needs}
-use Rattle.host.proofs.gontsamy_assemble.Statement.{statement}
-use Rattle.host.proofs.gontsamy_assemble.Tie as tie
+use Rattle.steps_c.proofs.steps_assemble.Statement.{statement}
+use Rattle.steps_c.proofs.steps_assemble.Tie as tie
 
 assemble-requires : tie.Need-assemble-requires
 assemble-requires c κs = search needs
@@ -52,8 +52,8 @@ returns-2 c =
     let e = c .before .before .before .before .before .before .before .before .before .before .before .before .before .before .before .before .before .before .before .before .before .before .before .before .before .before .before .assemble .ensures .0 in
     (ap (λ (a : Answer). a .number) e, (c .before .before .before .before .before .before .before .before .before .before .before .before .before .before .before .before .before .before .before .before .before .before .before .before .before .before .before .assemble .ensures .1 .0, (c .before .before .before .before .before .before .before .before .before .before .before .before .before .before .before .before .before .before .before .before .before .before .before .before .before .before .before .assemble .ensures .1 .1, assemble-told (c .before .before .before .before .before .before .before .before .before .before .before .before .before .before .before .before .before .before .before .before .before .before .before .before .before .before .before .assemble .result) (c .before .before .before .before .before .before .before .before .before .before .before .before .before .before .before .before .before .before .before .before .before .before .before .before .before .before .before .before .before .before .before .before .before .before .args .out .now) (c .before .before .before .before .before .before .before .before .before .before .before .before .before .before .before .before .before .before .before .before .before .before .if1 .left) _ _ _ _ (c .before .before .before .before .before .before .before .before .before .before .before .before .before .before .before .before .before .before .before .before .tell-both .ensures) (c .before .before .before .before .before .before .before .before .before .before .before .before .before .before .before .before .tell2 .ensures) (c .before .before .before .before .before .before .before .before .before .tell-places .ensures) (c .before .before .tell-ids .ensures) ∙ ap (λ (a : Answer). assembleTold a (c .before .before .before .before .before .before .before .before .before .before .before .before .before .before .before .before .before .before .before .before .before .before .before .before .before .before .before .before .before .before .before .before .before .before .args .out .now)) e)))
 
-pub gontsamy-assemble-spec : {M : Type 1} → statement M
-gontsamy-assemble-spec =
+pub steps-assemble-spec : {M : Type 1} → statement M
+steps-assemble-spec =
     tie.close
     (tie.spec
     assemble-requires
