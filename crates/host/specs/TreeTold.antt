@@ -1,9 +1,12 @@
 -- What the eight tree calls on a lent tree tell, and what they leave there. Assumes nothing.
-use Prim.Native.Nat.{ℕ}
+use Prim.Native.Nat.{ℕ, _<_, _≤_}
+use native.Mathlib.Omega.{arith}
 use mathlib.Core.Path.{_≡_, refl, ap, sym, _∙_}
-use mathlib.Core.Bool.{true, false}
+use mathlib.Core.Bool.{true, false, cond}
 use mathlib.Core.List.{List}
-use lib.ListN.{set}
+use lib.Dec.{eqb, leb}
+use lib.ListN.{set, getD, length}
+use borrow.Author.Tests.{eq-eqb, ne-eqb, le-leb, lt-leb}
 use Rattle.scopes.specs.declared.Tree.{Tree}
 use Rattle.scopes.specs.declared.Answer.{Answer as Told}
 use Rattle.scopes.specs.declared.Answer.the-variants.{Done, Mark, Refused}
@@ -12,7 +15,13 @@ use Rattle.scopes.specs.Flat.{flat}
 use Rattle.scopes.specs.Form.{Request, call-of}
 use Rattle.scopes.specs.Note.{accepted}
 use Rattle.scopes.specs.Views.{told}
-use Rattle.scopes.specs.Trees.{Good, flat-of}
+use Rattle.scopes.specs.Rows.{length-tab}
+use Rattle.scopes.specs.Views.{rows as row-of}
+use Rattle.scopes.specs.Trees.{Good, view, flat-of}
+use Rattle.scopes_c.specs.TreeRows.{Listed}
+use Rattle.order.specs.Report.{small-buffer}
+use Rattle.host.specs.LinkTold.{rows-length, entry-limit, rowsOf}
+use Rattle.host.specs.LinkLaws.{rows-whole}
 use Rattle.scopes.specs.Meets.{Meets, Answers, number-of, left}
 
 -- an answer's number: 0 where the call is accepted
@@ -26,6 +35,9 @@ abbrev pub markTold : Answer → List ℕ → List ℕ
 markTold ok l = l
 markTold (marked m) l = set l 0 m
 markTold (refused n) l = l
+
+abbrev pub tree-full : ℕ
+tree-full = 51
 
 -- of a tree and a call: the number, and the tree that is left. On a tree that calls from the empty one left both are the definition's;
 -- on any arrays a refusal leaves them as they were
@@ -42,6 +54,20 @@ pub record FoundTold (t : Tree) (q : Request) (l : List ℕ) (n : ℕ) (m : List
   pub mark : Good t → m ≡ markTold (step flat (flat-of t) (call-of q) .1) l
   pub same : Good t → step flat (flat-of t) (call-of q) .0 ≡ flat-of t
   pub kept : (n ≡ 0 → ⊥) → m ≡ l
+
+-- THE ROWS of a tree: how many entries it counts, and whether they fit
+abbrev pub countOf : Tree → ℕ
+countOf t = getD (t .opened) 9 0
+
+unfoldable pub rowsNumber : Tree → List ℕ → ℕ
+rowsNumber t l = cond (leb rows-length (length l)) (cond (leb (countOf t) entry-limit) 0 tree-full) small-buffer
+
+-- the rows from the start on, and how many; where they don't fit all is as it was
+unfoldable pub treeRows : Tree → List ℕ → List ℕ
+treeRows t l = cond (eqb (rowsNumber t l) 0) (rowsOf (flat-of t .entries) l) l
+
+unfoldable pub rowsCount : Tree → List ℕ → ℕ → ℕ
+rowsCount t l n = cond (eqb (rowsNumber t l) 0) (length (flat-of t .entries)) n
 
 -- AS THE CODE HAS IT
 abbrev pub numberIn : Told → ℕ
@@ -86,3 +112,37 @@ found-told {t} {q} {a} {l} {m} {n} h e f =
       same = λ g. sym (h .tree g);
       kept = λ z. f ∙ mark-kept a l (λ y. z (e ∙ y));
     }
+
+module _ (t : Tree) (l : List ℕ) (n : ℕ) where
+  abbrev Rows : ℕ → List ℕ → ℕ → Type 0
+  Rows r l′ n′ = (r ≡ rowsNumber t l) × ((l′ ≡ treeRows t l) × (n′ ≡ rowsCount t l n))
+
+  rows-as : (r : ℕ) → r ≡ rowsNumber t l → (r ≡ 0 → ⊥) → Rows r l n
+  unfolding treeRows rowsCount
+  rows-as r e z = rw (ne-eqb (rowsNumber t l) 0 (λ y. z (e ∙ y))) (e, (refl, refl))
+
+  short : length l < rows-length → 14 ≡ rowsNumber t l
+  unfolding rowsNumber
+  short h = rw (lt-leb rows-length (length l) h)
+
+  full : rows-length ≤ length l → entry-limit < countOf t → 51 ≡ rowsNumber t l
+  unfolding rowsNumber
+  full h k = rw (le-leb rows-length (length l) h, lt-leb (countOf t) entry-limit k)
+
+  fits : rows-length ≤ length l → countOf t ≤ entry-limit → 0 ≡ rowsNumber t l
+  unfolding rowsNumber
+  fits h k = rw (le-leb rows-length (length l) h, le-leb (countOf t) entry-limit k)
+
+  pub rows-short : length l < rows-length → Rows 14 l n
+  rows-short h = rows-as 14 (short h) (λ e. omega (arith, e))
+
+  pub rows-full : rows-length ≤ length l → (c : ℕ) → c ≡ countOf t → entry-limit < c → Rows 51 l n
+  rows-full h c e k = rows-as 51 (full h (omega (arith, e))) (λ y. omega (arith, y))
+
+  pub rows-told : rows-length ≤ length l → (c : ℕ) → c ≡ countOf t → c ≤ entry-limit → (r : ℕ) (l′ : List ℕ) → Listed (flat-of t .entries) l r l′ → Rows 0 l′ r
+  unfolding treeRows rowsCount
+  rows-told h c e k r l′ d =
+      let b : countOf t ≤ entry-limit = omega (arith, e) in
+      let z = fits h b in
+      let s : length (flat-of t .entries) ≤ 1024 = rw (length-tab (row-of (view t)) (countOf t)) b in
+      rw (eq-eqb (rowsNumber t l) 0 (sym z)) (z, (d .out ∙ rows-whole (flat-of t .entries) l s h, d .count))

@@ -191,7 +191,18 @@ pub extern "C" fn gontsamy_link(
     let l = linker::link(s, report, image, scopes::empty());
     let a = l.answer;
     let number = a.number;
-    let entries = scopes_c::put_tree(l.tree, rows);
+    let entries = scopes_c::put_rows(
+        &l.tree.opened,
+        &l.tree.cells,
+        &l.tree.visible,
+        &l.tree.scopes,
+        &l.tree.marks,
+        &l.tree.n0,
+        &l.tree.n1,
+        &l.tree.n2,
+        &l.tree.n3,
+        rows,
+    );
     tell_link(answer, a, entries);
     number
 }

@@ -1,12 +1,13 @@
 // The eight tree calls on a tree that the caller lends as nine arrays (scopes::Tree has what each holds): zeros are a tree with no entry,
 // and no call copies it but `get`. On any arrays a call returns, and a refusal leaves them as they were; on a tree that calls from zeros
 // left, number and tree are the definition's (specs/TreeTold.antt). A visibility of 1 is public, any other private.
-ghost use Rattle.host.specs.TreeTold.{TreeTold, FoundTold, numberIn, markIn};
+ghost use Rattle.host.specs.TreeTold.{TreeTold, FoundTold, numberIn, markIn, rowsNumber, treeRows, rowsCount};
 ghost use Rattle.scopes.specs.Form.{enters, exits, inserts-alias, inserts-enum, inserts-function, resolves-use, gets-alias, gets-function};
 ghost use Rattle.scopes.specs.Trees.{packed-in};
 ghost use lib.Dec.{eqb};
 ghost use mathlib.Core.Path.{_≡_};
 use crate::ENTRIES;
+use crate::ROWS;
 use scopes::Answer;
 use scopes::CELLS;
 use scopes::OPENED;
@@ -300,4 +301,35 @@ pub extern "C" fn gontsamy_get_function(
         n3: *n3,
     };
     tell_found(scopes::get_function(tree, name), mark)
+}
+
+// A tree's entries in `rows`, ROW numbers each, and how many they are in `count`. 14 where `rows` is shorter than ROWS, and 51 where the
+// arrays count more than ENTRIES: both as they were. Ruled out: an entry left out; a row that is cut.
+#[no_mangle]
+pub extern "C" fn gontsamy_rows<'a>(
+    opened: &'a [u16; OPENED],
+    cells: &'a [u16; CELLS],
+    visible: &'a [u8; ENTRIES],
+    scopes: &'a [u16; ENTRIES],
+    marks: &'a [u16; ENTRIES],
+    n0: &'a [u64; ENTRIES],
+    n1: &'a [u64; ENTRIES],
+    n2: &'a [u64; ENTRIES],
+    n3: &'a [u64; ENTRIES],
+    rows: &mut [u64],
+    count: &mut usize,
+) -> u8
+    ensures { λ r. ⌜ r ≡ rowsNumber (packed-in (now (opened .entry)) (now (cells .entry)) (now (visible .entry)) (now (scopes .entry)) (now (marks .entry)) (now (n0 .entry)) (now (n1 .entry)) (now (n2 .entry)) (now (n3 .entry))) (now (rows .entry)) ⌝ }
+    ensures { λ r. ⌜ now (rows .exit) ≡ treeRows (packed-in (now (opened .entry)) (now (cells .entry)) (now (visible .entry)) (now (scopes .entry)) (now (marks .entry)) (now (n0 .entry)) (now (n1 .entry)) (now (n2 .entry)) (now (n3 .entry))) (now (rows .entry)) ⌝ }
+    ensures { λ r. ⌜ now (count .exit) ≡ rowsCount (packed-in (now (opened .entry)) (now (cells .entry)) (now (visible .entry)) (now (scopes .entry)) (now (marks .entry)) (now (n0 .entry)) (now (n1 .entry)) (now (n2 .entry)) (now (n3 .entry))) (now (rows .entry)) (now (count .entry)) ⌝ }
+{
+    if rows.len() < ROWS {
+        return 14;
+    }
+    if ENTRIES < scopes::count_of(opened) {
+        return 51;
+    }
+    let entries = scopes_c::put_rows(opened, cells, visible, scopes, marks, n0, n1, n2, n3, rows);
+    *count = entries;
+    0
 }
