@@ -11,8 +11,6 @@ ghost use Rattle.graph.specs.Given.{linearizeGiven};
 ghost use Rattle.resolution.specs.Call.{resolve};
 use assembly::Answer;
 use graph::Graph;
-use graph::IDS;
-use graph::UNITS;
 
 mod tree;
 
@@ -20,6 +18,16 @@ mod tree;
 pub const FILES: usize = bundle::limits::FILES;
 
 pub const ENTRIES: usize = 1024;
+
+// The most units of a graph given directly, and the most ids in its lists.
+pub const UNITS: usize = graph::UNITS;
+
+pub const IDS: usize = graph::IDS;
+
+// Places of a lent tree's two arrays that no entry has one of.
+pub const TREE_OPENED: usize = scopes::OPENED;
+
+pub const TREE_CELLS: usize = scopes::CELLS;
 
 // The layout of `gontsamy_link`'s answer, as specs/LinkTold.antt has it: five numbers, the units' files, the ids in linked order.
 pub const ANSWER_PLACE: usize = 0;

@@ -8,9 +8,9 @@ ghost use lib.Dec.{eqb};
 ghost use mathlib.Core.Path.{_≡_};
 use crate::ENTRIES;
 use crate::ROWS;
+use crate::TREE_CELLS;
+use crate::TREE_OPENED;
 use scopes::Answer;
-use scopes::CELLS;
-use scopes::OPENED;
 use scopes::Tree;
 
 fn wide(mark: u16) -> usize
@@ -37,8 +37,8 @@ fn tell_found(answer: Answer, mark: &mut [usize]) -> u8
 // shut.
 #[no_mangle]
 pub extern "C" fn gontsamy_enter(
-    opened: &mut [u16; OPENED],
-    cells: &mut [u16; CELLS],
+    opened: &mut [u16; TREE_OPENED],
+    cells: &mut [u16; TREE_CELLS],
     visible: &mut [u8; ENTRIES],
     scopes: &mut [u16; ENTRIES],
     marks: &mut [u16; ENTRIES],
@@ -72,8 +72,8 @@ pub extern "C" fn gontsamy_enter(
 // The innermost open module is left. Ruled out: 0 at the root; an entry lost on leaving.
 #[no_mangle]
 pub extern "C" fn gontsamy_exit(
-    opened: &mut [u16; OPENED],
-    cells: &mut [u16; CELLS],
+    opened: &mut [u16; TREE_OPENED],
+    cells: &mut [u16; TREE_CELLS],
     visible: &mut [u8; ENTRIES],
     scopes: &mut [u16; ENTRIES],
     marks: &mut [u16; ENTRIES],
@@ -104,8 +104,8 @@ pub extern "C" fn gontsamy_exit(
 // A type alias. Ruled out: 0 where the current module holds a type of that name; 51 with a place left.
 #[no_mangle]
 pub extern "C" fn gontsamy_insert_alias(
-    opened: &mut [u16; OPENED],
-    cells: &mut [u16; CELLS],
+    opened: &mut [u16; TREE_OPENED],
+    cells: &mut [u16; TREE_CELLS],
     visible: &mut [u8; ENTRIES],
     scopes: &mut [u16; ENTRIES],
     marks: &mut [u16; ENTRIES],
@@ -139,8 +139,8 @@ pub extern "C" fn gontsamy_insert_alias(
 // An enum, a type. Ruled out: 49 in the place of 48; arrays that differ after a refusal.
 #[no_mangle]
 pub extern "C" fn gontsamy_insert_enum(
-    opened: &mut [u16; OPENED],
-    cells: &mut [u16; CELLS],
+    opened: &mut [u16; TREE_OPENED],
+    cells: &mut [u16; TREE_CELLS],
     visible: &mut [u8; ENTRIES],
     scopes: &mut [u16; ENTRIES],
     marks: &mut [u16; ENTRIES],
@@ -174,8 +174,8 @@ pub extern "C" fn gontsamy_insert_enum(
 // A function. Ruled out: a refusal because a type or a module has the name; an entry in the root and not in the open module.
 #[no_mangle]
 pub extern "C" fn gontsamy_insert_function(
-    opened: &mut [u16; OPENED],
-    cells: &mut [u16; CELLS],
+    opened: &mut [u16; TREE_OPENED],
+    cells: &mut [u16; TREE_CELLS],
     visible: &mut [u8; ENTRIES],
     scopes: &mut [u16; ENTRIES],
     marks: &mut [u16; ENTRIES],
@@ -210,8 +210,8 @@ pub extern "C" fn gontsamy_insert_function(
 // imported; an imported module that shows entries made after the use.
 #[no_mangle]
 pub extern "C" fn gontsamy_resolve_use(
-    opened: &mut [u16; OPENED],
-    cells: &mut [u16; CELLS],
+    opened: &mut [u16; TREE_OPENED],
+    cells: &mut [u16; TREE_CELLS],
     visible: &mut [u8; ENTRIES],
     scopes: &mut [u16; ENTRIES],
     marks: &mut [u16; ENTRIES],
@@ -244,8 +244,8 @@ pub extern "C" fn gontsamy_resolve_use(
 // The mark of the type of that name in the current module. Ruled out: the mark of one in an outer module; 43 where a use imported it.
 #[no_mangle]
 pub extern "C" fn gontsamy_get_alias(
-    opened: &[u16; OPENED],
-    cells: &[u16; CELLS],
+    opened: &[u16; TREE_OPENED],
+    cells: &[u16; TREE_CELLS],
     visible: &[u8; ENTRIES],
     scopes: &[u16; ENTRIES],
     marks: &[u16; ENTRIES],
@@ -275,8 +275,8 @@ pub extern "C" fn gontsamy_get_alias(
 // The mark of the function of that name in the current module. Ruled out: the mark of a type of that name.
 #[no_mangle]
 pub extern "C" fn gontsamy_get_function(
-    opened: &[u16; OPENED],
-    cells: &[u16; CELLS],
+    opened: &[u16; TREE_OPENED],
+    cells: &[u16; TREE_CELLS],
     visible: &[u8; ENTRIES],
     scopes: &[u16; ENTRIES],
     marks: &[u16; ENTRIES],
@@ -307,8 +307,8 @@ pub extern "C" fn gontsamy_get_function(
 // arrays count more than ENTRIES: both as they were. Ruled out: an entry left out; a row that is cut.
 #[no_mangle]
 pub extern "C" fn gontsamy_rows<'a>(
-    opened: &'a [u16; OPENED],
-    cells: &'a [u16; CELLS],
+    opened: &'a [u16; TREE_OPENED],
+    cells: &'a [u16; TREE_CELLS],
     visible: &'a [u8; ENTRIES],
     scopes: &'a [u16; ENTRIES],
     marks: &'a [u16; ENTRIES],
