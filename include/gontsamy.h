@@ -21,8 +21,10 @@ extern "C" {
 #define GONTSAMY_BUNDLE 65538  /* bytes of the longest bundle */
 #define GONTSAMY_REPORT 4096   /* bytes that hold every report */
 #define GONTSAMY_IMAGE 65538   /* bytes that hold every image */
+#define GONTSAMY_UNITS 64      /* units of a graph given directly */
+#define GONTSAMY_IDS 256       /* ids in all of its lists */
 
-/* An answer of gontsamy_link, number by number. */
+/* An answer of gontsamy_link and gontsamy_order, number by number. */
 #define GONTSAMY_ANSWER_PLACE 0    /* the place of a refusal */
 #define GONTSAMY_ANSWER_REPORT 1   /* the length of the report */
 #define GONTSAMY_ANSWER_UNITS 2    /* how many units there are */
@@ -69,6 +71,135 @@ uint8_t gontsamy_resolve(const uint8_t *bundle, size_t bundle_length,
                          const uint8_t *importer, size_t importer_length,
                          const uint8_t *use, size_t use_length,
                          size_t *out, size_t out_length);
+
+/* The linked order of a bundle, without assembly, tree and image: what gontsamy_link answers after its steps 1 to 4.
+ *
+ * Returns 0 and a report or the units and their order, or a number, all in `answer` as gontsamy_link lays it out, image and entries 0.
+ * `answer` wants GONTSAMY_ANSWER numbers: where it is shorter the call returns GONTSAMY_SMALL_BUFFER and nothing is written. */
+uint8_t gontsamy_order(const uint8_t *bundle, size_t bundle_length,
+                       uint8_t *report, size_t report_length,
+                       size_t *answer, size_t answer_length);
+
+/* The linked order of a graph given directly. Unit u, below `units`, lists the ids from start[u] on, length[u] of them, among the first
+ * `count` of `ids`; three arrays of GONTSAMY_UNITS, GONTSAMY_UNITS and GONTSAMY_IDS numbers.
+ *
+ * Returns 0 and the order, or GONTSAMY_RING and a ring: the ids at the start of the GONTSAMY_UNITS numbers of `ordered`, zeros behind
+ * them, and how many they are in `ordered_length`. Or returns GONTSAMY_TOO_MANY, GONTSAMY_CUT (a list that passes `count`) or
+ * GONTSAMY_UNKNOWN_UNIT, and both are as they were. */
+uint8_t gontsamy_linearize(const uint16_t *start, const uint16_t *length, const uint16_t *ids, size_t units, size_t count,
+                           uint16_t *ordered, size_t *ordered_length);
+
+/* A module tree that the caller holds. Zeros are a tree with no entry and no open module; what the arrays hold else is the library's
+ * business, and gontsamy_tree_rows tells it. */
+#define GONTSAMY_TREE_OPENED 11
+#define GONTSAMY_TREE_CELLS 6144
+typedef struct gontsamy_tree {
+    uint16_t opened[GONTSAMY_TREE_OPENED];
+    uint16_t cells[GONTSAMY_TREE_CELLS];
+    uint8_t visible[GONTSAMY_ENTRIES];
+    uint16_t scopes[GONTSAMY_ENTRIES];
+    uint16_t marks[GONTSAMY_ENTRIES];
+    uint64_t n0[GONTSAMY_ENTRIES], n1[GONTSAMY_ENTRIES], n2[GONTSAMY_ENTRIES], n3[GONTSAMY_ENTRIES];
+} gontsamy_tree;
+
+/* The exports: each takes the nine arrays of a tree. Use the functions over a gontsamy_tree below. */
+uint8_t gontsamy_enter(uint16_t *opened, uint16_t *cells, uint8_t *visible, uint16_t *scopes, uint16_t *marks,
+                       uint64_t *n0, uint64_t *n1, uint64_t *n2, uint64_t *n3,
+                       const uint8_t *name, size_t name_length, uint8_t is_public, uint16_t mark);
+uint8_t gontsamy_exit(uint16_t *opened, uint16_t *cells, uint8_t *visible, uint16_t *scopes, uint16_t *marks,
+                      uint64_t *n0, uint64_t *n1, uint64_t *n2, uint64_t *n3);
+uint8_t gontsamy_insert_alias(uint16_t *opened, uint16_t *cells, uint8_t *visible, uint16_t *scopes, uint16_t *marks,
+                              uint64_t *n0, uint64_t *n1, uint64_t *n2, uint64_t *n3,
+                              const uint8_t *name, size_t name_length, uint8_t is_public, uint16_t mark);
+uint8_t gontsamy_insert_enum(uint16_t *opened, uint16_t *cells, uint8_t *visible, uint16_t *scopes, uint16_t *marks,
+                             uint64_t *n0, uint64_t *n1, uint64_t *n2, uint64_t *n3,
+                             const uint8_t *name, size_t name_length, uint8_t is_public, uint16_t mark);
+uint8_t gontsamy_insert_function(uint16_t *opened, uint16_t *cells, uint8_t *visible, uint16_t *scopes, uint16_t *marks,
+                                 uint64_t *n0, uint64_t *n1, uint64_t *n2, uint64_t *n3,
+                                 const uint8_t *name, size_t name_length, uint8_t is_public, uint16_t mark);
+uint8_t gontsamy_resolve_use(uint16_t *opened, uint16_t *cells, uint8_t *visible, uint16_t *scopes, uint16_t *marks,
+                             uint64_t *n0, uint64_t *n1, uint64_t *n2, uint64_t *n3,
+                             const uint8_t *use, size_t use_length, uint8_t is_public);
+uint8_t gontsamy_get_alias(const uint16_t *opened, const uint16_t *cells, const uint8_t *visible,
+                           const uint16_t *scopes, const uint16_t *marks, const uint64_t *n0,
+                           const uint64_t *n1, const uint64_t *n2, const uint64_t *n3,
+                           const uint8_t *name, size_t name_length, size_t *mark, size_t mark_length);
+uint8_t gontsamy_get_function(const uint16_t *opened, const uint16_t *cells, const uint8_t *visible,
+                              const uint16_t *scopes, const uint16_t *marks, const uint64_t *n0,
+                              const uint64_t *n1, const uint64_t *n2, const uint64_t *n3,
+                              const uint8_t *name, size_t name_length, size_t *mark, size_t mark_length);
+uint8_t gontsamy_rows(const uint16_t *opened, const uint16_t *cells, const uint8_t *visible,
+                      const uint16_t *scopes, const uint16_t *marks, const uint64_t *n0,
+                      const uint64_t *n1, const uint64_t *n2, const uint64_t *n3,
+                      uint64_t *rows, size_t rows_length, size_t *count);
+
+/* THE TREE CALLS. Each returns 0, or a number, and then the tree is as it was, whatever its arrays hold. On a tree that calls from zeros
+ * left, number and tree are those of the definition. A mark is the caller's: get_alias and get_function give it back, and an entry's row
+ * has it. `is_public` is 1 for a public entry; any other is private. */
+
+/* A module more in the innermost open one, opened. */
+static inline uint8_t gontsamy_tree_enter(gontsamy_tree *tree, const uint8_t *name, size_t name_length, uint8_t is_public, uint16_t mark)
+{
+    return gontsamy_enter(tree->opened, tree->cells, tree->visible, tree->scopes, tree->marks, tree->n0, tree->n1, tree->n2, tree->n3,
+                     name, name_length, is_public, mark);
+}
+
+/* The innermost open module is left; GONTSAMY_NOT_INSIDE where none is open. */
+static inline uint8_t gontsamy_tree_exit(gontsamy_tree *tree)
+{
+    return gontsamy_exit(tree->opened, tree->cells, tree->visible, tree->scopes, tree->marks, tree->n0, tree->n1, tree->n2, tree->n3);
+}
+
+/* A type alias more in the innermost open module. */
+static inline uint8_t gontsamy_tree_insert_alias(gontsamy_tree *tree, const uint8_t *name, size_t name_length, uint8_t is_public, uint16_t mark)
+{
+    return gontsamy_insert_alias(tree->opened, tree->cells, tree->visible, tree->scopes, tree->marks, tree->n0, tree->n1, tree->n2, tree->n3,
+                     name, name_length, is_public, mark);
+}
+
+/* An enum, a type, more there. */
+static inline uint8_t gontsamy_tree_insert_enum(gontsamy_tree *tree, const uint8_t *name, size_t name_length, uint8_t is_public, uint16_t mark)
+{
+    return gontsamy_insert_enum(tree->opened, tree->cells, tree->visible, tree->scopes, tree->marks, tree->n0, tree->n1, tree->n2, tree->n3,
+                     name, name_length, is_public, mark);
+}
+
+/* A function more there. */
+static inline uint8_t gontsamy_tree_insert_function(gontsamy_tree *tree, const uint8_t *name, size_t name_length, uint8_t is_public, uint16_t mark)
+{
+    return gontsamy_insert_function(tree->opened, tree->cells, tree->visible, tree->scopes, tree->marks, tree->n0, tree->n1, tree->n2, tree->n3,
+                     name, name_length, is_public, mark);
+}
+
+/* A use, whose path is led by `crate`, in the bundle's form: a count of segments, the segments, a count of elements, each element a name and
+ * an alias, empty for none. Its elements are imported into the innermost open module. */
+static inline uint8_t gontsamy_tree_resolve_use(gontsamy_tree *tree, const uint8_t *use, size_t use_length, uint8_t is_public)
+{
+    return gontsamy_resolve_use(tree->opened, tree->cells, tree->visible, tree->scopes, tree->marks, tree->n0, tree->n1, tree->n2, tree->n3,
+                     use, use_length, is_public);
+}
+
+/* The mark of the type of that name in the innermost open module, in mark[0] where there is such a place. */
+static inline uint8_t gontsamy_tree_get_alias(const gontsamy_tree *tree, const uint8_t *name, size_t name_length, size_t *mark, size_t mark_length)
+{
+    return gontsamy_get_alias(tree->opened, tree->cells, tree->visible, tree->scopes, tree->marks, tree->n0, tree->n1, tree->n2, tree->n3,
+                     name, name_length, mark, mark_length);
+}
+
+/* The same of the function of that name. */
+static inline uint8_t gontsamy_tree_get_function(const gontsamy_tree *tree, const uint8_t *name, size_t name_length, size_t *mark, size_t mark_length)
+{
+    return gontsamy_get_function(tree->opened, tree->cells, tree->visible, tree->scopes, tree->marks, tree->n0, tree->n1, tree->n2, tree->n3,
+                     name, name_length, mark, mark_length);
+}
+
+/* The tree's entries in `rows`, GONTSAMY_ROW numbers each, and how many they are in `count`. GONTSAMY_SMALL_BUFFER where `rows` has less
+ * than GONTSAMY_ROWS numbers, GONTSAMY_TREE_FULL where the arrays are no tree: both as they were. */
+static inline uint8_t gontsamy_tree_rows(const gontsamy_tree *tree, uint64_t *rows, size_t rows_length, size_t *count)
+{
+    return gontsamy_rows(tree->opened, tree->cells, tree->visible, tree->scopes, tree->marks, tree->n0, tree->n1, tree->n2, tree->n3,
+                     rows, rows_length, count);
+}
 
 /* The numbers. */
 #define GONTSAMY_CUT 1

@@ -8,12 +8,12 @@ set -eu
 cd "$(dirname "$0")/.."
 count=${1:-20000}
 seed=${2:-1}
-for archive in host scopes_c; do
+for archive in host steps_c scopes_c; do
   echo "proving and building lib$archive.a"
   rt staticlib "$archive" >/dev/null
 done
 rt check link_vectors >/dev/null
-(cd tools && cargo build --release --offline --quiet)
+(cd tools && cargo build --release --offline --quiet --workspace)
 bin=tools/target/release
 work=$(mktemp -d)
 trap 'rm -rf "$work"' EXIT

@@ -1,21 +1,8 @@
-//! Links the proved crate `scopes_c`, built by `rt staticlib scopes_c`. Where the archive or the
-//! original is missing, the workspace still builds, and `scopes-diff` says what to do.
+//! Links the proved crate `scopes_c`.
 
-use std::path::Path;
+include!("../archive.rs");
 
 fn main() {
-    let folder = Path::new(env!("CARGO_MANIFEST_DIR")).join("../../target/staticlib");
-    let archive = folder.join("libscopes_c.a");
-    println!("cargo:rerun-if-changed={}", archive.display());
-    println!("cargo:rustc-check-cfg=cfg(host)");
-    println!("cargo:rustc-check-cfg=cfg(original)");
-    // Told by the build of oracle.
-    if std::env::var_os("DEP_SIMPLICITYHL_FOUND").is_some() {
-        println!("cargo:rustc-cfg=original");
-    }
-    if archive.exists() {
-        println!("cargo:rustc-cfg=host");
-        println!("cargo:rustc-link-search=native={}", folder.display());
-        println!("cargo:rustc-link-lib=static=scopes_c");
-    }
+    link_archive("scopes_c");
+    tell_original();
 }

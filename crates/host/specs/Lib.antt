@@ -1,6 +1,9 @@
 -- DEFINITIONS: what contracts speak of
-pub mod Answers
+pub mod ResolveTold
+pub mod OrderTold
+pub mod GraphTold
 pub mod LinkTold
+pub mod TreeTold
 -- THEOREMS to cite
 pub mod Theorems
 -- LAWS for the code

@@ -41,7 +41,7 @@ unfolding all-numbers
 numbers-length [] = refl
 numbers-length (e ∷ es) = omega (arith, length-append (numbers e) (all-numbers es), numbers-length es)
 
-rows-whole : (es : List Entry) (l : List ℕ) → length es ≤ 1024 → rows-length ≤ length l → written l 0 (all-numbers es) ≡ rowsOf es l
+pub rows-whole : (es : List Entry) (l : List ℕ) → length es ≤ 1024 → rows-length ≤ length l → written l 0 (all-numbers es) ≡ rowsOf es l
 rows-whole es l h k =
     let n = numbers-length es in
     let b : 0 + length (all-numbers es) ≤ length l = omega (arith, n) in

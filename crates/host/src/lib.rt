@@ -2,22 +2,32 @@
 // operation that it calls.
 ghost use mathlib.Core.Path.{_≡_};
 ghost use Rattle.bundle.specs.Read.{numberOf, verdict};
-ghost use Prim.Native.Nat.{_+_, _<_, _^_};
-ghost use Rattle.host.specs.Answers.{bitOf, kindOf, placeTold, resolvedTold, orderTold, GraphTold, assembleTold};
-ghost use Rattle.assembly.specs.Call.{assembleAnswer, assembleReport, assembleImage};
+ghost use Rattle.steps_c.specs.Steps.{placeTold};
+ghost use Rattle.host.specs.ResolveTold.{kindOf, resolvedTold};
+ghost use Rattle.host.specs.OrderTold.{orderNumberTold, orderReportTold, orderTold};
+ghost use Rattle.host.specs.GraphTold.{graphOf, orderedTold, countTold};
 ghost use Rattle.host.specs.LinkTold.{answerOf, numberTold, reportTold, imageTold, answerTold, rowsTold};
-ghost use Rattle.order.specs.Call.{orderAnswer, orderReport};
+ghost use Rattle.graph.specs.Given.{linearizeGiven};
 ghost use Rattle.resolution.specs.Call.{resolve};
-ghost use lib.ListN.{set, take, length};
-ghost use lib.Seq.{sets};
-ghost use Rattle.names.specs.Keywords.{isKeyword};
-ghost use Rattle.names.specs.Prefix.{startsWith};
 use assembly::Answer;
+use graph::Graph;
+
+mod tree;
 
 // The most units, and the most entries of a tree.
 pub const FILES: usize = bundle::limits::FILES;
 
 pub const ENTRIES: usize = 1024;
+
+// The most units of a graph given directly, and the most ids in its lists.
+pub const UNITS: usize = graph::UNITS;
+
+pub const IDS: usize = graph::IDS;
+
+// Places of a lent tree's two arrays that no entry has one of.
+pub const TREE_OPENED: usize = scopes::OPENED;
+
+pub const TREE_CELLS: usize = scopes::CELLS;
 
 // The layout of `gontsamy_link`'s answer, as specs/LinkTold.antt has it: five numbers, the units' files, the ids in linked order.
 pub const ANSWER_PLACE: usize = 0;
@@ -52,33 +62,10 @@ pub extern "C" fn gontsamy_check(s: &[u8], place: &mut [usize]) -> u8
     match checked {
         bundle::Checked::Ok => 0,
         bundle::Checked::Refused(n, p) => {
-            tell(place, 0, p);
+            steps_c::tell(place, 0, p);
             n
         }
     }
-}
-
-fn bit(b: bool) -> u8
-    ensures { λ r. ⌜ r ≡ bitOf b ⌝ }
-{
-    if b { 1 } else { 0 }
-}
-
-// 1 where the path f lies at or below the path p, else 0. Ruled out: 1 for `/r/payroll` below `/r/pay`; 0 for a path below
-// itself.
-#[no_mangle]
-pub extern "C" fn gontsamy_starts_with(f: &[u8], p: &[u8]) -> u8
-    ensures { λ r. ⌜ r ≡ bitOf (startsWith (now (f .entry)) (now (p .entry))) ⌝ }
-{
-    bit(names::starts_with(f, p))
-}
-
-// 1 where the bytes are a reserved word, else 0. Ruled out: 1 for `pu`; 0 for `simc`.
-#[no_mangle]
-pub extern "C" fn gontsamy_is_keyword(s: &[u8]) -> u8
-    ensures { λ r. ⌜ r ≡ bitOf (isKeyword (now (s .entry))) ⌝ }
-{
-    bit(names::is_keyword(s))
 }
 
 // Resolves a use: 0 for a file and 255 for a folder, with its index in out[0] and the number of segments left in out[1]; or a
@@ -91,144 +78,83 @@ pub extern "C" fn gontsamy_resolve(s: &[u8], importer: &[u8], u: &[u8], out: &mu
     let resolved = resolution::resolve(s, importer, u);
     match resolved {
         resolution::Resolution::File(i, left) => {
-            tell_both(out, i, left);
+            steps_c::tell_both(out, i, left);
             0
         }
         resolution::Resolution::Folder(i, left) => {
-            tell_both(out, i, left);
+            steps_c::tell_both(out, i, left);
             255
         }
         resolution::Resolution::Refused(n, p) => {
-            tell(out, 0, p);
+            steps_c::tell(out, 0, p);
             n
         }
     }
 }
 
-// Stores a number at i, if there is such a place.
-fn tell(out: &mut [usize], i: usize, v: usize)
-    ensures { λ r. ⌜ now (out .exit) ≡ set (now (out .entry)) i v ⌝ }
-{
-    if i < out.len() {
-        out[i] = v;
-    }
-}
-
-fn tell_both(out: &mut [usize], a: usize, b: usize)
-    ensures { λ r. ⌜ now (out .exit) ≡ set (set (now (out .entry)) 0 a) 1 b ⌝ }
-{
-    tell(out, 0, a);
-    tell(out, 1, b);
-}
-
-// Stores the first n of l, as far as there are so many, from `at` on, as far as there are places.
-fn tell_places(out: &mut [usize], at: usize, l: &[usize], n: usize)
-    requires { ⌜ at + length (now l) < 2 ^ 60 ⌝ }
-    ensures { λ r. ⌜ now (out .exit) ≡ sets (now (out .entry)) at (take n (now (l .entry))) ⌝ }
-{
-    let mut i = 0;
-    while i < n {
-        if i >= l.len() {
-            return;
-        }
-        tell(out, at + i, l[i]);
-        i += 1;
-    }
-}
-
-fn wide(x: u16) -> usize
-    ensures { λ r. ⌜ r ≡ x ⌝ }
-{
-    x as usize
-}
-
-fn tell_ids(out: &mut [usize], at: usize, l: &[u16], n: usize)
-    requires { ⌜ at + length (now l) < 2 ^ 60 ⌝ }
-    ensures { λ r. ⌜ now (out .exit) ≡ sets (now (out .entry)) at (take n (now (l .entry))) ⌝ }
-{
-    let mut i = 0;
-    while i < n {
-        if i >= l.len() {
-            return;
-        }
-        tell(out, at + i, wide(l[i]));
-        i += 1;
-    }
-}
-
-// The linked order of a bundle: a number from 1 to 14, with its place in out[0]; or 0 with the report's length in out[0], the
-// number of units in out[1], their files' indices from out[2] on and the linked order from out[66] on. Ruled out: unit 0 alone
-// where the entry imports another file; a byte of the report buffer changed where the number is 14.
+// The linked order of a bundle, steps 1 to 4. 14 and nothing written where `answer` is shorter than ANSWER; otherwise a number from 1
+// to 14, or 0, and in `answer`, laid out as that of `gontsamy_link`, its place, the report's length, how many units there are, their
+// files' indices and the linked order. Ruled out: unit 0 alone where the entry imports another file; a byte of the report buffer changed
+// where the number is 14.
 #[no_mangle]
-pub extern "C" fn gontsamy_order(s: &[u8], report: &mut [u8], out: &mut [usize]) -> u8
-    ensures { λ r. ⌜ r ≡ orderAnswer (now (s .entry)) (now (report .entry)) .number ⌝ }
-    ensures { λ r. ⌜ now (report .exit) ≡ orderReport (now (s .entry)) (now (report .entry)) ⌝ }
-    ensures { λ r. ⌜ now (out .exit) ≡ orderTold (orderAnswer (now (s .entry)) (now (report .entry))) (now (out .entry)) ⌝ }
+pub extern "C" fn gontsamy_order(s: &[u8], report: &mut [u8], answer: &mut [usize]) -> u8
+    ensures { λ r. ⌜ r ≡ orderNumberTold (now (s .entry)) (now (report .entry)) (now (answer .entry)) ⌝ }
+    ensures { λ r. ⌜ now (report .exit) ≡ orderReportTold (now (s .entry)) (now (report .entry)) (now (answer .entry)) ⌝ }
+    ensures { λ r. ⌜ now (answer .exit) ≡ orderTold (now (s .entry)) (now (report .entry)) (now (answer .entry)) ⌝ }
 {
-    let a = order::order(s, report);
-    let number = a.number;
-    if number != 0 {
-        tell(out, 0, a.place);
-        return number;
+    if answer.len() < ANSWER {
+        return 14;
     }
-    tell_both(out, a.report, a.units);
-    tell_places(out, 2, &a.files, a.units);
-    tell_ids(out, 66, &a.ids, a.units);
+    let o = order::order(s, report);
+    let number = o.number;
+    let files = o.files;
+    let ids = o.ids;
+    let a = Answer {
+        number: number,
+        place: o.place,
+        report: o.report,
+        units: o.units,
+        files: files,
+        ids: ids,
+        image: 0,
+    };
+    tell_link(answer, a, 0);
     number
 }
 
-// Steps 1 to 5 and the image: a number from 1 to 15, with its place in out[0]; or 0 with the report's length in out[0], the number
-// of units in out[1], the image's length in out[2], the units' files' indices from out[3] on and the linked order from out[67]
-// on. Ruled out: an image with a report; a byte of the image buffer changed where there is no image.
+// The linked order of a graph given directly: unit u, below `units`, lists the ids from start[u] on, len[u] of them, among the first
+// `count` of ids. 0 and the order, or 26 and a ring: the ids at the start of `ordered`, zeros behind them, and how many they are in
+// `length`; or 3, 1 or 29, and both as they were. Ruled out: the ring `0` for a unit 0 that lists itself; the order `0` alone where unit
+// 0 lists unit 1.
 #[no_mangle]
-pub extern "C" fn gontsamy_assemble(
-    s: &[u8],
-    report: &mut [u8],
-    image: &mut [u8],
-    out: &mut [usize],
+pub extern "C" fn gontsamy_linearize(
+    start: &[u16; UNITS],
+    len: &[u16; UNITS],
+    ids: &[u16; IDS],
+    units: usize,
+    count: usize,
+    ordered: &mut [u16; UNITS],
+    length: &mut usize,
 ) -> u8
-    ensures { λ r. ⌜ r ≡ assembleAnswer (now (s .entry)) (now (report .entry)) (now (image .entry)) .number ⌝ }
-    ensures { λ r. ⌜ now (report .exit) ≡ assembleReport (now (s .entry)) (now (report .entry)) ⌝ }
-    ensures { λ r. ⌜ now (image .exit) ≡ assembleImage (now (s .entry)) (now (image .entry)) ⌝ }
-    ensures { λ r. ⌜ now (out .exit) ≡ assembleTold (assembleAnswer (now (s .entry)) (now (report .entry)) (now (image .entry))) (now (out .entry)) ⌝ }
+    ensures { λ r. ⌜ r ≡ linearizeGiven (graphOf (now (start .entry)) (now (len .entry)) (now (ids .entry)) units count) .number ⌝ }
+    ensures { λ r. ⌜ now (ordered .exit) ≡ orderedTold (linearizeGiven (graphOf (now (start .entry)) (now (len .entry)) (now (ids .entry)) units count)) (now (ordered .entry)) ⌝ }
+    ensures { λ r. ⌜ now (length .exit) ≡ countTold (linearizeGiven (graphOf (now (start .entry)) (now (len .entry)) (now (ids .entry)) units count)) (now (length .entry)) ⌝ }
 {
-    let a = assembly::assemble(s, report, image);
-    let number = a.number;
-    if number != 0 {
-        tell(out, 0, a.place);
-        return number;
+    let l = graph::linearize_given(Graph {
+        start: *start,
+        len: *len,
+        ids: *ids,
+        units: units,
+        count: count,
+    });
+    let number = l.number;
+    let told = l.count;
+    if told != 0 {
+        let given = l.ids;
+        *ordered = given;
+        *length = told;
     }
-    tell_both(out, a.report, a.units);
-    tell(out, 2, a.image);
-    tell_places(out, 3, &a.files, a.units);
-    tell_ids(out, 67, &a.ids, a.units);
     number
-}
-
-// The graph of a bundle: a number from 1 to 13, with its place in out[0]; or 0 with the number of units in out[0], their files'
-// indices from out[1] on, where their lists start among the ids from out[65] on, how long they are from out[129] on, and the
-// ids from out[193] on. Ruled out: a list with an id twice; a unit that nothing reached imports.
-#[no_mangle]
-pub extern "C" fn gontsamy_discover(s: &[u8], out: &mut [usize]) -> u8
-    ensures { λ r. ⌜ r ≡ numberOf (verdict (now (s .entry))) ⌝ }
-    ensures { λ r. ⌜ GraphTold (now (s .entry)) (now (out .entry)) (now (out .exit)) ⌝ }
-{
-    let checked = bundle::check(s);
-    match checked {
-        bundle::Checked::Refused(n, p) => {
-            tell(out, 0, p);
-            n
-        }
-        bundle::Checked::Ok => {
-            let g = discovery::discover_dependencies(s);
-            tell(out, 0, g.units);
-            tell_places(out, 1, &g.files, g.units);
-            tell_ids(out, 65, &g.start, g.units);
-            tell_ids(out, 129, &g.len, g.units);
-            tell_ids(out, 193, &g.ids, g.count);
-            0
-        }
-    }
 }
 
 // What `gontsamy_link` tells of an answer and of how many entries the tree has.
@@ -236,13 +162,13 @@ fn tell_link(answer: &mut [usize], a: Answer, entries: usize)
     ensures { λ r. ⌜ now (answer .exit) ≡ answerOf a entries (now (answer .entry)) ⌝ }
 {
     let units = a.units;
-    tell(answer, ANSWER_PLACE, a.place);
-    tell(answer, ANSWER_REPORT, a.report);
-    tell(answer, ANSWER_UNITS, units);
-    tell(answer, ANSWER_IMAGE, a.image);
-    tell(answer, ANSWER_ENTRIES, entries);
-    tell_places(answer, ANSWER_FILES, &a.files, units);
-    tell_ids(answer, ANSWER_IDS, &a.ids, units);
+    steps_c::tell(answer, ANSWER_PLACE, a.place);
+    steps_c::tell(answer, ANSWER_REPORT, a.report);
+    steps_c::tell(answer, ANSWER_UNITS, units);
+    steps_c::tell(answer, ANSWER_IMAGE, a.image);
+    steps_c::tell(answer, ANSWER_ENTRIES, entries);
+    steps_c::tell_places(answer, ANSWER_FILES, &a.files, units);
+    steps_c::tell_ids(answer, ANSWER_IDS, &a.ids, units);
 }
 
 // A bundle linked, steps 1 to 6. 14 and nothing written where `answer` is shorter than ANSWER or `rows` than ROWS; otherwise a number
@@ -273,7 +199,18 @@ pub extern "C" fn gontsamy_link(
     let l = linker::link(s, report, image, scopes::empty());
     let a = l.answer;
     let number = a.number;
-    let entries = scopes_c::put_tree(l.tree, rows);
+    let entries = scopes_c::put_rows(
+        &l.tree.opened,
+        &l.tree.cells,
+        &l.tree.visible,
+        &l.tree.scopes,
+        &l.tree.marks,
+        &l.tree.n0,
+        &l.tree.n1,
+        &l.tree.n2,
+        &l.tree.n3,
+        rows,
+    );
     tell_link(answer, a, entries);
     number
 }

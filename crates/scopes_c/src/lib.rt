@@ -444,30 +444,41 @@ fn put_row(
 // A tree's entries, eleven numbers each: kind, visibility, scope, mark, origin, what a copy shows (a scope and a time), and the
 // name's four words; as far as there is place. Gives how many entries there are. Ruled out: an entry left out; a copy that shows a
 // later time.
-pub fn put_tree(t: Tree, out: &mut [u64]) -> usize
-    requires { ⌜ getD (t .opened) 9 0 ≤ 1024 ⌝ }
-    ensures { λ r. ⌜ Listed (flat-of t .entries) (now (out .entry)) r (now (out .exit)) ⌝ }
+pub fn put_rows<'a>(
+    opened: &'a [u16; OPENED],
+    cells: &'a [u16; CELLS],
+    visible: &'a [u8; 1024],
+    scopes: &'a [u16; 1024],
+    marks: &'a [u16; 1024],
+    n0: &'a [u64; 1024],
+    n1: &'a [u64; 1024],
+    n2: &'a [u64; 1024],
+    n3: &'a [u64; 1024],
+    out: &mut [u64],
+) -> usize
+    requires { ⌜ getD (now opened) 9 0 ≤ 1024 ⌝ }
+    ensures { λ r. ⌜ Listed (flat-of (packed-in (now (opened .entry)) (now (cells .entry)) (now (visible .entry)) (now (scopes .entry)) (now (marks .entry)) (now (n0 .entry)) (now (n1 .entry)) (now (n2 .entry)) (now (n3 .entry))) .entries) (now (out .entry)) r (now (out .exit)) ⌝ }
 {
-    let count = scopes::count_of(&t.opened);
+    let count = scopes::count_of(opened);
     let mut i: usize = 0;
     while i < count {
         let n = Name {
-            w0: t.n0[i],
-            w1: t.n1[i],
-            w2: t.n2[i],
-            w3: t.n3[i],
+            w0: n0[i],
+            w1: n1[i],
+            w2: n2[i],
+            w3: n3[i],
         };
-        let kind = scopes::kind_at(&t.cells, i);
-        let origin = scopes::origin_at(&t.cells, i);
-        let target = scopes::target_at(&t.cells, i);
-        let time = scopes::time_at(&t.cells, i);
+        let kind = scopes::kind_at(cells, i);
+        let origin = scopes::origin_at(cells, i);
+        let target = scopes::target_at(cells, i);
+        let time = scopes::time_at(cells, i);
         put_row(
             out,
             i * 11,
             kind,
-            t.visible[i],
-            t.scopes[i],
-            t.marks[i],
+            visible[i],
+            scopes[i],
+            marks[i],
             origin,
             target,
             time,
@@ -478,12 +489,23 @@ pub fn put_tree(t: Tree, out: &mut [u64]) -> usize
     i
 }
 
-// The tree that the calls leave, as `put_tree` writes it. Ruled out: an entry of a refused call.
+// The tree that the calls leave, as `put_rows` writes it. Ruled out: an entry of a refused call.
 #[no_mangle]
 pub extern "C" fn scopes_rows(s: &[u8], out: &mut [u64]) -> usize
     ensures { λ r. ⌜ Listed (left-tree (now (s .entry)) .entries) (now (out .entry)) r (now (out .exit)) ⌝ }
 {
     let mut none = [0u32; 1];
     let r = replayed(s, &mut none);
-    put_tree(r.tree, out)
+    put_rows(
+        &r.tree.opened,
+        &r.tree.cells,
+        &r.tree.visible,
+        &r.tree.scopes,
+        &r.tree.marks,
+        &r.tree.n0,
+        &r.tree.n1,
+        &r.tree.n2,
+        &r.tree.n3,
+        out,
+    )
 }

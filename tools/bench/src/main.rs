@@ -1,10 +1,10 @@
 //! `bench`: a whole link, by the proved code and by the original, in instructions. Both sides are in this
 //! program; `bench table` runs it under callgrind, which counts inside one function.
 
-#[cfg(all(host, original))]
+#[cfg(original)]
 mod measure;
 
-#[cfg(all(host, original))]
+#[cfg(original)]
 fn main() -> std::process::ExitCode {
     let arguments: Vec<String> = std::env::args().skip(1).collect();
     let arguments: Vec<&str> = arguments.iter().map(String::as_str).collect();
@@ -30,8 +30,8 @@ fn main() -> std::process::ExitCode {
     }
 }
 
-#[cfg(not(all(host, original)))]
+#[cfg(not(original))]
 fn main() -> std::process::ExitCode {
-    eprintln!("bench: target/staticlib/libhost.a or the original is missing: run tools/bench.sh");
+    eprintln!("bench: built without the original's sources (docs/ORACLE.md)");
     std::process::ExitCode::FAILURE
 }

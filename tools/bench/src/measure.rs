@@ -4,32 +4,13 @@ use std::hint::black_box;
 use std::process::{Command, Stdio};
 
 use bundle_generate::{case, shape, CASES};
+use gontsamy::layout::{ANSWER, ANSWER_REPORT, ROWS};
 
 /// Large copies by vector instructions: valgrind counts `rep movsb` by the byte.
 const TUNABLES: &str = "glibc.cpu.x86_rep_movsb_threshold=100000000:\
                         glibc.cpu.x86_rep_stosb_threshold=100000000";
 /// The seeds of the original's hash maps differ from link to link.
 const TIMES: u64 = 10;
-
-extern "C" {
-    fn gontsamy_link(
-        s: *const u8,
-        s_len: usize,
-        report: *mut u8,
-        report_len: usize,
-        image: *mut u8,
-        image_len: usize,
-        answer: *mut usize,
-        answer_len: usize,
-        rows: *mut u64,
-        rows_len: usize,
-    ) -> u8;
-}
-
-/// The lengths and the place that crates/host/src/lib.rt names so.
-const ANSWER: usize = 133;
-const ANSWER_REPORT: usize = 1;
-const ROWS: usize = 11264;
 
 /// What is counted of the port: the whole link from bytes, with answer, tree and image. Says whether it
 /// linked.
@@ -42,21 +23,7 @@ pub fn bench_linked(
     answer: &mut [usize],
     rows: &mut [u64],
 ) -> bool {
-    // SAFETY: the pointers are those of slices that live over the call, with their lengths.
-    let number = unsafe {
-        gontsamy_link(
-            bytes.as_ptr(),
-            bytes.len(),
-            report.as_mut_ptr(),
-            report.len(),
-            image.as_mut_ptr(),
-            image.len(),
-            answer.as_mut_ptr(),
-            answer.len(),
-            rows.as_mut_ptr(),
-            rows.len(),
-        )
-    };
+    let number = gontsamy::exports::link(bytes, report, image, answer, rows);
     number == 0 && answer[ANSWER_REPORT] == 0
 }
 

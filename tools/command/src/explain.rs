@@ -8,7 +8,9 @@ pub enum Example {
     Text(&'static str, usize),
     /// A bundle's bytes in hexadecimal, and the place told.
     Bytes(&'static str, usize),
-    /// No small bundle tells it: what does.
+    /// No bundle tells it: a call that does, in words and as a function.
+    Call(&'static str, fn() -> u8),
+    /// No small bundle tells it: what does. tests/limits.rs of the crate has it.
     Words(&'static str),
 }
 
@@ -30,6 +32,33 @@ macro_rules! main_with {
             "}\n"
         )
     };
+}
+
+/// 29: the bundle lists one file, and another imports.
+fn unlisted_importer() -> u8 {
+    let mut bytes = [0; 64];
+    let bundle = gontsamy::Builder::new(&mut bytes, b"/").and_then(|mut builder| {
+        builder.file(b"/m.simf")?;
+        builder.finish()
+    });
+    let bundle = bundle.expect("the bundle is small");
+    match gontsamy::resolve(bundle, b"/a.simf", b"\x02\x05crate\x01b") {
+        Err((number, 0)) => number.0,
+        _ => 0,
+    }
+}
+
+/// 40: no use of a linked bundle lacks the word, since its path was rewritten.
+fn use_of_no_crate() -> u8 {
+    let mut tree = Box::new(gontsamy::Tree::new());
+    let told = tree.resolve_use(b"\x02\x03lib\x01a\x01\x01f\x00", false);
+    told.map_or_else(|number| number.0, |()| 0)
+}
+
+/// 50: a bundle's modules are closed where they end.
+fn exit_at_the_root() -> u8 {
+    let mut tree = Box::new(gontsamy::Tree::new());
+    tree.exit().map_or_else(|number| number.0, |()| 0)
 }
 
 /// An example for each number.
@@ -139,8 +168,17 @@ pub const EXAMPLES: &[(u8, Example)] = &[
         28,
         Example::Text(main_with!("    use crate::a::{Side}\n", "    pub enum Side\n"), 68),
     ),
-    (29, Example::Words("a resolution call with an importer that the bundle doesn't list")),
-    (40, Example::Words("a tree call with the path `lib::a`")),
+    (
+        29,
+        Example::Call(
+            "`resolve` of `crate::b` for the importer `/a.simf` in a bundle whose one file is `/m.simf`",
+            unlisted_importer,
+        ),
+    ),
+    (
+        40,
+        Example::Call("`resolve_use` of `lib::a::{f}` on an empty tree", use_of_no_crate),
+    ),
     (
         41,
         Example::Text(main_with!("    use crate::a::m::{f}\n", "    pub fn f\n"), 36),
@@ -165,7 +203,7 @@ pub const EXAMPLES: &[(u8, Example)] = &[
     (47, Example::Text(main_with!("    mod m { }\n    mod m { }\n"), 42)),
     (48, Example::Text(main_with!("    type T\n    enum T\n"), 42)),
     (49, Example::Text(main_with!("    fn f\n    fn f\n"), 42)),
-    (50, Example::Words("a tree call that exits where no module is open")),
+    (50, Example::Call("`exit` on an empty tree", exit_at_the_root)),
     (51, Example::Words("an entry with 1,024 functions: with its unit they are 1,025 entries")),
 ];
 
@@ -187,6 +225,9 @@ pub fn page(number: u8) -> Option<String> {
             }
             Example::Bytes(hex, place) => {
                 out += &format!("    the bytes {hex}\ntell `no {number} {place}`\n");
+            }
+            Example::Call(words, call) => {
+                out += &format!("    {words}\ntells `no {} 0`\n", call());
             }
             Example::Words(words) => out += &format!("    {words}\n"),
         }
@@ -215,6 +256,9 @@ pub fn pages() -> String {
             }
             Example::Bytes(hex, place) => {
                 out += &format!("The bytes `{hex}` tell `no {} {place}`.\n", meaning.number);
+            }
+            Example::Call(words, call) => {
+                out += &format!("{words} tells `no {} 0`.\n", call());
             }
             Example::Words(words) => out += &format!("{words}.\n"),
         }
@@ -267,6 +311,7 @@ mod tests {
                     (told(&card.bytes), *place)
                 }
                 Example::Bytes(hex, place) => (told(&bytes_of(hex)), *place),
+                Example::Call(_, call) => ((call(), 0), 0),
                 Example::Words(_) => continue,
             };
             if answer != (number, place) {

@@ -79,7 +79,7 @@ fn port_difference(bytes: &[u8], expected: &Told) -> Option<String> {
             }
             _ => expected.clone(),
         };
-        let found = crate::host::assemble(bytes, &mut report, &mut image);
+        let found = crate::steps::assemble(bytes, &mut report, &mut image);
         if found != answer {
             return Some(format!(
                 "{answer:?} expected with {lent_report} and {lent_image} bytes, {found:?} found"

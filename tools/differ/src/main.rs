@@ -2,20 +2,14 @@
 //! many inputs. Every difference is printed with its input; the exit status tells whether there was
 //! one.
 
-#[cfg(host)]
 mod assemble;
-#[cfg(host)]
 mod bundles;
-#[cfg(host)]
 mod host;
-#[cfg(host)]
 mod names;
-#[cfg(host)]
 mod order;
-#[cfg(host)]
+mod steps;
 mod uses;
 
-#[cfg(host)]
 fn main() -> std::process::ExitCode {
     let arguments: Vec<String> = std::env::args().skip(1).collect();
     let arguments: Vec<&str> = arguments.iter().map(String::as_str).collect();
@@ -110,7 +104,6 @@ fn main() -> std::process::ExitCode {
     }
 }
 
-#[cfg(host)]
 fn usage() -> std::process::ExitCode {
     eprintln!(
         "usage: differ bundles SEED COUNT    generated bundles\n\
@@ -131,10 +124,4 @@ fn usage() -> std::process::ExitCode {
          \x20      differ stacks                the stack of discovery and order"
     );
     std::process::ExitCode::from(2)
-}
-
-#[cfg(not(host))]
-fn main() -> std::process::ExitCode {
-    eprintln!("differ: target/staticlib/libhost.a is missing: run `rt staticlib host` in the project's folder and build again");
-    std::process::ExitCode::FAILURE
 }

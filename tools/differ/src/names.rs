@@ -6,7 +6,7 @@ use std::path::Path;
 
 use bundle_generate::rng::Rng;
 
-use crate::host;
+use crate::steps;
 
 /// lexer.rs, `KEYWORDS`.
 const KEYWORDS: &[&str] = &[
@@ -48,8 +48,8 @@ fn inputs(seed: u64, count: u64) -> Vec<(Vec<u8>, Vec<u8>)> {
 pub fn compare(seed: u64, count: u64) -> u64 {
     let mut differences = 0;
     for (f, p) in inputs(seed, count) {
-        differences += u64::from(starts_with(&f, &p) != host::starts_with(&f, &p));
-        differences += u64::from(is_keyword(&f[1..]) != host::is_keyword(&f[1..]));
+        differences += u64::from(starts_with(&f, &p) != steps::starts_with(&f, &p));
+        differences += u64::from(is_keyword(&f[1..]) != steps::is_keyword(&f[1..]));
     }
     println!("{count} inputs, {differences} differences");
     differences
@@ -61,7 +61,7 @@ pub fn measure(who: &str, times: u64) -> u64 {
     type Prefix = fn(&[u8], &[u8]) -> bool;
     type Keyword = fn(&[u8]) -> bool;
     let (starts_with, is_keyword): (Prefix, Keyword) = match who {
-        "port" => (host::starts_with, host::is_keyword),
+        "port" => (steps::starts_with, steps::is_keyword),
         "original" => (starts_with, is_keyword),
         _ => return 1,
     };

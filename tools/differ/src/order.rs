@@ -64,7 +64,7 @@ fn port_difference(bytes: &[u8], model: &Discovered) -> Option<String> {
         Discovered::Refused(refusal) => Err((refusal.number, refusal.place)),
         Discovered::Graph { files, lists, .. } => Ok((files.clone(), lists.clone())),
     };
-    let found = crate::host::discover(bytes);
+    let found = crate::steps::discover(bytes);
     if found != graph {
         return Some(format!("{graph:?} expected, {found:?} found"));
     }

@@ -12,6 +12,11 @@ pub const REPORT: usize = 4_096;
 /// Bytes that hold every image.
 pub const IMAGE: usize = 65_538;
 
+/// The most units of a graph given directly.
+pub const UNITS: usize = 64;
+/// The most ids in all of its lists.
+pub const IDS: usize = 256;
+
 /// An answer: the place of a refusal.
 pub const ANSWER_PLACE: usize = 0;
 /// The length of the report.
@@ -49,3 +54,8 @@ pub const ROW_NAME: usize = 7;
 pub const ROW: usize = 11;
 /// Numbers of the rows of every tree.
 pub const ROWS: usize = ROW * ENTRIES;
+
+/// The arrays of a tree that are no entry's own: the open modules, and cells.
+pub const TREE_OPENED: usize = 11;
+/// What the entries and the index have in one array.
+pub const TREE_CELLS: usize = 6_144;

@@ -27,15 +27,19 @@
 #![deny(missing_docs)]
 
 mod builder;
-mod ffi;
+pub mod exports;
+mod graph;
 mod image;
 pub mod layout;
 mod number;
 mod parts;
+mod tree;
 
 pub use builder::{BuildError, Builder};
+pub use graph::{linearize, Graph, Ids, Linearized};
 pub use image::{Body, Element, Elements, Item, Items, Strings};
 pub use number::{Meaning, Number, MEANINGS};
+pub use tree::Tree;
 
 use layout::*;
 
@@ -162,20 +166,24 @@ impl Entry {
     }
 }
 
+/// The units of an answer in linked order.
+fn units<'a>(bundle: &'a [u8], answer: &'a [usize; ANSWER]) -> impl Iterator<Item = Unit<'a>> + 'a {
+    let count = answer[ANSWER_UNITS].min(FILES);
+    answer[ANSWER_IDS..ANSWER_IDS + count]
+        .iter()
+        .map(move |&id| Unit {
+            id,
+            path: answer
+                .get(ANSWER_FILES + id)
+                .and_then(|&file| parts::file_path(bundle, file))
+                .unwrap_or_default(),
+        })
+}
+
 impl<'a> Linked<'a> {
     /// The units in linked order: each after every other that it imports.
     pub fn units(&self) -> impl Iterator<Item = Unit<'a>> + 'a {
-        let Linked { bundle, answer, .. } = *self;
-        let count = answer[ANSWER_UNITS].min(FILES);
-        answer[ANSWER_IDS..ANSWER_IDS + count]
-            .iter()
-            .map(move |&id| Unit {
-                id,
-                path: answer
-                    .get(ANSWER_FILES + id)
-                    .and_then(|&file| parts::file_path(bundle, file))
-                    .unwrap_or_default(),
-            })
+        units(self.bundle, self.answer)
     }
 
     /// The image: the linked program as bytes.
@@ -220,6 +228,18 @@ fn entry(row: &[u64]) -> Entry {
     }
 }
 
+/// What a number and an answer refuse.
+fn refused<'a>(number: u8, answer: &[usize; ANSWER], report: &'a [u8]) -> Option<Refusal<'a>> {
+    if number != 0 {
+        return Some(Refusal::At(Number(number), answer[ANSWER_PLACE]));
+    }
+    if answer[ANSWER_REPORT] != 0 {
+        let bytes = report.get(..answer[ANSWER_REPORT]).unwrap_or_default();
+        return Some(Refusal::Report(Records { bytes }));
+    }
+    None
+}
+
 /// Links a bundle: units, order, image and tree, or the refusal.
 pub fn link<'a>(bundle: &'a [u8], buffers: &'a mut Buffers) -> Result<Linked<'a>, Refusal<'a>> {
     let Buffers {
@@ -228,14 +248,10 @@ pub fn link<'a>(bundle: &'a [u8], buffers: &'a mut Buffers) -> Result<Linked<'a>
         answer,
         rows,
     } = buffers;
-    let number = ffi::link(bundle, report, image, answer, rows);
+    let number = exports::link(bundle, report, image, answer, rows);
     let answer: &'a [usize; ANSWER] = answer;
-    if number != 0 {
-        return Err(Refusal::At(Number(number), answer[ANSWER_PLACE]));
-    }
-    if answer[ANSWER_REPORT] != 0 {
-        let bytes = report.get(..answer[ANSWER_REPORT]).unwrap_or_default();
-        return Err(Refusal::Report(Records { bytes }));
+    if let Some(refusal) = refused(number, answer, report) {
+        return Err(refusal);
     }
     Ok(Linked {
         bundle,
@@ -245,10 +261,56 @@ pub fn link<'a>(bundle: &'a [u8], buffers: &'a mut Buffers) -> Result<Linked<'a>
     })
 }
 
+/// The units of a bundle in linked order: what `link` answers after its steps 1 to 4, without assembly and tree.
+///
+/// ```
+/// use gontsamy::{order, Builder, Buffers};
+///
+/// let mut bytes = [0; 64];
+/// let mut builder = Builder::new(&mut bytes, b"/").unwrap();
+/// builder.file(b"/main.simf").unwrap();
+/// let bundle = builder.finish().unwrap();
+/// let mut buffers = Buffers::new();
+/// let units: Vec<_> = order(bundle, &mut buffers).unwrap().collect();
+/// assert_eq!((units.len(), units[0].path), (1, b"/main.simf".as_slice()));
+/// ```
+pub fn order<'a>(
+    bundle: &'a [u8],
+    buffers: &'a mut Buffers,
+) -> Result<impl Iterator<Item = Unit<'a>> + 'a, Refusal<'a>> {
+    let Buffers { report, answer, .. } = buffers;
+    let number = exports::order(bundle, report, answer);
+    let answer: &'a [usize; ANSWER] = answer;
+    match refused(number, answer, report) {
+        Some(refusal) => Err(refusal),
+        None => Ok(units(bundle, answer)),
+    }
+}
+
 /// Tests a bundle by 1 to 13 alone.
 pub fn check(bundle: &[u8]) -> Result<(), (Number, usize)> {
-    match ffi::check(bundle) {
-        (0, _) => Ok(()),
-        (number, place) => Err((Number(number), place)),
+    let mut place = [0];
+    match exports::check(bundle, &mut place) {
+        0 => Ok(()),
+        number => Err((Number(number), place[0])),
+    }
+}
+
+/// What a use resolves to.
+#[derive(Clone, Copy, Debug, PartialEq, Eq)]
+pub enum Resolved {
+    /// The file of that place among the bundle's files, and how many of the last segments are left.
+    File(usize, usize),
+    /// The same of a folder, which can't be read as a file.
+    Folder(usize, usize),
+}
+
+/// What a use of a listed file resolves to. `decl` is in the bundle's form: a count of segments, and the segments.
+pub fn resolve(bundle: &[u8], importer: &[u8], decl: &[u8]) -> Result<Resolved, (Number, usize)> {
+    let mut out = [0; 2];
+    match exports::resolve(bundle, importer, decl, &mut out) {
+        0 => Ok(Resolved::File(out[0], out[1])),
+        255 => Ok(Resolved::Folder(out[0], out[1])),
+        number => Err((Number(number), out[0])),
     }
 }

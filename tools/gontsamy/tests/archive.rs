@@ -109,3 +109,23 @@ fn host_in_c() {
     std::fs::remove_file(&bundle).unwrap();
     std::fs::remove_file(&program).unwrap();
 }
+
+/// The host in C that fills a tree.
+#[test]
+fn tree_in_c() {
+    let program = scratch("tree");
+    compile(
+        &["cc", "-std=c11", "-O1"],
+        &root().join("examples/hosts/tree.c"),
+        &program,
+    );
+    let output = Command::new(&program).output().unwrap();
+    assert_eq!(
+        String::from_utf8_lossy(&output.stdout),
+        "enter 0\nfunction 0\nfunction again 49\ntype 0\nenum 0\nexit 0\nexit at the root 50\nuse 0\n\
+         use of no crate 40\nuse of a private type 44\nget function 0 11\nget type 43\nrows 0 5\n\
+         3 in 0 from 0, mark 10\n2 in 1 from 0, mark 11\n1 in 1 from 0, mark 13\n\
+         1 in 1 from 0, mark 14\n2 in 0 from 2, mark 11\n"
+    );
+    std::fs::remove_file(&program).unwrap();
+}

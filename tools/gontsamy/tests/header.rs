@@ -80,20 +80,40 @@ fn constants(text: &str, outside: &BTreeMap<String, usize>) -> BTreeMap<String, 
     constants
 }
 
+/// The constants of the proved crates by their paths, `bundle::limits::FILES`; a plain number each.
+fn limits() -> BTreeMap<String, usize> {
+    let mut limits = BTreeMap::new();
+    for folder in std::fs::read_dir(root().join("crates")).unwrap() {
+        let folder = folder.unwrap().path();
+        let Ok(files) = std::fs::read_dir(folder.join("src")) else {
+            continue;
+        };
+        let krate = folder.file_name().unwrap().to_str().unwrap().to_string();
+        for file in files {
+            let file = file.unwrap().path();
+            let module = file.file_stem().unwrap().to_str().unwrap();
+            let text = std::fs::read_to_string(&file).unwrap();
+            for (name, value) in constants(&text, &BTreeMap::new()) {
+                let path = match module {
+                    "lib" | "main" => format!("{krate}::{name}"),
+                    _ => format!("{krate}::{module}::{name}"),
+                };
+                limits.insert(path, value);
+            }
+        }
+    }
+    limits
+}
+
 #[test]
 fn layouts() {
     let header = header();
     let crate_constants = constants(&read("tools/gontsamy/src/layout.rs"), &BTreeMap::new());
-    assert!(crate_constants.len() >= 20, "{crate_constants:?}");
+    assert!(crate_constants.len() >= 24, "{crate_constants:?}");
     for (name, value) in &crate_constants {
         assert_eq!(header.get(name), Some(value), "{name}");
     }
-    let limits = constants(&read("crates/bundle/src/limits.rt"), &BTreeMap::new());
-    let limits = limits
-        .into_iter()
-        .map(|(name, value)| (format!("bundle::limits::{name}"), value))
-        .collect();
-    let exports = constants(&read("crates/host/src/lib.rt"), &limits);
+    let exports = constants(&read("crates/host/src/lib.rt"), &limits());
     for name in [
         "FILES",
         "ENTRIES",
@@ -107,6 +127,10 @@ fn layouts() {
         "ANSWER",
         "ROW",
         "ROWS",
+        "UNITS",
+        "IDS",
+        "TREE_OPENED",
+        "TREE_CELLS",
     ] {
         assert_eq!(exports.get(name), header.get(name), "{name} of crates/host");
     }
@@ -125,17 +149,19 @@ fn numbers() {
     }
 }
 
-/// Every function of the header is an export of the proved crate, with as many lent parts.
+/// Every function of the header is an export of the proved crate, with as many lent parts, and every export is in the header. A
+/// function that the header defines itself calls one.
 #[test]
 fn exports() {
-    let header = read("include/gontsamy.h").replace('\n', " ");
-    let source = read("crates/host/src/lib.rt").replace('\n', " ");
-    let mut count = 0;
-    for part in header.split("uint8_t gontsamy_").skip(1) {
+    let header = read("include/gontsamy.h");
+    let mut source = read("crates/host/src/lib.rt");
+    source += &read("crates/host/src/tree.rt");
+    let mut declared = Vec::new();
+    for part in header.split("\nuint8_t gontsamy_").skip(1) {
         let name = part.split('(').next().unwrap_or_default();
         let arguments = part.split(')').next().unwrap_or_default();
         let export = source
-            .split(&format!("pub extern \"C\" fn gontsamy_{name}("))
+            .split(&format!("pub extern \"C\" fn gontsamy_{name}"))
             .nth(1)
             .unwrap_or_else(|| panic!("gontsamy_{name} is no export"));
         let lent = export
@@ -145,11 +171,23 @@ fn exports() {
             .matches('&')
             .count();
         assert_eq!(arguments.matches('*').count(), lent, "gontsamy_{name}");
-        count += 1;
+        declared.push(name);
     }
-    assert_eq!(count, 3);
-    assert!(
-        !header.contains("gontsamy_assemble"),
-        "it does not test visibility"
-    );
+    for part in source.split("pub extern \"C\" fn gontsamy_").skip(1) {
+        let name = part.split(['(', '<']).next().unwrap_or_default();
+        assert!(declared.contains(&name), "gontsamy_{name} is in no header");
+    }
+    assert_eq!(declared.len(), 14);
+    for name in declared {
+        let inline = format!("static inline uint8_t gontsamy_tree_{name}(");
+        let Some(body) = header.split(&inline).nth(1) else {
+            continue;
+        };
+        let called = format!("return gontsamy_{name}(tree->opened, tree->cells,");
+        assert!(
+            body.split('}').next().unwrap_or_default().contains(&called),
+            "{name}"
+        );
+    }
+    assert_eq!(header.matches("static inline").count(), 9);
 }

@@ -1,24 +1,24 @@
 //! `scopes-diff SEED LISTS`: lists of tree calls, made by the proved code and by the original:
 //! every answer, and the tree written out.
 
-#[cfg(all(host, original))]
+#[cfg(original)]
 mod bench;
-#[cfg(all(host, original))]
+#[cfg(original)]
 mod calls;
-#[cfg(all(host, original))]
+#[cfg(original)]
 mod compare;
-#[cfg(all(host, original))]
+#[cfg(original)]
 mod cover;
-#[cfg(all(host, original))]
+#[cfg(original)]
 mod lists;
-#[cfg(all(host, original))]
+#[cfg(original)]
 mod port;
-#[cfg(all(host, original))]
+#[cfg(original)]
 mod register;
-#[cfg(all(host, original))]
+#[cfg(original)]
 mod vectors;
 
-#[cfg(all(host, original))]
+#[cfg(original)]
 fn main() -> std::process::ExitCode {
     /// Modules copied into modules nest deeper than the stack of a main thread may hold.
     const STACK: usize = 256 << 20;
@@ -26,7 +26,7 @@ fn main() -> std::process::ExitCode {
     run.expect("a thread").join().expect("no panic")
 }
 
-#[cfg(all(host, original))]
+#[cfg(original)]
 fn run() -> std::process::ExitCode {
     use std::process::ExitCode;
     let arguments: Vec<String> = std::env::args().skip(1).collect();
@@ -89,7 +89,7 @@ fn run() -> std::process::ExitCode {
     }
 }
 
-#[cfg(all(host, original))]
+#[cfg(original)]
 fn usage() -> std::process::ExitCode {
     eprintln!(
         "usage: scopes-diff SEED LISTS        lists of calls, and what they cover\n\
@@ -104,13 +104,8 @@ fn usage() -> std::process::ExitCode {
     std::process::ExitCode::from(2)
 }
 
-#[cfg(not(all(host, original)))]
+#[cfg(not(original))]
 fn main() -> std::process::ExitCode {
-    if cfg!(not(host)) {
-        eprintln!("scopes-diff: target/staticlib/libscopes_c.a is missing: run `rt staticlib scopes_c` in the project's folder and build again");
-    }
-    if cfg!(not(original)) {
-        eprintln!("scopes-diff: the original Rust is missing: see docs/ORACLE.md");
-    }
+    eprintln!("scopes-diff: the original Rust is missing: see docs/ORACLE.md");
     std::process::ExitCode::FAILURE
 }

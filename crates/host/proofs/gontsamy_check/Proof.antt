@@ -1,6 +1,6 @@
 -- `host::gontsamy_check` meets its contract. Assumes nothing.
 use mathlib.Core.Path.{sym, _∙_}
-use Rattle.host.specs.Answers.{told-ok, told-refused}
+use Rattle.steps_c.specs.Steps.{told-ok, told-refused}
 use borrow.Author.Needs.{needs}
 use Rattle.host.proofs.gontsamy_check.Statement.{statement}
 use Rattle.host.proofs.gontsamy_check.Tie as tie

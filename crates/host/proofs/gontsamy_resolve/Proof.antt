@@ -1,6 +1,6 @@
 -- `host::gontsamy_resolve` meets its contract. Assumes nothing.
 use mathlib.Core.Path.{sym, _∙_}
-use Rattle.host.specs.Answers.{told-file, told-folder, told-fault}
+use Rattle.host.specs.ResolveTold.{told-file, told-folder, told-fault}
 use borrow.Author.Needs.{needs}
 use Rattle.host.proofs.gontsamy_resolve.Statement.{statement}
 use Rattle.host.proofs.gontsamy_resolve.Tie as tie

@@ -1,10 +1,10 @@
--- `scopes_rows` meets its contract. Assumes nothing.
-use mathlib.Core.Path.{ap}
 use borrow.Author.Needs.{needs}
-use Rattle.scope_tree.specs.Flat.{Flat}
-use Rattle.scopes_c.specs.TreeRows.{listed-as}
+use native.Mathlib.Omega.{arith}
 use Rattle.scopes_c.proofs.scopes_rows.Statement.{statement}
 use Rattle.scopes_c.proofs.scopes_rows.Tie as tie
+use mathlib.Core.Path.{ap}
+use Rattle.scope_tree.specs.Flat.{Flat}
+use Rattle.scopes_c.specs.TreeRows.{listed-as}
 
 slice-aggregate-replayed : tie.Need-slice-aggregate-replayed
 slice-aggregate-replayed c = search needs
@@ -12,14 +12,14 @@ slice-aggregate-replayed c = search needs
 replayed-requires : tie.Need-replayed-requires
 replayed-requires c κs = search needs
 
-put-tree-requires : tie.Need-put-tree-requires
-put-tree-requires c κs = c .before .before .replayed .ensures .good .good .small
+put-rows-requires : tie.Need-put-rows-requires
+put-rows-requires c κs = (c .before .before .before .before .before .before .before .before .before .before .before .before .replayed) .ensures .good .good .small
 
 same-length : tie.Need-same-length
 same-length c = search needs
 
 returns : tie.Need-returns
-returns c = listed-as _ _ (ap (λ (x : Flat). x .entries) (c .before .before .before .before .before .replayed .ensures .tree)) _ _ _ (c .before .before .put-tree .ensures)
+returns c = listed-as _ _ (ap (λ (x : Flat). x .entries) ((c .before .before .before .before .before .before .before .before .before .before .before .before .before .before .before .replayed) .ensures .tree)) _ _ _ ((c .before .before .put-rows) .ensures)
 
 pub scopes-rows-spec : {M : Type 1} → statement M
-scopes-rows-spec = tie.close (tie.spec slice-aggregate-replayed replayed-requires put-tree-requires same-length returns)
+scopes-rows-spec = tie.close (tie.spec slice-aggregate-replayed replayed-requires put-rows-requires same-length returns)

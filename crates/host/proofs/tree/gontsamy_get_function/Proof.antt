@@ -1,0 +1,20 @@
+use borrow.Author.Needs.{needs}
+use native.Mathlib.Omega.{arith}
+use Rattle.host.proofs.tree.gontsamy_get_function.Statement.{statement}
+use Rattle.host.proofs.tree.gontsamy_get_function.Tie as tie
+use Rattle.host.specs.TreeTold.{found-told}
+
+get-function-requires : tie.Need-get-function-requires
+get-function-requires c κs = search needs
+
+tell-found-requires : tie.Need-tell-found-requires
+tell-found-requires c κs = search needs
+
+same-length : tie.Need-same-length
+same-length c = search needs
+
+returns : tie.Need-returns
+returns c = found-told ((c .before .before .before .before .get-function) .ensures) ((c .before .before .tell-found) .ensures .0) ((c .before .before .tell-found) .ensures .1)
+
+pub gontsamy-get-function-spec : {M : Type 1} → statement M
+gontsamy-get-function-spec = tie.close (tie.spec get-function-requires tell-found-requires same-length returns)
