@@ -7,6 +7,8 @@ mod packed;
 mod path;
 mod unit;
 
+pub use bytes::after;
+pub use bytes::has_prefix;
 pub use bytes::same_bytes;
 pub use identifier::is_identifier;
 pub use keyword::is_crate;

@@ -1,0 +1,13 @@
+// The card of a bundle: its listed paths as a tree of folders, by numbers. Index 0 is `/`, then come the folders and the files, in
+// the bundle's order: folder i is i + 1, file i is folders + 1 + i. A card is one lent array, whose parts layout.rt names.
+mod hash;
+mod layout;
+mod look;
+
+pub use layout::CARD;
+pub use look::Near;
+pub use look::find_child;
+pub use look::find_path;
+pub use look::is_below;
+pub use look::nearest_marked;
+pub use look::start_of;

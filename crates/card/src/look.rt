@@ -1,0 +1,175 @@
+// Lookups in a card.
+ghost use mathlib.Core.Path.{_≡_};
+ghost use mathlib.Core.List.{_++_};
+ghost use Prim.Native.Nat.{ℕ, _+_, _<_, _^_};
+ghost use lib.Dec.{eqb};
+ghost use lib.ListN.{length, getD};
+ghost use Rattle.names.specs.FolderTheorems.{Plain};
+ghost use Rattle.names.specs.Path.{component-limit};
+ghost use Rattle.card.specs.Layout.{node-limit, card-size, parentAt, startAt, markAt};
+ghost use Rattle.card.specs.Tree.{ascends};
+ghost use Rattle.card.specs.Laws.{nearest, near};
+ghost use Rattle.card.specs.Index.{Looked};
+ghost use Rattle.card.specs.Card.{IndexOf, CardIs, Above, nodesIn, isAt, hit, met, cutOf, sought};
+use crate::hash::hash_of;
+use crate::hash::mix;
+use crate::layout::BUCKETS;
+use crate::layout::CARD;
+use crate::layout::HASHES;
+use crate::layout::HEADS;
+use crate::layout::KEY;
+use crate::layout::MARKS;
+use crate::layout::NEXTS;
+use crate::layout::PARENTS;
+use crate::layout::STARTS;
+
+// The most components of a path.
+const DEEP: usize = 16;
+
+pub fn far(n: u32) -> usize
+    ensures { λ r. ⌜ (r ≡ n) × (r < 2 ^ 32) ⌝ }
+{
+    n as usize
+}
+
+// The position of the path of index i; for a file that is the position of the file.
+pub fn start_of(card: &[u32; CARD], i: usize) -> usize
+    requires { ⌜ (length (now card) ≡ card-size) × (i < node-limit) ⌝ }
+    ensures { λ r. ⌜ r ≡ startAt (now (card .entry)) i ⌝ }
+{
+    far(card[STARTS + i])
+}
+
+// Whether the path of index f lies at or below the one of index d: a walk up parents. Ruled out: `true` of `/r/payroll` below `/r/pay`.
+pub fn is_below(card: &[u32; CARD], f: usize, d: usize) -> bool
+    requires { ⌜ Above (now card) × (f < node-limit) ⌝ }
+    ensures { λ r. ⌜ r ≡ ascends component-limit (parentAt (now (card .entry))) f d ⌝ }
+{
+    let mut i = f;
+    let mut k: usize = 0;
+    while i != d {
+        if i == 0 {
+            return false;
+        }
+        if k == DEEP {
+            return false;
+        }
+        i = far(card[PARENTS + i]);
+        k += 1;
+    }
+    true
+}
+
+pub enum Near {
+    At(usize),
+    Nothing,
+}
+
+// The nearest package root at or above f. Ruled out: one further up than another.
+pub fn nearest_marked(card: &[u32; CARD], f: usize) -> Near
+    requires { ⌜ Above (now card) × (f < node-limit) ⌝ }
+    ensures { λ r. ⌜ near r ≡ nearest component-limit (parentAt (now (card .entry))) (λ i. eqb (markAt (now (card .entry)) i) 1) f ⌝ }
+{
+    let mut i = f;
+    let mut k: usize = 0;
+    while card[MARKS + i] != 1 {
+        if i == 0 {
+            return Near::Nothing;
+        }
+        if k == DEEP {
+            return Near::Nothing;
+        }
+        i = far(card[PARENTS + i]);
+        k += 1;
+    }
+    Near::At(i)
+}
+
+// Whether a path with this hash and parent is the one of a name, with its ending, in the folder d. The last component stands at cut.
+fn is_hit(
+    s: &[u8],
+    hash: u32,
+    h: usize,
+    parent: u32,
+    start: u32,
+    d: usize,
+    cut: usize,
+    name: &[u8],
+    ending: &[u8],
+) -> bool
+    ensures { λ r. ⌜ r ≡ hit (now (s .entry)) hash h parent start d cut (now (name .entry) ++ now (ending .entry)) ⌝ }
+{
+    if far(hash) != h {
+        return false;
+    }
+    if far(parent) != d {
+        return false;
+    }
+    let last = names::after(bundle::string(s, far(start)), cut);
+    if !names::has_prefix(last, name) {
+        return false;
+    }
+    names::same_bytes(names::after(last, name.len()), ending)
+}
+
+// Where the last component of what lies in the folder d stands in its path.
+fn cut_of(s: &[u8], start: u32, d: usize) -> usize
+    ensures { λ r. ⌜ r ≡ cutOf (now (s .entry)) start d ⌝ }
+{
+    if d == 0 {
+        return 1;
+    }
+    bundle::string(s, far(start)).len() + 1
+}
+
+// The index of the path of a name, with its ending, in the folder d; 0 where none is listed.
+pub fn find_child<'a>(
+    s: &'a [u8],
+    card: &'a [u32; CARD],
+    d: usize,
+    name: &'a [u8],
+    ending: &'a [u8],
+) -> usize
+    requires { ⌜ CardIs (now s) (now card) × ((d < length (nodesIn (now s))) × Plain (now name ++ now ending)) ⌝ }
+    ensures { λ r. ⌜ Looked (sought (nodesIn (now (s .entry))) d (now (name .entry) ++ now (ending .entry))) (length (nodesIn (now (s .entry)))) r ⌝ }
+{
+    let m = far(card[KEY]);
+    let a = mix(m, far(card[HASHES + d]), b"/");
+    let b = mix(m, a, name);
+    let h = mix(m, b, ending);
+    let cut = cut_of(s, card[STARTS + d], d);
+    let mut i = far(card[HEADS + h % BUCKETS]);
+    while i != 0 {
+        if is_hit(s, card[HASHES + i], h, card[PARENTS + i], card[STARTS + i], d, cut, name, ending) {
+            return i;
+        }
+        i = far(card[NEXTS + i]);
+    }
+    i
+}
+
+// Whether the path of this hash at start is t.
+fn is_path_at(s: &[u8], hash: u32, h: usize, start: u32, t: &[u8]) -> bool
+    ensures { λ r. ⌜ r ≡ met (now (s .entry)) hash h start (now (t .entry)) ⌝ }
+{
+    if far(hash) != h {
+        return false;
+    }
+    names::same_bytes(bundle::string(s, far(start)), t)
+}
+
+// The index of a path; 0 where it is not listed, or is `/`.
+pub fn find_path<'a>(s: &'a [u8], card: &'a [u32; CARD], t: &'a [u8]) -> usize
+    requires { ⌜ IndexOf (now s) (nodesIn (now s)) (now card) ⌝ }
+    ensures { λ r. ⌜ Looked (isAt (nodesIn (now (s .entry))) (now (t .entry))) (length (nodesIn (now (s .entry)))) r ⌝ }
+{
+    let h = hash_of(far(card[KEY]), t);
+    let mut i = far(card[HEADS + h % BUCKETS]);
+    while i != 0 {
+        if is_path_at(s, card[HASHES + i], h, card[STARTS + i], t) {
+            return i;
+        }
+        i = far(card[NEXTS + i]);
+    }
+    i
+}
