@@ -3,6 +3,7 @@
 mod hash;
 mod layout;
 mod look;
+mod parts;
 
 pub use layout::CARD;
 pub use look::Near;
@@ -11,3 +12,9 @@ pub use look::find_path;
 pub use look::is_below;
 pub use look::nearest_marked;
 pub use look::start_of;
+pub use parts::folder_count;
+pub use parts::parent_of;
+pub use parts::remapping_context;
+pub use parts::remapping_count;
+pub use parts::remapping_place;
+pub use parts::remapping_target;

@@ -140,7 +140,17 @@ pub fn find_child<'a>(
     let cut = cut_of(s, card[STARTS + d], d);
     let mut i = far(card[HEADS + h % BUCKETS]);
     while i != 0 {
-        if is_hit(s, card[HASHES + i], h, card[PARENTS + i], card[STARTS + i], d, cut, name, ending) {
+        if is_hit(
+            s,
+            card[HASHES + i],
+            h,
+            card[PARENTS + i],
+            card[STARTS + i],
+            d,
+            cut,
+            name,
+            ending,
+        ) {
             return i;
         }
         i = far(card[NEXTS + i]);
