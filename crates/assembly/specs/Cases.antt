@@ -56,7 +56,7 @@ abbrev at-path : String → Items → File
 at-path p is = record { path = ascii p; items = is }
 
 abbrev below-r : List String → List Remapping → List File → Bundle
-below-r folders rs fs = record { root = ascii "/r"; folders = ascii "/r" ∷ map ascii folders; remappings = rs; files = fs }
+below-r folders rs fs = record { version = 1; root = ascii "/r"; folders = ascii "/r" ∷ map ascii folders; remappings = rs; files = fs }
 
 abbrev plain : String → Element
 plain n = record { name = ascii n; alias = [] }

@@ -22,6 +22,7 @@ use Rattle.bundle.specs.Stand.{Bytes}
 use Rattle.bundle.specs.Read.{value, read}
 use Rattle.bundle.specs.Form.{Every, IsPath, IsName, FormedRemapping, FormedFile, Formed, fileItems, fileUses, fresh, usable, alike, usableAll, withSlash, WellFormed}
 use Rattle.bundle.specs.Members.{member-true, mem-member, any-true, mem-any, every-mem, mem-getD}
+use Rattle.bundle.specs.Versions.{folders-within, files-within, uses-within}
 use Rattle.bundle.specs.Theorems.{sound}
 
 -- the paths that are listed, folders before files
@@ -209,11 +210,11 @@ module _ (b : Bundle) (w : WellFormed b) where
       let one = usable-each (withSlash b) [] (b .remappings) (w .free .remappings) in
       record {
         some-file = w .form .some-file;
-        file-count = w .form .file-count;
-        folder-count = w .form .folder-count;
+        file-count = omega (arith, w .form .file-count, files-within (b .version));
+        folder-count = omega (arith, w .form .folder-count, folders-within (b .version));
         remapping-count = w .form .remapping-count;
         item-count = w .form .item-count;
-        use-count = w .form .use-count;
+        use-count = omega (arith, w .form .use-count, uses-within (b .version));
         size = w .form .size;
         root-path = w .form .root;
         paths = path-form;

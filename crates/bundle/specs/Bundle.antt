@@ -31,6 +31,7 @@ pub record File : Type 0 where
 
 -- the first file is the entry
 pub record Bundle : Type 0 where
+  pub version : ℕ
   pub root : Text
   pub folders : List Text
   pub remappings : List Remapping

@@ -27,6 +27,7 @@ use Rattle.bundle.specs.declared.Checked.the-variants.{Ok, Refused}
 -- THE PRINTED CASE
 unfoldable printed : Bundle
 printed = record {
+  version = 1;
   root = ascii "/r";
   folders = ascii "/r" ∷ [];
   remappings = [];
@@ -72,6 +73,7 @@ kinds-bytes =
 
 unfoldable kinds : Bundle
 kinds = record {
+  version = 1;
   root = ascii "/";
   folders = ascii "/a" ∷ [];
   remappings = record { context = ascii "/"; name = ascii "l"; target = ascii "/a" } ∷ [];
@@ -134,7 +136,7 @@ bytes-rows =
 
 -- VALUES
 abbrev at-root : List Text → List Remapping → List File → List ℕ
-at-root fs rs gs = encode (record { root = ascii "/"; folders = fs; remappings = rs; files = gs })
+at-root fs rs gs = encode (record { version = 1; root = ascii "/"; folders = fs; remappings = rs; files = gs })
 
 abbrev empty : Text → File
 empty p = record { path = p; items = none }
@@ -168,7 +170,7 @@ value-rows =
     ∷ row (at-root (ascii "/a/" ∷ []) [] (main ∷ [])) 4 6 ∷ row (at-root [] [] (empty (ascii "m") ∷ [])) 4 8
     ∷ row (holding (named 1 0 0 (ascii "a-b") none)) 5 17
     -- 4 at the root, at a context, at a target
-    ∷ row (encode (record { root = ascii "r"; folders = []; remappings = []; files = main ∷ [] })) 4 3
+    ∷ row (encode (record { version = 1; root = ascii "r"; folders = []; remappings = []; files = main ∷ [] })) 4 3
     ∷ row (at-root [] (remap (ascii "a") (ascii "l") (ascii "a") ∷ []) (main ∷ [])) 4 7
     ∷ row (at-root [] (remap (ascii "/") (ascii "l") (ascii "a") ∷ []) (main ∷ [])) 4 11
     -- 7 before 8 of one path; a folder after its child; a parent that is a file; `/` listed
@@ -187,9 +189,9 @@ value-rows =
     ∷ row (at-root [] (remap (ascii "/") (ascii "use") (ascii "/") ∷ []) (main ∷ [])) 12 9
     ∷ row (at-root [] (remap (ascii "/") [] (ascii "/") ∷ []) (main ∷ [])) 12 9
     ∷ row (at-root [] (replicate 2 (remap (ascii "/") (ascii "l") (ascii "/"))) (main ∷ [])) 13 13
-    ∷ row (encode (record { root = ascii "/q"; folders = []; remappings = []; files = main ∷ [] })) 9 3
-    ∷ row (encode (record { root = ascii "/m"; folders = []; remappings = []; files = main ∷ [] })) 10 3
-    ∷ row (encode (record { root = ascii "/q"; folders = []; remappings = remap (ascii "/") (ascii "use") (ascii "/") ∷ []; files = main ∷ [] })) 12 10
+    ∷ row (encode (record { version = 1; root = ascii "/q"; folders = []; remappings = []; files = main ∷ [] })) 9 3
+    ∷ row (encode (record { version = 1; root = ascii "/m"; folders = []; remappings = []; files = main ∷ [] })) 10 3
+    ∷ row (encode (record { version = 1; root = ascii "/q"; folders = []; remappings = remap (ascii "/") (ascii "use") (ascii "/") ∷ []; files = main ∷ [] })) 12 10
     ∷ []
 
 answers : List Row → List Reading

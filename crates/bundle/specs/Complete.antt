@@ -11,12 +11,14 @@ use borrow.Author.Tests.{lt-ltb, le-leb, eq-eqb, ne-eqb, eqb-true, eqb-false}
 use Rattle.names.specs.Path.{isPath}
 use Rattle.names.specs.Identifier.{isIdentifier}
 use Rattle.bundle.specs.Bundle.{Text}
-use Rattle.bundle.specs.Encode.{string, joined, element, remapping}
-use Rattle.bundle.specs.Encode.{counted as count-list}
-use Rattle.bundle.specs.Scan.{byte, text, andThen, times, scanString, scanFormed, scanAlias, scanField, scanCount}
-use Rattle.bundle.specs.Decode.{each, far, counted, after, afterElement, afterRemapping, afterList, elementAt, remappingAt}
+use Rattle.bundle.specs.Encode.{string, count-bytes, joined, element, remapping}
+use Rattle.bundle.specs.Encode.{countedBy as count-list}
+use Rattle.bundle.specs.Limits.{width}
+use Rattle.bundle.specs.Scan.{byte, text, count, pastCount, andThen, times, scanString, scanFormed, scanAlias, scanField, scanCount}
+use Rattle.bundle.specs.Decode.{each, far, countedBy, after, afterElement, afterRemapping, afterListBy, elementAt, remappingAt}
 use Rattle.bundle.specs.Form.{Every, IsAlias, Short, FormedElement, FormedRemapping}
-use Rattle.bundle.specs.Stand.{at-byte, at-append}
+use Rattle.bundle.specs.Stand.{at-byte, at-count, count-length, at-append}
+use Rattle.bundle.specs.declared.Width.{Width}
 use Rattle.bundle.specs.declared.Scan.{Scan}
 use Rattle.bundle.specs.declared.Scan.the-variants.{Next}
 use Rattle.bundle.specs.declared.Field.the-variants.{Element as ElementField, Remapping as RemappingField}
@@ -145,33 +147,35 @@ module _ (s : List ℕ) (end : ℕ) where
         skips = ap (λ (n : ℕ). far skip (length l) n) (a .skips) ∙ (b .skips ∙ z);
       }
 
-  pub record CountWrit {A : Type 0} (enc : A → List ℕ) (skip : ℕ → ℕ) (get : ℕ → A) (f : ℕ → Scan) (low high : ℕ) (l : List A) (at : ℕ) : Type 0 where
-    pub counts : byte s at ≡ length l
-    pub count-scans : scanCount low high s end at ≡ Next (at + 1)
-    pub scans : andThen (scanCount low high s end at) (times (byte s at) f) ≡ Next (at + length (count-list enc l))
-    pub gets : counted skip get s at ≡ l
-    pub skips : afterList skip s at ≡ at + length (count-list enc l)
+  pub record CountWrit {A : Type 0} (w : Width) (enc : A → List ℕ) (skip : ℕ → ℕ) (get : ℕ → A) (f : ℕ → Scan) (low high : ℕ) (l : List A) (at : ℕ) : Type 0 where
+    pub counts : count w s at ≡ length l
+    pub count-scans : scanCount w low high s end at ≡ Next (pastCount w at)
+    pub scans : andThen (scanCount w low high s end at) (times (count w s at) f) ≡ Next (at + length (count-list w enc l))
+    pub gets : countedBy w skip get s at ≡ l
+    pub skips : afterListBy w skip s at ≡ at + length (count-list w enc l)
 
-  pub count-byte : {A : Type 0} (enc : A → List ℕ) (low high : ℕ) (l : List A) (at : ℕ) (rest : List ℕ) → low ≤ length l → length l ≤ high
-      → drop at s ≡ count-list enc l ++ rest → at + length (count-list enc l) ≤ end
-      → (byte s at ≡ length l) × (drop (at + 1) s ≡ joined enc l ++ rest) × (scanCount low high s end at ≡ Next (at + 1)) × (length (count-list enc l) ≡ 1 + length (joined enc l))
-  unfolding count-list scanCount
-  count-byte enc low high l at rest lo hi e h =
-      let b = at-byte s at (length l) (joined enc l ++ rest) e in
+  pub count-byte : {A : Type 0} (w : Width) (enc : A → List ℕ) (low high : ℕ) (l : List A) (at : ℕ) (rest : List ℕ) → low ≤ length l → length l ≤ high
+      → drop at s ≡ count-list w enc l ++ rest → at + length (count-list w enc l) ≤ end
+      → (count w s at ≡ length l) × (drop (pastCount w at) s ≡ joined enc l ++ rest) × (scanCount w low high s end at ≡ Next (pastCount w at)) × (length (count-list w enc l) ≡ width w + length (joined enc l))
+  unfolding scanCount
+  count-byte w enc low high l at rest lo hi e h =
+      let C = count-bytes w (length l) in
+      let b = at-count s w at (length l) (joined enc l ++ rest) (e ∙ append-assoc C (joined enc l) rest) in
+      let len : length (C ++ joined enc l) ≡ width w + length (joined enc l) = length-append C (joined enc l) ∙ ap (λ (n : ℕ). n + length (joined enc l)) (count-length s w (length l)) in
       let n = b .0 in
-      let lt : at < end = omega arith in
-      let x : low ≤ byte s at = omega arith in
-      let y : byte s at ≤ high = omega arith in
-      (b .0, b .1, rw (lt-ltb at end lt, le-leb low (byte s at) x, le-leb (byte s at) high y), omega arith)
+      let le : pastCount w at ≤ end = omega arith in
+      let x : low ≤ count w s at = omega arith in
+      let y : count w s at ≤ high = omega arith in
+      (b .0, b .1, rw (le-leb (pastCount w at) end le, le-leb low (count w s at) x, le-leb (count w s at) high y), len)
 
-  pub count-writ : {A : Type 0} (P : A → Type 0) (enc : A → List ℕ) (skip : ℕ → ℕ) (get : ℕ → A) (f : ℕ → Scan) → Writes s end P enc skip get f
+  pub count-writ : {A : Type 0} (w : Width) (P : A → Type 0) (enc : A → List ℕ) (skip : ℕ → ℕ) (get : ℕ → A) (f : ℕ → Scan) → Writes s end P enc skip get f
       → (low high : ℕ) (l : List A) (at : ℕ) (rest : List ℕ) → low ≤ length l → length l ≤ high → Every P l
-      → drop at s ≡ count-list enc l ++ rest → at + length (count-list enc l) ≤ end → CountWrit enc skip get f low high l at
-  count-writ P enc skip get f W low high l at rest lo hi p e h =
-      let c = count-byte enc low high l at rest lo hi e h in
+      → drop at s ≡ count-list w enc l ++ rest → at + length (count-list w enc l) ≤ end → CountWrit w enc skip get f low high l at
+  count-writ w P enc skip get f W low high l at rest lo hi p e h =
+      let c = count-byte w enc low high l at rest lo hi e h in
       let n = c .3 in
-      let t = times-writ P enc skip get f W l (at + 1) rest p (c .1) (omega arith) in
-      let z : at + 1 + length (joined enc l) ≡ at + length (count-list enc l) = omega arith in
+      let t = times-writ P enc skip get f W l (pastCount w at) rest p (c .1) (omega arith) in
+      let z : pastCount w at + length (joined enc l) ≡ at + length (count-list w enc l) = omega arith in
       record {
         counts = c .0;
         count-scans = c .2;

@@ -7,16 +7,17 @@ use lib.ListN.{length, drop, length-append}
 use borrow.Author.Tests.{lt-ltb, le-leb, eq-eqb, ne-eqb}
 use Rattle.names.specs.Identifier.{isIdentifier}
 use Rattle.bundle.specs.Bundle.{Text, Element, Items, none, named, use-of, module-of, ignored}
-use Rattle.bundle.specs.Limits.{item-limit, use-limit, segment-limit, element-limit, use-kind, module-kind, ignored-kind}
+use Rattle.bundle.specs.Limits.{item-limit, most-uses, segment-limit, element-limit, use-kind, module-kind, ignored-kind}
 use Rattle.bundle.specs.Encode.{two, string, sized, element, items}
 use Rattle.bundle.specs.Encode.{counted as count-list}
-use Rattle.bundle.specs.Scan.{byte, word, text, andThen, scanName, scanField, scanList, scanUse, scanLength, scanMark, usesAfter, scanHead, scanBody, scanEnd, scanItem, scanItems}
+use Rattle.bundle.specs.Scan.{byte, word, text, versionOf, andThen, scanName, scanField, scanList, scanUse, scanLength, scanMark, usesAfter, scanHead, scanBody, scanEnd, scanItem, scanItems}
 use Rattle.bundle.specs.Decode.{counted, after, afterElement, afterLength, afterList, elementAt, itemAt, itemsAt}
 use Rattle.bundle.specs.Walks.{goes, siblings-next, siblings-done, enters, leaf-past}
 use Rattle.bundle.specs.Access.{item-module, item-use, item-ignored, item-named, insideOf, items-end, items-step}
 use Rattle.bundle.specs.Form.{Every, IsName, FormedElement, Formed, Marked, itemCount, useCount}
 use Rattle.bundle.specs.Stand.{at-byte, at-append}
 use Rattle.bundle.specs.Complete.{formed-writ, element-writ, count-writ}
+use Rattle.bundle.specs.declared.Width.the-variants.{Byte}
 use Rattle.bundle.specs.declared.Scan.the-variants.{Next}
 use Rattle.bundle.specs.declared.Walk.the-variants.{Past}
 use Rattle.bundle.specs.declared.Field.the-variants.{Element as ElementField}
@@ -56,7 +57,7 @@ module _ (s : List ℕ) where
         after-it = at-append s (at + 4) X rest f;
       }
 
-  pub head-scans : (k v : ℕ) (X : List ℕ) (end at n count uses : ℕ) (rest : List ℕ) → HeadWrit k v X at n rest → n ≤ end → 1 ≤ k → k ≤ 6 → v ≤ 1 → count < item-limit → usesAfter s at uses ≤ use-limit
+  pub head-scans : (k v : ℕ) (X : List ℕ) (end at n count uses : ℕ) (rest : List ℕ) → HeadWrit k v X at n rest → n ≤ end → 1 ≤ k → k ≤ 6 → v ≤ 1 → count < item-limit → usesAfter s at uses ≤ most-uses (versionOf s)
       → scanHead s end at count uses ≡ Next n
   unfolding scanHead scanLength scanMark
   head-scans k v X end at n count uses rest w h k1 k6 v1 hc hu =
@@ -76,7 +77,7 @@ module _ (s : List ℕ) where
       rw (le-leb (at + 2) end a1, le-leb (word s at) (end - (at + 2)) a2)
       (rw (lt-ltb (at + 2) (at + 2 + word s at) b1, le-leb 1 (byte s (at + 2)) b2, le-leb (byte s (at + 2)) 6 b3, z3)
       (rw (lt-ltb (at + 3) (at + 2 + word s at) c1, le-leb 0 (byte s (at + 3)) c2, le-leb (byte s (at + 3)) 1 c3)
-      (rw (lt-ltb count item-limit hc, le-leb (usesAfter s at uses) use-limit hu) (ap Next e))))
+      (rw (lt-ltb count item-limit hc, le-leb (usesAfter s at uses) (most-uses (versionOf s)) hu) (ap Next e))))
 
   -- items that are written and read
   pub record ItemsWrit (depth end at c u : ℕ) (x : Items) : Type 0 where
@@ -116,15 +117,15 @@ module _ (s : List ℕ) where
       → length segments ≤ segment-limit → Every IsName segments → length elements ≤ element-limit → Every FormedElement elements
       → drop at s ≡ (count-list string segments ++ count-list element elements) ++ rest → at + length (count-list string segments ++ count-list element elements) ≡ n
       → (scanUse s n at ≡ Next n) × (counted (after s) (text s) s at ≡ segments) × (counted (afterElement s) (elementAt s) s (afterList (after s) s at) ≡ elements)
-  unfolding scanUse scanList scanField
+  unfolding scanUse scanList scanField count-list
   use-scans n at segments elements rest ls es le ee e h =
       let X = count-list string segments in
       let Y = count-list element elements in
       let len : length (X ++ Y) ≡ length X + length Y = length-append X Y in
       let e1 : drop at s ≡ X ++ (Y ++ rest) = e ∙ append-assoc X Y rest in
-      let a = count-writ s n IsName string (after s) (text s) (scanName s n) (formed-writ s n isIdentifier 5) 0 segment-limit segments at (Y ++ rest) (omega arith) ls es e1 (omega arith) in
+      let a = count-writ s n Byte IsName string (after s) (text s) (scanName s n) (formed-writ s n isIdentifier 5) 0 segment-limit segments at (Y ++ rest) (omega arith) ls es e1 (omega arith) in
       let e2 : drop (at + length X) s ≡ Y ++ rest = at-append s at X (Y ++ rest) e1 in
-      let b = count-writ s n FormedElement element (afterElement s) (elementAt s) (scanField ElementField s n) (element-writ s n) 0 element-limit elements (at + length X) rest (omega arith) le ee e2 (omega arith) in
+      let b = count-writ s n Byte FormedElement element (afterElement s) (elementAt s) (scanField ElementField s n) (element-writ s n) 0 element-limit elements (at + length X) rest (omega arith) le ee e2 (omega arith) in
       let z : at + length X + length Y ≡ n = omega arith in
       (rw (a .scans) (b .scans ∙ ap Next z), a .gets, rw (a .skips) (b .gets))
 
@@ -133,7 +134,7 @@ module _ (s : List ℕ) where
   inside-less (suc depth) h = let z : suc depth - 1 ≡ depth = omega arith in rw z
 
   pub items-writ : (x : Items) (depth end at c u : ℕ) (rest : List ℕ) → Formed x depth → Marked x at → drop at s ≡ items x ++ rest → at + length (items x) ≡ end
-      → c + itemCount x ≤ item-limit → u + useCount x ≤ use-limit → ItemsWrit depth end at c u x
+      → c + itemCount x ≤ item-limit → u + useCount x ≤ most-uses (versionOf s) → ItemsWrit depth end at c u x
   unfolding items Formed Marked itemCount useCount
   items-writ none depth end at c u rest f m e h hc hu =
       let z : at ≡ end = omega arith in

@@ -8,9 +8,9 @@ use Rattle.names.specs.Prefix.{directlyIn}
 use Rattle.names.specs.Identifier.{isIdentifier}
 use Rattle.names.specs.Keywords.{isCrate, isKeyword}
 use Rattle.bundle.specs.Bundle.{Text}
-use Rattle.bundle.specs.Limits.{header}
-use Rattle.bundle.specs.Scan.{text}
-use Rattle.bundle.specs.Decode.{counted, after, afterRemapping, afterFile, foldersAt, remappingsAt, filesAt}
+use Rattle.bundle.specs.Limits.{header, folder-width, file-width}
+use Rattle.bundle.specs.Scan.{text, versionOf}
+use Rattle.bundle.specs.Decode.{countedBy, counted, after, afterRemapping, afterFile, foldersAt, remappingsAt, filesAt}
 use Rattle.bundle.specs.declared.Checked.{Checked}
 use Rattle.bundle.specs.declared.Checked.the-variants.{Ok, Refused}
 
@@ -81,10 +81,10 @@ remapped folders files seen (r ∷ rs) =
 
 -- what the bytes list
 abbrev pub folders : List ℕ → List Placed
-folders s = counted (after s) (placedAt s) s (foldersAt s)
+folders s = countedBy (folder-width (versionOf s)) (after s) (placedAt s) s (foldersAt s)
 
 abbrev pub files : List ℕ → List Placed
-files s = counted (afterFile s) (placedAt s) s (filesAt s)
+files s = countedBy (file-width (versionOf s)) (afterFile s) (placedAt s) s (filesAt s)
 
 abbrev pub remappings : List ℕ → List PlacedRemapping
 remappings s = counted (afterRemapping s) (placedRemappingAt s) s (remappingsAt s)

@@ -4,8 +4,10 @@ use mathlib.Core.Bool.{cond}
 use mathlib.Core.List.{List, [], _∷_}
 use lib.Dec.{eqb, ltb}
 use Rattle.bundle.specs.Bundle.{Element, Items, none, named, use-of, module-of, ignored, Remapping, File, Bundle}
-use Rattle.bundle.specs.Limits.{count-width, header, depth-limit, use-kind, module-kind, ignored-kind}
-use Rattle.bundle.specs.Scan.{byte, word, text}
+use Rattle.bundle.specs.Limits.{folder-width, file-width, header, depth-limit, use-kind, module-kind, ignored-kind}
+use Rattle.bundle.specs.Scan.{byte, word, text, versionOf, count, pastCount}
+use Rattle.bundle.specs.declared.Width.{Width}
+use Rattle.bundle.specs.declared.Width.the-variants.{Byte}
 
 -- n values, one after the other; where they end
 unfoldable pub each : {A : Type 0} → (ℕ → ℕ) → (ℕ → A) → ℕ → ℕ → List A
@@ -16,9 +18,12 @@ unfoldable pub far : (ℕ → ℕ) → ℕ → ℕ → ℕ
 far skip zero at = at
 far skip (suc n) at = far skip n (skip at)
 
--- a counted list
+-- a counted list; `counted` has a count of one byte
+abbrev pub countedBy : {A : Type 0} → Width → (ℕ → ℕ) → (ℕ → A) → List ℕ → ℕ → List A
+countedBy w skip get s at = each skip get (count w s at) (pastCount w at)
+
 abbrev pub counted : {A : Type 0} → (ℕ → ℕ) → (ℕ → A) → List ℕ → ℕ → List A
-counted skip get s at = each skip get (byte s at) (at + count-width)
+counted = countedBy Byte
 
 -- past a string, an element, a remapping, a file, and a counted list of them
 abbrev pub after : List ℕ → ℕ → ℕ
@@ -36,8 +41,11 @@ afterLength s at = at + 2 + word s at
 abbrev pub afterFile : List ℕ → ℕ → ℕ
 afterFile s at = afterLength s (after s at)
 
+abbrev pub afterListBy : Width → (ℕ → ℕ) → List ℕ → ℕ → ℕ
+afterListBy w skip s at = far skip (count w s at) (pastCount w at)
+
 abbrev pub afterList : (ℕ → ℕ) → List ℕ → ℕ → ℕ
-afterList skip s at = far skip (byte s at) (at + count-width)
+afterList = afterListBy Byte
 
 unfoldable pub elementAt : List ℕ → ℕ → Element
 elementAt s at = record { name = text s at; alias = text s (after s at) }
@@ -77,15 +85,35 @@ abbrev pub foldersAt : List ℕ → ℕ
 foldersAt s = after s header
 
 abbrev pub remappingsAt : List ℕ → ℕ
-remappingsAt s = afterList (after s) s (foldersAt s)
+remappingsAt s = afterListBy (folder-width (versionOf s)) (after s) s (foldersAt s)
 
 abbrev pub filesAt : List ℕ → ℕ
 filesAt s = afterList (afterRemapping s) s (remappingsAt s)
 
+-- the counts of the three lists, and where the first of each stands
+abbrev pub folderCount : List ℕ → ℕ
+folderCount s = count (folder-width (versionOf s)) s (foldersAt s)
+
+abbrev pub folderFirst : List ℕ → ℕ
+folderFirst s = pastCount (folder-width (versionOf s)) (foldersAt s)
+
+abbrev pub remappingCount : List ℕ → ℕ
+remappingCount s = count Byte s (remappingsAt s)
+
+abbrev pub remappingFirst : List ℕ → ℕ
+remappingFirst s = pastCount Byte (remappingsAt s)
+
+abbrev pub fileCount : List ℕ → ℕ
+fileCount s = count (file-width (versionOf s)) s (filesAt s)
+
+abbrev pub fileFirst : List ℕ → ℕ
+fileFirst s = pastCount (file-width (versionOf s)) (filesAt s)
+
 unfoldable pub decode : List ℕ → Bundle
 decode s = record {
+  version = versionOf s;
   root = text s header;
-  folders = counted (after s) (text s) s (foldersAt s);
+  folders = countedBy (folder-width (versionOf s)) (after s) (text s) s (foldersAt s);
   remappings = counted (afterRemapping s) (remappingAt s) s (remappingsAt s);
-  files = counted (afterFile s) (fileAt s) s (filesAt s);
+  files = countedBy (file-width (versionOf s)) (afterFile s) (fileAt s) s (filesAt s);
 }

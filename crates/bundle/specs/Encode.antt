@@ -3,7 +3,9 @@ use Prim.Native.Nat.{ℕ, _/_, _%_}
 use mathlib.Core.List.{List, [], _∷_, _++_}
 use lib.ListN.{length}
 use Rattle.bundle.specs.Bundle.{Text, Element, Items, none, named, use-of, module-of, ignored, Remapping, File, Bundle}
-use Rattle.bundle.specs.Limits.{version, count-bytes, use-kind, module-kind, ignored-kind}
+use Rattle.bundle.specs.Limits.{folder-width, file-width, use-kind, module-kind, ignored-kind}
+use Rattle.bundle.specs.declared.Width.{Width}
+use Rattle.bundle.specs.declared.Width.the-variants.{Byte, Word}
 
 -- numbers are big-endian
 unfoldable pub two : ℕ → List ℕ
@@ -18,9 +20,17 @@ unfoldable pub joined : {A : Type 0} → (A → List ℕ) → List A → List �
 joined f [] = []
 joined f (a ∷ l) = f a ++ joined f l
 
+-- a count of a width
+abbrev pub count-bytes : Width → ℕ → List ℕ
+count-bytes Byte n = n ∷ []
+count-bytes Word n = two n
+
 -- a count, and as many
+abbrev pub countedBy : {A : Type 0} → Width → (A → List ℕ) → List A → List ℕ
+countedBy w f l = count-bytes w (length l) ++ joined f l
+
 unfoldable pub counted : {A : Type 0} → (A → List ℕ) → List A → List ℕ
-counted f l = count-bytes (length l) ++ joined f l
+counted f l = countedBy Byte f l
 
 -- a 2-byte length of what follows
 unfoldable pub sized : List ℕ → List ℕ
@@ -50,8 +60,10 @@ file f = string (f .path) ++ sized (items (f .items))
 -- package root of the entry; folder count, folders; remapping count, remappings; file count, files
 unfoldable pub fields : Bundle → List ℕ
 fields b =
-    string (b .root) ++ (counted string (b .folders) ++ (counted remapping (b .remappings) ++ counted file (b .files)))
+    string (b .root)
+    ++ (countedBy (folder-width (b .version)) string (b .folders)
+    ++ (counted remapping (b .remappings) ++ countedBy (file-width (b .version)) file (b .files)))
 
 -- byte 0 is the version; bytes 1 and 2 count all bytes after them
 unfoldable pub encode : Bundle → List ℕ
-encode b = version ∷ sized (fields b)
+encode b = b .version ∷ sized (fields b)

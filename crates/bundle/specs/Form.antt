@@ -12,8 +12,8 @@ use Rattle.names.specs.Prefix.{directlyIn}
 use Rattle.names.specs.Identifier.{isIdentifier}
 use Rattle.names.specs.Keywords.{isKeyword, isCrate}
 use Rattle.bundle.specs.Bundle.{Text, Element, Items, none, named, use-of, module-of, ignored, Remapping, File, Bundle}
-use Rattle.bundle.specs.Limits.{header, folder-limit, remapping-limit, file-limit, item-limit, use-limit, segment-limit, element-limit, depth-limit, use-kind, module-kind, ignored-kind}
-use Rattle.bundle.specs.Encode.{string, counted, sized, element, items, remapping, file, fields}
+use Rattle.bundle.specs.Limits.{defined, header, width, folder-width, file-width, most-folders, remapping-limit, most-files, item-limit, most-uses, segment-limit, element-limit, depth-limit, use-kind, module-kind, ignored-kind}
+use Rattle.bundle.specs.Encode.{string, countedBy, counted, sized, element, items, remapping, file, fields}
 use Rattle.bundle.specs.Conflicts.{any}
 
 -- what holds of every element
@@ -98,20 +98,22 @@ fileUses (f ∷ fs) = useCount (f .items) + fileUses fs
 
 -- where the files start
 abbrev pub firstFile : Bundle → ℕ
-firstFile b = header + length (string (b .root)) + length (counted string (b .folders)) + length (counted remapping (b .remappings)) + 1
+firstFile b =
+    header + length (string (b .root)) + length (countedBy (folder-width (b .version)) string (b .folders)) + length (counted remapping (b .remappings)) + width (file-width (b .version))
 
 -- THE FORM AND THE LIMITS, 1 to 6
 pub record InForm (b : Bundle) : Type 0 where
+  pub version : defined (b .version) ≡ true
   pub root : IsPath (b .root)
-  pub folder-count : length (b .folders) ≤ folder-limit
+  pub folder-count : length (b .folders) ≤ most-folders (b .version)
   pub folders : Every IsPath (b .folders)
   pub remapping-count : length (b .remappings) ≤ remapping-limit
   pub remappings : Every FormedRemapping (b .remappings)
   pub some-file : 1 ≤ length (b .files)
-  pub file-count : length (b .files) ≤ file-limit
+  pub file-count : length (b .files) ≤ most-files (b .version)
   pub files : Every FormedFile (b .files)
   pub item-count : fileItems (b .files) ≤ item-limit
-  pub use-count : fileUses (b .files) ≤ use-limit
+  pub use-count : fileUses (b .files) ≤ most-uses (b .version)
   pub marks : MarkedFiles (b .files) (firstFile b)
   -- the header's length counts it
   pub size : length (fields b) < 65536

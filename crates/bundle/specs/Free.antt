@@ -11,7 +11,7 @@ use Rattle.names.specs.Identifier.{isIdentifier}
 use Rattle.names.specs.Keywords.{isCrate, isKeyword}
 use Rattle.bundle.specs.Bundle.{Text, Remapping, File}
 use Rattle.bundle.specs.Scan.{byte, text}
-use Rattle.bundle.specs.Decode.{each, after, afterRemapping, afterFile, remappingAt, fileAt, foldersAt, remappingsAt, filesAt, decode}
+use Rattle.bundle.specs.Decode.{each, after, afterRemapping, afterFile, remappingAt, fileAt, decode, folderCount, folderFirst, remappingCount, remappingFirst, fileCount, fileFirst}
 use Rattle.bundle.specs.Conflicts.{Placed, PlacedRemapping, placedAt, placedRemappingAt, texts, orElse, any, listed, located, sameRemapping, remapped, conflicts, remappings}
 use Rattle.bundle.specs.Conflicts.{named as nameTold}
 use Rattle.bundle.specs.ListLaws.{texts-each}
@@ -120,9 +120,9 @@ conflicts-ok : (s : List ℕ) → ok (conflicts s)
     && (usableAll (withSlash (decode s)) [] (decode s .remappings) && member (decode s .root) (withSlash (decode s))))
 unfolding conflicts decode plains placedAt
 conflicts-ok s =
-    let F = texts-each s (after s) (byte s (foldersAt s)) (foldersAt s + 1) in
-    let G = paths-each s (byte s (filesAt s)) (filesAt s + 1) in
-    let M = plains-each s (byte s (remappingsAt s)) (remappingsAt s + 1) in
+    let F = texts-each s (after s) (folderCount s) (folderFirst s) in
+    let G = paths-each s (fileCount s) (fileFirst s) in
+    let M = plains-each s (remappingCount s) (remappingFirst s) in
     rw (ok-or, listed-ok, ok-or, remapped-ok, located-ok, texts-append, F, G, M)
 
 pub conflicts-free : (s : List ℕ) → conflicts s ≡ Ok → Unconflicted (decode s)

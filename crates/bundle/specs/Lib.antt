@@ -18,6 +18,7 @@ pub mod AcceptedTheorems
 pub mod Numbers
 pub mod Cases
 -- LAWS, for the code's proofs and for those theorems
+pub mod Versions
 pub mod Answers
 pub mod Members
 pub mod First

@@ -4,8 +4,9 @@ use mathlib.Core.Bool.{Bool, true, false}
 use mathlib.Core.List.{List, [], _∷_}
 use Rattle.names.specs.Path.{root}
 use Rattle.bundle.specs.Bundle.{Text}
-use Rattle.bundle.specs.Scan.{text}
-use Rattle.bundle.specs.Decode.{counted, after, afterFile}
+use Rattle.bundle.specs.Limits.{folder-width, file-width}
+use Rattle.bundle.specs.Scan.{text, versionOf}
+use Rattle.bundle.specs.Decode.{countedBy, after, afterFile}
 use Rattle.bundle.specs.Conflicts.{PlacedRemapping, orElse, located, named}
 use Rattle.bundle.specs.declared.Checked.{Checked}
 
@@ -16,10 +17,10 @@ skip false s = after s
 
 -- `/` and the folders; the files
 abbrev pub foldersFrom : List ℕ → ℕ → List Text
-foldersFrom s at = root ∷ counted (after s) (text s) s at
+foldersFrom s at = root ∷ countedBy (folder-width (versionOf s)) (after s) (text s) s at
 
 abbrev pub filesFrom : List ℕ → ℕ → List Text
-filesFrom s at = counted (afterFile s) (text s) s at
+filesFrom s at = countedBy (file-width (versionOf s)) (afterFile s) (text s) s at
 
 -- what counts as listed before the first file, or before the first folder
 abbrev pub before : Bool → List ℕ → ℕ → List Text

@@ -14,14 +14,16 @@ use Rattle.names.specs.Prefix.{directlyIn}
 use Rattle.names.specs.Identifier.{isIdentifier}
 use Rattle.names.specs.Keywords.{isCrate, isKeyword}
 use Rattle.bundle.specs.Bundle.{Text}
-use Rattle.bundle.specs.Limits.{header, folder-limit, remapping-limit, file-limit, item-limit, use-limit, depth-limit, segment-limit, element-limit, use-kind, module-kind, ignored-kind, version}
-use Rattle.bundle.specs.Scan.{byte, word, text, andThen, times, scanString, scanFormed, scanPath, scanName, scanAlias, scanField, scanCount, scanList, scanUse, scanLength, scanMark, usesAfter, scanHead, scanBody, scanEnd, walkOn, walkThen, scanItemWith, siblings, scanModule, scanItem, scanFile, scanFiles, scanHeader}
+use Rattle.bundle.specs.Limits.{defined, header, folder-width, file-width, most-folders, remapping-limit, most-files, item-limit, most-uses, depth-limit, segment-limit, element-limit, use-kind, module-kind, ignored-kind}
+use Rattle.bundle.specs.Scan.{byte, word, text, versionOf, count, pastCount, andThen, times, scanString, scanFormed, scanPath, scanName, scanAlias, scanField, scanCount, scanList, scanUse, scanLength, scanMark, usesAfter, scanHead, scanBody, scanEnd, walkOn, walkThen, scanItemWith, siblings, scanModule, scanItem, scanFile, scanFiles, scanHeader}
 use Rattle.bundle.specs.Conflicts.{Placed, PlacedRemapping, orElse, any, listed, located, sameRemapping, remapped, conflicts}
 use Rattle.bundle.specs.Conflicts.{named as nameTold}
 use Rattle.bundle.specs.Read.{afterWalk, files, lists, form, verdict}
 use Rattle.bundle.specs.Read.{after as thenOk}
-use Rattle.bundle.specs.Steps.{string-next, length-next, mark-next, Head, head-next}
+use Rattle.bundle.specs.Steps.{some-bytes, string-next, length-next, mark-next, Head, head-next}
 use Rattle.bundle.specs.Answers.{cond-elim}
+use Rattle.bundle.specs.declared.Width.{Width}
+use Rattle.bundle.specs.declared.Width.the-variants.{Byte}
 use Rattle.bundle.specs.declared.Scan.{Scan}
 use Rattle.bundle.specs.declared.Scan.the-variants.{Next, Bad}
 use Rattle.bundle.specs.declared.Walk.{Walk}
@@ -126,18 +128,19 @@ module _ (s : List ℕ) where
   times-right f end p zero at h = h
   times-right f end p (suc n) at h = then-right (f at) _ (p at h) (λ a e b. times-right f end p n a b)
 
-  count-right : (low high end at : ℕ) → at ≤ end → Right end (scanCount low high s end at)
+  count-right : (w : Width) (low high end at : ℕ) → at ≤ end → Right end (scanCount w low high s end at)
   unfolding scanCount
-  count-right low high end at h =
-      cond-elim (Right end) (ltb at end)
-      (λ b. let lt = ltb-true at end b in
-      cond-elim (Right end) (leb low (byte s at) && leb (byte s at) high) (λ c. omega arith) (λ c. tells end 3 at (omega arith) (omega arith) lt))
+  count-right w low high end at h =
+      cond-elim (Right end) (leb (pastCount w at) end)
+      (λ b. let le = leb-true (pastCount w at) end b in
+      let some = some-bytes w in
+      cond-elim (Right end) (leb low (count w s at) && leb (count w s at) high) (λ c. le) (λ c. tells end 3 at (omega arith) (omega arith) (omega arith)))
       (λ b. cut end at h)
 
-  list-right : (field : Field) (limit end at : ℕ) → at ≤ end → Right end (scanList field limit s end at)
+  list-right : (w : Width) (field : Field) (limit end at : ℕ) → at ≤ end → Right end (scanList w field limit s end at)
   unfolding scanList
-  list-right field limit end at h =
-      then-right (scanCount 0 limit s end at) _ (count-right 0 limit end at h) (λ a e b. times-right (scanField field s end) end (field-right field end) (byte s at) a b)
+  list-right w field limit end at h =
+      then-right (scanCount w 0 limit s end at) _ (count-right w 0 limit end at h) (λ a e b. times-right (scanField field s end) end (field-right field end) (count w s at) a b)
 
   length-right : (end at : ℕ) → at ≤ end → Right end (scanLength s end at)
   unfolding scanLength
@@ -172,14 +175,14 @@ module _ (s : List ℕ) where
       then-right (scanMark 1 6 s next (at + 2)) _ (right-more next end (scanMark 1 6 s next (at + 2)) b (mark-right 1 6 next (at + 2) (omega arith))) (λ v e' d.
       let m = mark-next s next (at + 2) 1 6 e' in
       then-right (scanMark 0 1 s next v) _ (right-more next end (scanMark 0 1 s next v) b (mark-right 0 1 next v (m .1))) (λ w e'' f.
-      cond-elim (Right end) (ltb c item-limit && leb (usesAfter s at u) use-limit) (λ t. b) (λ t. tells end 3 at (omega arith) (omega arith) (omega arith)))))
+      cond-elim (Right end) (ltb c item-limit && leb (usesAfter s at u) (most-uses (versionOf s))) (λ t. b) (λ t. tells end 3 at (omega arith) (omega arith) (omega arith)))))
 
   body-right : (end at : ℕ) → at + 4 ≤ end → Right end (scanBody s end at)
   unfolding scanBody scanUse
   body-right end at h =
       cond-elim (Right end) (eqb (byte s (at + 2)) ignored-kind) (λ c. h) (λ c.
       cond-elim (Right end) (eqb (byte s (at + 2)) use-kind)
-      (λ c. then-right (scanList Name segment-limit s end (at + 4)) _ (list-right Name segment-limit end (at + 4) h) (λ a e b. list-right Element element-limit end a b))
+      (λ c. then-right (scanList Byte Name segment-limit s end (at + 4)) _ (list-right Byte Name segment-limit end (at + 4) h) (λ a e b. list-right Byte Element element-limit end a b))
       (λ c. name-right end (at + 4) h))
 
   leaf-right : (next at c u : ℕ) → at + 4 ≤ next → RightWalk next (walkOn (andThen (scanBody s next at) (scanEnd next)) (λ past. Past past (c + 1) (usesAfter s at u)))
@@ -229,7 +232,7 @@ module _ (s : List ℕ) where
   header-right =
       cond-elim (Right (length s)) (ltb (length s) header) (λ a. cut (length s) 0 (omega arith)) (λ a.
       let l = ltb-false (length s) header a in
-      cond-elim (Right (length s)) (eqb (byte s 0) version)
+      cond-elim (Right (length s)) (defined (versionOf s))
       (λ b. cond-elim (Right (length s)) (ltb (length s - header) (word s 1)) (λ c. cut (length s) 1 (omega arith)) (λ c.
       cond-elim (Right (length s)) (ltb (word s 1) (length s - header)) (λ d. let w = ltb-true (word s 1) (length s - header) d in cut (length s) (header + word s 1) (omega arith)) (λ d. l)))
       (λ b. tells (length s) 2 0 (omega arith) (omega arith) (omega arith)))
@@ -237,12 +240,13 @@ module _ (s : List ℕ) where
   pub form-right : RightForm (length s) (form s)
   unfolding form lists files
   form-right =
+      let v = versionOf s in
       check-right (scanHeader s) _ header-right (λ root h0.
       check-right (scanPath s (length s) root) _ (path-right (length s) root h0) (λ f h1.
-      check-right (scanList Path folder-limit s (length s) f) _ (list-right Path folder-limit (length s) f h1) (λ r h2.
-      check-right (scanList Remapping remapping-limit s (length s) r) _ (list-right Remapping remapping-limit (length s) r h2) (λ g h3.
-      check-right (scanCount 1 file-limit s (length s) g) _ (count-right 1 file-limit (length s) g h3) (λ a h4.
-      checked-walk (scanFiles (byte s g) s (length s) a 0 0) _ (files-right (byte s g) (length s) a 0 0 h4) (λ last h5.
+      check-right (scanList (folder-width v) Path (most-folders v) s (length s) f) _ (list-right (folder-width v) Path (most-folders v) (length s) f h1) (λ r h2.
+      check-right (scanList Byte Remapping remapping-limit s (length s) r) _ (list-right Byte Remapping remapping-limit (length s) r h2) (λ g h3.
+      check-right (scanCount (file-width v) 1 (most-files v) s (length s) g) _ (count-right (file-width v) 1 (most-files v) (length s) g h3) (λ a h4.
+      checked-walk (scanFiles (count (file-width v) s g) s (length s) a 0 0) _ (files-right (count (file-width v) s g) (length s) a 0 0 h4) (λ last h5.
       check-right (scanEnd (length s) last) _ (end-right (length s) last h5) (λ _ h6. tt)))))))
 
 -- THE CONFLICTS

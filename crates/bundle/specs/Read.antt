@@ -3,14 +3,15 @@ use Prim.Native.Nat.{ℕ, _<_}
 use mathlib.Core.List.{List}
 use lib.ListN.{length}
 use Rattle.bundle.specs.Bundle.{Bundle}
-use Rattle.bundle.specs.Limits.{folder-limit, remapping-limit, file-limit}
-use Rattle.bundle.specs.Scan.{byte, scanHeader, scanPath, scanList, scanCount, scanFiles, scanEnd}
+use Rattle.bundle.specs.Limits.{folder-width, file-width, most-folders, remapping-limit, most-files}
+use Rattle.bundle.specs.Scan.{byte, versionOf, count, scanHeader, scanPath, scanList, scanCount, scanFiles, scanEnd}
 use Rattle.bundle.specs.Decode.{decode}
 use Rattle.bundle.specs.Conflicts.{orElse, conflicts}
 use Rattle.bundle.specs.declared.Scan.{Scan}
 use Rattle.bundle.specs.declared.Scan.the-variants.{Next, Bad}
 use Rattle.bundle.specs.declared.Walk.{Walk}
 use Rattle.bundle.specs.declared.Walk.the-variants.{Past, Fault}
+use Rattle.bundle.specs.declared.Width.the-variants.{Byte}
 use Rattle.bundle.specs.declared.Field.the-variants.{Path, Remapping}
 use Rattle.bundle.specs.declared.Checked.{Checked}
 use Rattle.bundle.specs.declared.Checked.the-variants.{Ok, Refused}
@@ -30,15 +31,15 @@ afterWalk (Fault n p) f = Refused n p
 -- the files, and no bytes left over
 unfoldable pub files : List ℕ → ℕ → Checked
 files s at =
-    after (scanCount 1 file-limit s (length s) at) (λ first.
-    afterWalk (scanFiles (byte s at) s (length s) first 0 0) (λ last.
+    after (scanCount (file-width (versionOf s)) 1 (most-files (versionOf s)) s (length s) at) (λ first.
+    afterWalk (scanFiles (count (file-width (versionOf s)) s at) s (length s) first 0 0) (λ last.
     after (scanEnd (length s) last) (λ _. Ok)))
 
 -- the folders, the remappings, then the files
 unfoldable pub lists : List ℕ → ℕ → Checked
 lists s at =
-    after (scanList Path folder-limit s (length s) at) (λ remappings.
-    after (scanList Remapping remapping-limit s (length s) remappings) (files s))
+    after (scanList (folder-width (versionOf s)) Path (most-folders (versionOf s)) s (length s) at) (λ remappings.
+    after (scanList Byte Remapping remapping-limit s (length s) remappings) (files s))
 
 -- 1 to 6: header, root, then the lists
 unfoldable pub form : List ℕ → Checked

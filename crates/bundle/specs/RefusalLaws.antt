@@ -20,7 +20,7 @@ use Rattle.names.specs.Keywords.{isCrate, isKeyword, keywords}
 use Rattle.bundle.specs.Bundle.{Text, File, Remapping}
 use Rattle.bundle.specs.Limits.{header}
 use Rattle.bundle.specs.Scan.{byte, text}
-use Rattle.bundle.specs.Decode.{each, far, after, afterFile, afterRemapping, foldersAt, remappingsAt, filesAt, decode, fileAt, remappingAt}
+use Rattle.bundle.specs.Decode.{each, far, after, afterFile, afterRemapping, decode, fileAt, remappingAt, folderCount, folderFirst, remappingCount, remappingFirst, fileCount, fileFirst}
 use Rattle.bundle.specs.Conflicts.{Placed, PlacedRemapping, placedAt, placedRemappingAt, texts, orElse, any, listed, located, sameRemapping, remapped, folders, files, remappings, allFolders}
 use Rattle.bundle.specs.Conflicts.{named as nameTold}
 use Rattle.bundle.specs.ListLaws.{texts-each, each-at, each-length}
@@ -270,8 +270,8 @@ pub path-placed : (s : List ℕ) (i : ℕ) → i < length (paths s) → (x : ℕ
 path-placed s i h = go (List·Memᴰ·append-cases (folders s) (mem-getD (paths s) i none h))
   where
     go : List·Memᴰ (pathAt s i) (folders s) ⊎ List·Memᴰ (pathAt s i) (files s) → (x : ℕ) × (pathAt s i ≡ placedAt s x)
-    go (inl m) = each-mem (after s) (placedAt s) (byte s (foldersAt s)) (foldersAt s + 1) m
-    go (inr m) = each-mem (afterFile s) (placedAt s) (byte s (filesAt s)) (filesAt s + 1) m
+    go (inl m) = each-mem (after s) (placedAt s) (folderCount s) (folderFirst s) m
+    go (inr m) = each-mem (afterFile s) (placedAt s) (fileCount s) (fileFirst s) m
 
 -- IN FORM
 root-path : isPath root ≡ true
@@ -281,7 +281,7 @@ root-path = refl
 module _ (s : List ℕ) (I : InForm (decode s)) where
   folder-path : (t : Text) → List·Memᴰ t (texts (folders s)) → isPath t ≡ true
   unfolding decode
-  folder-path t m = every-mem IsPath (I .folders) (rw (texts-each s (after s) (byte s (foldersAt s)) (foldersAt s + 1)) at m)
+  folder-path t m = every-mem IsPath (I .folders) (rw (texts-each s (after s) (folderCount s) (folderFirst s)) at m)
 
   map-mem : (l : List File) {t : Text} → List·Memᴰ t (map (λ (f : File). f .path) l) → (f : File) × (List·Memᴰ f l × (t ≡ f .path))
   map-mem [] m = absurd (List·Memᴰ·not-nil m)
@@ -295,8 +295,8 @@ module _ (s : List ℕ) (I : InForm (decode s)) where
   file-path : (t : Text) → List·Memᴰ t (texts (files s)) → isPath t ≡ true
   unfolding decode
   file-path t m =
-      let m' = rw (paths-each s (byte s (filesAt s)) (filesAt s + 1)) at m in
-      let r = map-mem (each (afterFile s) (fileAt s) (byte s (filesAt s)) (filesAt s + 1)) m' in
+      let m' = rw (paths-each s (fileCount s) (fileFirst s)) at m in
+      let r = map-mem (each (afterFile s) (fileAt s) (fileCount s) (fileFirst s)) m' in
       let w : FormedFile (r .0) = every-mem FormedFile (I .files) (r .1 .0) in
       rw (r .1 .1) (w .0)
 
@@ -337,21 +337,21 @@ module _ (s : List ℕ) (I : InForm (decode s)) where
   root-inside = inside s header (I .root)
 
   abbrev remappingPlace : ℕ → ℕ
-  remappingPlace i = far (afterRemapping s) i (remappingsAt s + 1)
+  remappingPlace i = far (afterRemapping s) i (remappingFirst s)
 
   remapping-placed : (i : ℕ) → i < length (remappings s) → remappingOf s i ≡ placedRemappingAt s (remappingPlace i)
   remapping-placed i h =
-      let l = each-length (afterRemapping s) (placedRemappingAt s) (byte s (remappingsAt s)) (remappingsAt s + 1) in
-      each-at (afterRemapping s) (placedRemappingAt s) (byte s (remappingsAt s)) i (remappingsAt s + 1) (record { context = none; name = none; target = none }) (omega arith)
+      let l = each-length (afterRemapping s) (placedRemappingAt s) (remappingCount s) (remappingFirst s) in
+      each-at (afterRemapping s) (placedRemappingAt s) (remappingCount s) i (remappingFirst s) (record { context = none; name = none; target = none }) (omega arith)
 
   remapping-formed : (i : ℕ) → i < length (remappings s) → FormedRemapping (remappingAt s (remappingPlace i))
   unfolding decode
   remapping-formed i h =
-      let l = each-length (afterRemapping s) (placedRemappingAt s) (byte s (remappingsAt s)) (remappingsAt s + 1) in
-      let k = each-length (afterRemapping s) (remappingAt s) (byte s (remappingsAt s)) (remappingsAt s + 1) in
+      let l = each-length (afterRemapping s) (placedRemappingAt s) (remappingCount s) (remappingFirst s) in
+      let k = each-length (afterRemapping s) (remappingAt s) (remappingCount s) (remappingFirst s) in
       let no : Remapping = record { context = []; name = []; target = [] } in
-      let e = each-at (afterRemapping s) (remappingAt s) (byte s (remappingsAt s)) i (remappingsAt s + 1) no (omega arith) in
-      subst FormedRemapping e (every-mem FormedRemapping (I .remappings) (mem-getD (each (afterRemapping s) (remappingAt s) (byte s (remappingsAt s)) (remappingsAt s + 1)) i no (omega arith)))
+      let e = each-at (afterRemapping s) (remappingAt s) (remappingCount s) i (remappingFirst s) no (omega arith) in
+      subst FormedRemapping e (every-mem FormedRemapping (I .remappings) (mem-getD (each (afterRemapping s) (remappingAt s) (remappingCount s) (remappingFirst s)) i no (omega arith)))
 
   pub remapping-inside : (i : ℕ) → i < length (remappings s)
       → (remappingOf s i .context .place < length s) × (remappingOf s i .name .place < length s) × (remappingOf s i .target .place < length s)

@@ -11,7 +11,7 @@ use Rattle.names.specs.Path.{root}
 use Rattle.names.specs.Prefix.{parent}
 use Rattle.bundle.specs.Bundle.{Bundle, File}
 use Rattle.bundle.specs.Scan.{byte}
-use Rattle.bundle.specs.Decode.{after, foldersAt, filesAt, decode}
+use Rattle.bundle.specs.Decode.{after, decode, folderCount, folderFirst, fileCount, fileFirst}
 use Rattle.bundle.specs.Conflicts.{texts, orElse, listed, remapped, conflicts, folders, files, remappings, allFolders}
 use Rattle.bundle.specs.Read.{Bytes, form, verdict, refused, read}
 use Rattle.bundle.specs.ListLaws.{texts-each}
@@ -124,11 +124,11 @@ read-only s n p h = refused-told (verdict s) (decode s) n p h
 -- the paths that the bytes list are those of the bundle that they are
 folders-are : (s : List ℕ) → texts (folders s) ≡ decode s .folders
 unfolding decode
-folders-are s = texts-each s (after s) (byte s (foldersAt s)) (foldersAt s + 1)
+folders-are s = texts-each s (after s) (folderCount s) (folderFirst s)
 
 files-are : (s : List ℕ) → texts (files s) ≡ map (λ (g : File). g .path) (decode s .files)
 unfolding decode
-files-are s = paths-each s (byte s (filesAt s)) (filesAt s + 1)
+files-are s = paths-each s (fileCount s) (fileFirst s)
 
 pub listed-are : (s : List ℕ) (f : BytesInForm s) → (texts (folders s) ≡ f .bundle .folders) × (texts (files s) ≡ map (λ (g : File). g .path) (f .bundle .files))
 listed-are s f = (folders-are s ∙ ap (λ (b : Bundle). b .folders) (decoded s f), files-are s ∙ ap (λ (b : Bundle). map (λ (g : File). g .path) (b .files)) (decoded s f))

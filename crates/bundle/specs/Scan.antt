@@ -7,11 +7,13 @@ use lib.ListN.{length, getD, take, drop}
 use lib.Dec.{eqb, ltb, leb}
 use Rattle.names.specs.Path.{isPath}
 use Rattle.names.specs.Identifier.{isIdentifier}
-use Rattle.bundle.specs.Limits.{count-width, version, header, item-limit, use-limit, segment-limit, element-limit, depth-limit, use-kind, module-kind, ignored-kind}
+use Rattle.bundle.specs.Limits.{defined, header, width, item-limit, most-uses, segment-limit, element-limit, depth-limit, use-kind, module-kind, ignored-kind}
 use Rattle.bundle.specs.declared.Scan.{Scan}
 use Rattle.bundle.specs.declared.Scan.the-variants.{Next, Bad}
 use Rattle.bundle.specs.declared.Walk.{Walk}
 use Rattle.bundle.specs.declared.Walk.the-variants.{Past, Fault}
+use Rattle.bundle.specs.declared.Width.{Width}
+use Rattle.bundle.specs.declared.Width.the-variants.{Byte, Word}
 use Rattle.bundle.specs.declared.Field.{Field}
 use Rattle.bundle.specs.declared.Field.the-variants.{Path, Name, Element, Remapping}
 
@@ -24,6 +26,18 @@ word s at = byte s at * 256 + byte s (at + 1)
 
 abbrev pub text : List ℕ → ℕ → List ℕ
 text s at = take (byte s at) (drop (at + 1) s)
+
+-- the version of the bytes
+abbrev pub versionOf : List ℕ → ℕ
+versionOf s = byte s 0
+
+-- the count of a width at `at`: its value, and where it ends
+abbrev pub count : Width → List ℕ → ℕ → ℕ
+count Byte s at = byte s at
+count Word s at = word s at
+
+abbrev pub pastCount : Width → ℕ → ℕ
+pastCount w at = at + width w
 
 -- go on after a field, unless it is refused
 abbrev pub andThen : Scan → (ℕ → Scan) → Scan
@@ -61,18 +75,18 @@ scanField Name s end at = scanName s end at
 scanField Element s end at = andThen (scanName s end at) (scanAlias s end)
 scanField Remapping s end at = andThen (scanPath s end at) (λ name. andThen (scanString s end name) (scanPath s end))
 
--- a count, between two limits
-unfoldable pub scanCount : ℕ → ℕ → List ℕ → ℕ → ℕ → Scan
-scanCount low high s end at =
-    cond (ltb at end) (cond (leb low (byte s at) && leb (byte s at) high) (Next (at + count-width)) (Bad 3 at)) (Bad 1 at)
+-- a count of a width, between two limits
+unfoldable pub scanCount : Width → ℕ → ℕ → List ℕ → ℕ → ℕ → Scan
+scanCount w low high s end at =
+    cond (leb (pastCount w at) end) (cond (leb low (count w s at) && leb (count w s at) high) (Next (pastCount w at)) (Bad 3 at)) (Bad 1 at)
 
 -- a count up to a limit, and as many fields
-unfoldable pub scanList : Field → ℕ → List ℕ → ℕ → ℕ → Scan
-scanList field limit s end at = andThen (scanCount 0 limit s end at) (times (byte s at) (scanField field s end))
+unfoldable pub scanList : Width → Field → ℕ → List ℕ → ℕ → ℕ → Scan
+scanList w field limit s end at = andThen (scanCount w 0 limit s end at) (times (count w s at) (scanField field s end))
 
 -- a use's fields
 unfoldable pub scanUse : List ℕ → ℕ → ℕ → Scan
-scanUse s end at = andThen (scanList Name segment-limit s end at) (scanList Element element-limit s end)
+scanUse s end at = andThen (scanList Byte Name segment-limit s end at) (scanList Byte Element element-limit s end)
 
 -- a 2-byte length: where what it counts ends
 unfoldable pub scanLength : List ℕ → ℕ → ℕ → Scan
@@ -95,7 +109,7 @@ scanHead s end at count uses =
     andThen (scanLength s end at) (λ next.
     andThen (scanMark 1 6 s next (at + 2)) (λ visibility.
     andThen (scanMark 0 1 s next visibility) (λ _.
-    cond (ltb count item-limit && leb (usesAfter s at uses) use-limit) (Next next) (Bad 3 at))))
+    cond (ltb count item-limit && leb (usesAfter s at uses) (most-uses (versionOf s))) (Next next) (Bad 3 at))))
 
 -- what follows the visibility of an item that is no module, to the item's end
 unfoldable pub scanBody : List ℕ → ℕ → ℕ → Scan
@@ -158,7 +172,7 @@ scanFiles (suc n) s end at count uses = walkThen (scanFile s end at count uses) 
 unfoldable pub scanHeader : List ℕ → Scan
 scanHeader s =
     cond (ltb (length s) header) (Bad 1 0)
-    (cond (eqb (byte s 0) version)
+    (cond (defined (versionOf s))
     (cond (ltb (length s - header) (word s 1)) (Bad 1 1)
     (cond (ltb (word s 1) (length s - header)) (Bad 1 (header + word s 1)) (Next header)))
     (Bad 2 0))

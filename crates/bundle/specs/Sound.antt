@@ -9,13 +9,14 @@ use lib.ListN.{length}
 use borrow.Author.Tests.{ltb-true, eqb-true, eq-eqb}
 use Rattle.names.specs.Path.{isPath}
 use Rattle.names.specs.Identifier.{isIdentifier}
-use Rattle.bundle.specs.Encode.{string, joined, element, remapping}
-use Rattle.bundle.specs.Encode.{counted as count-list}
-use Rattle.bundle.specs.Scan.{byte, text, andThen, times, scanString, scanFormed, scanPath, scanName, scanAlias, scanField, scanCount}
-use Rattle.bundle.specs.Decode.{each, far, counted, after, afterElement, afterRemapping, afterList, elementAt, remappingAt}
+use Rattle.bundle.specs.Encode.{string, count-bytes, joined, element, remapping}
+use Rattle.bundle.specs.Encode.{countedBy as count-list}
+use Rattle.bundle.specs.Scan.{byte, text, count, pastCount, andThen, times, scanString, scanFormed, scanPath, scanName, scanAlias, scanField, scanCount}
+use Rattle.bundle.specs.Decode.{each, far, countedBy, after, afterElement, afterRemapping, afterListBy, elementAt, remappingAt}
 use Rattle.bundle.specs.Steps.{string-next, formed-next, count-next, read-then, both}
 use Rattle.bundle.specs.Form.{Every, IsPath, IsName, IsAlias, Short, FormedElement, FormedRemapping}
-use Rattle.bundle.specs.Stand.{Bytes, Stands, stands-then, stands-byte, text-length, stands-string}
+use Rattle.bundle.specs.Stand.{Bytes, Stands, stands-then, stands-count, text-length, stands-string}
+use Rattle.bundle.specs.declared.Width.{Width}
 use Rattle.bundle.specs.declared.Scan.{Scan}
 use Rattle.bundle.specs.declared.Scan.the-variants.{Next}
 use Rattle.bundle.specs.declared.Field.the-variants.{Element as ElementField, Remapping as RemappingField}
@@ -153,34 +154,33 @@ module _ (s : List ℕ) (B : Bytes s) (end : ℕ) (E : end ≤ length s) where
       one-more P enc skip get n at (m .mid) x a (times-read P enc skip get f R n (m .mid) x (a .within) (m .second))
 
   -- a counted list
-  pub record CountRead {A : Type 0} (P : A → Type 0) (enc : A → List ℕ) (skip : ℕ → ℕ) (get : ℕ → A) (low high at x : ℕ) : Type 0 where
-    pub ends : x ≡ afterList skip s at
+  pub record CountRead {A : Type 0} (w : Width) (P : A → Type 0) (enc : A → List ℕ) (skip : ℕ → ℕ) (get : ℕ → A) (low high at x : ℕ) : Type 0 where
+    pub ends : x ≡ afterListBy w skip s at
     pub within : x ≤ end
     pub onward : at ≤ x
-    pub stands : Stands s at (count-list enc (counted skip get s at)) x
-    pub every : Every P (counted skip get s at)
-    pub least : low ≤ length (counted skip get s at)
-    pub most : length (counted skip get s at) ≤ high
+    pub stands : Stands s at (count-list w enc (countedBy w skip get s at)) x
+    pub every : Every P (countedBy w skip get s at)
+    pub least : low ≤ length (countedBy w skip get s at)
+    pub most : length (countedBy w skip get s at) ≤ high
 
-  counting : {A : Type 0} (P : A → Type 0) (enc : A → List ℕ) (skip : ℕ → ℕ) (get : ℕ → A) (low high at mid x : ℕ)
-      → mid ≡ at + 1 → mid ≤ end → low ≤ byte s at → byte s at ≤ high → ListRead P enc skip get (byte s at) mid x → CountRead P enc skip get low high at x
-  unfolding count-list
-  counting P enc skip get low high at mid x k w l h r =
-      let r' : ListRead P enc skip get (byte s at) (at + 1) x = rw k at r in
-      let q : length (counted skip get s at) ≡ byte s at = r' .size in
+  counting : {A : Type 0} (w : Width) (P : A → Type 0) (enc : A → List ℕ) (skip : ℕ → ℕ) (get : ℕ → A) (low high at mid x : ℕ)
+      → mid ≡ pastCount w at → mid ≤ end → low ≤ count w s at → count w s at ≤ high → ListRead P enc skip get (count w s at) mid x → CountRead w P enc skip get low high at x
+  counting w P enc skip get low high at mid x k l lo hi r =
+      let r' : ListRead P enc skip get (count w s at) (pastCount w at) x = rw k at r in
+      let q : length (countedBy w skip get s at) ≡ count w s at = r' .size in
       record {
         ends = r' .ends;
         within = r .within;
         onward = omega (arith, r .onward);
-        stands = rw q (stands-then s (byte s at ∷ []) (joined enc (counted skip get s at)) at (at + 1) x (stands-byte s at (omega arith)) (r' .stands));
+        stands = rw q (stands-then s (count-bytes w (count w s at)) (joined enc (countedBy w skip get s at)) at (pastCount w at) x (stands-count s B w at (omega arith)) (r' .stands));
         every = r' .every;
-        least = rw q l;
-        most = rw q h;
+        least = rw q lo;
+        most = rw q hi;
       }
 
-  pub count-read : {A : Type 0} (P : A → Type 0) (enc : A → List ℕ) (skip : ℕ → ℕ) (get : ℕ → A) (f : ℕ → Scan) → Reads s end P enc skip get f
-      → (low high at x : ℕ) → andThen (scanCount low high s end at) (times (byte s at) f) ≡ Next x → CountRead P enc skip get low high at x
-  count-read P enc skip get f R low high at x h =
-      let m = read-then (scanCount low high s end at) h in
-      let c = count-next s end at low high (m .first) in
-      counting P enc skip get low high at (m .mid) x (c .0) (c .1) (c .2) (c .3) (times-read P enc skip get f R (byte s at) (m .mid) x (c .1) (m .second))
+  pub count-read : {A : Type 0} (w : Width) (P : A → Type 0) (enc : A → List ℕ) (skip : ℕ → ℕ) (get : ℕ → A) (f : ℕ → Scan) → Reads s end P enc skip get f
+      → (low high at x : ℕ) → andThen (scanCount w low high s end at) (times (count w s at) f) ≡ Next x → CountRead w P enc skip get low high at x
+  count-read w P enc skip get f R low high at x h =
+      let m = read-then (scanCount w low high s end at) h in
+      let c = count-next s end at w low high (m .first) in
+      counting w P enc skip get low high at (m .mid) x (c .0) (c .1) (c .2) (c .3) (times-read P enc skip get f R (count w s at) (m .mid) x (c .1) (m .second))

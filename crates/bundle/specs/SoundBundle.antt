@@ -7,23 +7,25 @@ use mathlib.Core.List.{List, [], _∷_, _++_, append-nil}
 use lib.Dec.{eqb, ltb}
 use lib.ListN.{length}
 use lib.Seq.{drop-length}
-use borrow.Author.Tests.{ltb-false, eqb-true}
+use borrow.Author.Tests.{ltb-false}
 use Rattle.names.specs.Path.{isPath}
-use Rattle.bundle.specs.Limits.{version, header, folder-limit, remapping-limit, file-limit, item-limit, use-limit, depth-limit}
-use Rattle.bundle.specs.Encode.{string, joined, sized, items, remapping, file, fields, encode}
-use Rattle.bundle.specs.Encode.{counted as count-list}
-use Rattle.bundle.specs.Scan.{byte, word, text, times, scanString, scanPath, scanField, scanCount, scanList, scanLength, scanEnd, scanFile, scanFiles, scanHeader}
-use Rattle.bundle.specs.Decode.{each, far, counted, after, afterRemapping, afterLength, afterFile, afterList, remappingAt, fileAt, itemsAt, foldersAt, remappingsAt, filesAt, decode}
+use Rattle.bundle.specs.Limits.{defined, header, width, folder-width, file-width, most-folders, remapping-limit, most-files, item-limit, most-uses, depth-limit}
+use Rattle.bundle.specs.Encode.{string, count-bytes, joined, sized, items, remapping, file, fields, encode}
+use Rattle.bundle.specs.Encode.{counted as byte-list, countedBy as count-list}
+use Rattle.bundle.specs.Scan.{byte, word, text, versionOf, count, pastCount, times, scanString, scanPath, scanField, scanCount, scanList, scanLength, scanEnd, scanFile, scanFiles, scanHeader}
+use Rattle.bundle.specs.Decode.{each, far, countedBy, counted, after, afterRemapping, afterLength, afterFile, afterListBy, afterList, remappingAt, fileAt, itemsAt, foldersAt, remappingsAt, filesAt, decode}
 use Rattle.bundle.specs.Conflicts.{orElse, conflicts}
 use Rattle.bundle.specs.Steps.{string-next, formed-next, length-next, count-next, end-next, read-then, walked-on, walked-then}
 use Rattle.bundle.specs.Walks.{file-goes}
 use Rattle.bundle.specs.Form.{Every, IsPath, FormedRemapping, FormedFile, Marked, MarkedFiles, itemCount, useCount, fileItems, fileUses, InForm}
-use Rattle.bundle.specs.Stand.{Bytes, Stands, stands-then, stands-length, stands-byte, stands-sized}
+use Rattle.bundle.specs.Stand.{Bytes, Stands, stands-then, stands-length, stands-byte, stands-count, stands-sized}
 use Rattle.bundle.specs.Sound.{Read, CountRead, formed-read, remapping-read, count-read}
 use Rattle.bundle.specs.SoundItems.{ItemsAre, items-are-read}
 use Rattle.bundle.specs.Read.{form, lists, files, verdict, afterWalk}
 use Rattle.bundle.specs.Answers.{refused-ok, both-ok}
 use Rattle.bundle.specs.Read.{after as thenOk}
+use Rattle.bundle.specs.declared.Width.{Width}
+use Rattle.bundle.specs.declared.Width.the-variants.{Byte}
 use Rattle.bundle.specs.declared.Scan.{Scan}
 use Rattle.bundle.specs.declared.Scan.the-variants.{Next, Bad}
 use Rattle.bundle.specs.declared.Walk.{Walk}
@@ -57,18 +59,18 @@ went-walk (Fault k p) h = absurd (refused-ok h)
 pub record HeaderIs (s : List ℕ) (n : ℕ) : Type 0 where
   pub at : n ≡ header
   pub long : header ≤ length s
-  pub is-version : byte s 0 ≡ version
+  pub is-defined : defined (versionOf s) ≡ true
   pub counts : word s 1 ≡ length s - header
 
 header-is : (s : List ℕ) (n : ℕ) → scanHeader s ≡ Next n → HeaderIs s n
 unfolding scanHeader
 header-is s n h =
-    go (ltb (length s) header) (eqb (byte s 0) version) (ltb (length s - header) (word s 1)) (ltb (word s 1) (length s - header)) refl refl refl refl h
+    go (ltb (length s) header) (defined (versionOf s)) (ltb (length s - header) (word s 1)) (ltb (word s 1) (length s - header)) refl refl refl refl h
   where
     no : {k p : ℕ} → Bad k p ≡ Next n → ⊥
     no e = let z : _≡_ {A = ℕ} 0 1 = cc in omega arith
 
-    go : (a b c d : Bool) → ltb (length s) header ≡ a → eqb (byte s 0) version ≡ b → ltb (length s - header) (word s 1) ≡ c → ltb (word s 1) (length s - header) ≡ d
+    go : (a b c d : Bool) → ltb (length s) header ≡ a → defined (versionOf s) ≡ b → ltb (length s - header) (word s 1) ≡ c → ltb (word s 1) (length s - header) ≡ d
         → cond a (Bad 1 0) (cond b (cond c (Bad 1 1) (cond d (Bad 1 (header + word s 1)) (Next header))) (Bad 2 0)) ≡ Next n → HeaderIs s n
     go true b c d p q r t h = absurd (no h)
     go false false c d p q r t h = absurd (no h)
@@ -79,7 +81,7 @@ header-is s n h =
         let l : header ≤ length s = ltb-false _ _ p in
         let m : word s 1 ≤ length s - header = ltb-false _ _ r in
         let k : length s - header ≤ word s 1 = ltb-false _ _ t in
-        record { at = sym x; long = l; is-version = eqb-true _ _ q; counts = omega arith }
+        record { at = sym x; long = l; is-defined = q; counts = omega arith }
 
 -- WHERE THE LISTS STAND that were not refused: of any numbers, bytes or not
 path-next : (s : List ℕ) (end a n : ℕ) → scanPath s end a ≡ Next n → n ≡ after s a
@@ -99,23 +101,23 @@ times-far (suc n) f skip at x k h =
     let m = read-then (f at) h in
     times-far n f skip (m .mid) x k (m .second) ∙ ap (far skip n) (k at (m .mid) (m .first))
 
-list-next : (field : Field) (limit : ℕ) (s : List ℕ) (end at x : ℕ) (skip : ℕ → ℕ) → ((a y : ℕ) → scanField field s end a ≡ Next y → y ≡ skip a)
-    → scanList field limit s end at ≡ Next x → x ≡ afterList skip s at
+list-next : (w : Width) (field : Field) (limit : ℕ) (s : List ℕ) (end at x : ℕ) (skip : ℕ → ℕ) → ((a y : ℕ) → scanField field s end a ≡ Next y → y ≡ skip a)
+    → scanList w field limit s end at ≡ Next x → x ≡ afterListBy w skip s at
 unfolding scanList
-list-next field limit s end at x skip k h =
-    let m = read-then (scanCount 0 limit s end at) h in
-    times-far (byte s at) (scanField field s end) skip (m .mid) x k (m .second) ∙ ap (far skip (byte s at)) (count-next s end at 0 limit (m .first) .0)
+list-next w field limit s end at x skip k h =
+    let m = read-then (scanCount w 0 limit s end at) h in
+    times-far (count w s at) (scanField field s end) skip (m .mid) x k (m .second) ∙ ap (far skip (count w s at)) (count-next s end at w 0 limit (m .first) .0)
 
 -- a list that was read has no more than its limit
-pub list-few : (field : Field) (limit : ℕ) (s : List ℕ) (end at x : ℕ) → scanList field limit s end at ≡ Next x → byte s at ≤ limit
+pub list-few : (w : Width) (field : Field) (limit : ℕ) (s : List ℕ) (end at x : ℕ) → scanList w field limit s end at ≡ Next x → count w s at ≤ limit
 unfolding scanList
-list-few field limit s end at x h = let m = read-then (scanCount 0 limit s end at) h in count-next s end at 0 limit (m .first) .3
+list-few w field limit s end at x h = let m = read-then (scanCount w 0 limit s end at) h in count-next s end at w 0 limit (m .first) .3
 
 pub record Parts (s : List ℕ) : Type 0 where
   pub headed : HeaderIs s header
   pub root : scanPath s (length s) header ≡ Next (foldersAt s)
-  pub folders : scanList Path folder-limit s (length s) (foldersAt s) ≡ Next (remappingsAt s)
-  pub remappings : scanList RemappingField remapping-limit s (length s) (remappingsAt s) ≡ Next (filesAt s)
+  pub folders : scanList (folder-width (versionOf s)) Path (most-folders (versionOf s)) s (length s) (foldersAt s) ≡ Next (remappingsAt s)
+  pub remappings : scanList Byte RemappingField remapping-limit s (length s) (remappingsAt s) ≡ Next (filesAt s)
   pub files-pass : files s (filesAt s) ≡ Ok
 
 pub form-parts : (s : List ℕ) → form s ≡ Ok → Parts s
@@ -125,16 +127,16 @@ form-parts s h =
     let H = header-is s (m .mid) (m .first) in
     let r = went-on (scanPath s (length s) (m .mid)) (m .second) in
     let x : r .mid ≡ foldersAt s = path-next s (length s) (m .mid) (r .mid) (r .first) ∙ ap (after s) (H .at) in
-    let f = went-on (scanList Path folder-limit s (length s) (r .mid)) (r .second) in
-    let y : f .mid ≡ remappingsAt s = list-next Path folder-limit s (length s) (r .mid) (f .mid) (after s) (path-next s (length s)) (f .first) ∙ ap (afterList (after s) s) x in
-    let g = went-on (scanList RemappingField remapping-limit s (length s) (f .mid)) (f .second) in
+    let f = went-on (scanList (folder-width (versionOf s)) Path (most-folders (versionOf s)) s (length s) (r .mid)) (r .second) in
+    let y : f .mid ≡ remappingsAt s = list-next (folder-width (versionOf s)) Path (most-folders (versionOf s)) s (length s) (r .mid) (f .mid) (after s) (path-next s (length s)) (f .first) ∙ ap (afterListBy (folder-width (versionOf s)) (after s) s) x in
+    let g = went-on (scanList Byte RemappingField remapping-limit s (length s) (f .mid)) (f .second) in
     let z : g .mid ≡ filesAt s =
-    list-next RemappingField remapping-limit s (length s) (f .mid) (g .mid) (afterRemapping s) (remapping-next s (length s)) (g .first) ∙ ap (afterList (afterRemapping s) s) y in
+    list-next Byte RemappingField remapping-limit s (length s) (f .mid) (g .mid) (afterRemapping s) (remapping-next s (length s)) (g .first) ∙ ap (afterList (afterRemapping s) s) y in
     record {
       headed = subst (HeaderIs s) (H .at) H;
       root = ap (scanPath s (length s)) (sym (H .at)) ∙ (r .first ∙ ap Next x);
-      folders = ap (scanList Path folder-limit s (length s)) (sym x) ∙ (f .first ∙ ap Next y);
-      remappings = ap (scanList RemappingField remapping-limit s (length s)) (sym y) ∙ (g .first ∙ ap Next z);
+      folders = ap (scanList (folder-width (versionOf s)) Path (most-folders (versionOf s)) s (length s)) (sym x) ∙ (f .first ∙ ap Next y);
+      remappings = ap (scanList Byte RemappingField remapping-limit s (length s)) (sym y) ∙ (g .first ∙ ap Next z);
       files-pass = ap (files s) (sym z) ∙ g .second;
     }
 
@@ -197,7 +199,8 @@ module _ (s : List ℕ) (B : Bytes s) (end : ℕ) (E : end ≤ length s) where
             uses = i2 .uses;
           }
 
-  files-are : (n at c u a c' u' : ℕ) → at ≤ end → c ≤ item-limit → u ≤ use-limit → scanFiles n s end at c u ≡ Past a c' u' → FilesAre s end n at c u a c' u' × (c' ≤ item-limit) × (u' ≤ use-limit)
+  files-are : (n at c u a c' u' : ℕ) → at ≤ end → c ≤ item-limit → u ≤ most-uses (versionOf s) → scanFiles n s end at c u ≡ Past a c' u'
+      → FilesAre s end n at c u a c' u' × (c' ≤ item-limit) × (u' ≤ most-uses (versionOf s))
   unfolding scanFiles far each joined Every MarkedFiles fileItems fileUses
   files-are zero at c u a c' u' h hc hu e =
       let x : at ≡ a = cc in
@@ -239,26 +242,25 @@ pub record Sound (s : List ℕ) : Type 0 where
 
 module _ (s : List ℕ) (B : Bytes s) (E : length s ≤ length s) where
   -- the files' count and the files
-  counted-files : (g a c u : ℕ) → g < length s → FilesAre s (length s) (byte s g) (g + 1) 0 0 a c u → a ≡ length s
-      → Stands s g (count-list file (counted (afterFile s) (fileAt s) s g)) (length s)
-  unfolding count-list
-  counted-files g a c u lt G last =
-      let st : Stands s (g + 1) (joined file (counted (afterFile s) (fileAt s) s g)) (length s) = rw last at (G .stands) in
-      rw (G .size) (stands-then s (byte s g ∷ []) (joined file (counted (afterFile s) (fileAt s) s g)) g (g + 1) (length s) (stands-byte s g lt) st)
+  counted-files : (w : Width) (g a c u : ℕ) → pastCount w g ≤ length s → FilesAre s (length s) (count w s g) (pastCount w g) 0 0 a c u → a ≡ length s
+      → Stands s g (count-list w file (countedBy w (afterFile s) (fileAt s) s g)) (length s)
+  counted-files w g a c u le G last =
+      let st : Stands s (pastCount w g) (joined file (countedBy w (afterFile s) (fileAt s) s g)) (length s) = rw last at (G .stands) in
+      rw (G .size) (stands-then s (count-bytes w (count w s g)) (joined file (countedBy w (afterFile s) (fileAt s) s g)) g (pastCount w g) (length s) (stands-count s B w g le) st)
 
   -- the parts, where they stand
   put-together : (a c u : ℕ) → HeaderIs s header → Read s (length s) IsPath string (after s) (text s) header (foldersAt s)
-      → CountRead s B (length s) E IsPath string (after s) (text s) 0 folder-limit (foldersAt s) (remappingsAt s)
-      → CountRead s B (length s) E FormedRemapping remapping (afterRemapping s) (remappingAt s) 0 remapping-limit (remappingsAt s) (filesAt s)
-      → 1 ≤ byte s (filesAt s) → byte s (filesAt s) ≤ file-limit → filesAt s < length s
-      → FilesAre s (length s) (byte s (filesAt s)) (filesAt s + 1) 0 0 a c u → a ≡ length s → c ≤ item-limit → u ≤ use-limit → Sound s
-  unfolding decode encode fields
-  put-together a c u H R F M low high lt G last hc hu =
-      let st = counted-files (filesAt s) a c u lt G last in
+      → CountRead s B (length s) E (folder-width (versionOf s)) IsPath string (after s) (text s) 0 (most-folders (versionOf s)) (foldersAt s) (remappingsAt s)
+      → CountRead s B (length s) E Byte FormedRemapping remapping (afterRemapping s) (remappingAt s) 0 remapping-limit (remappingsAt s) (filesAt s)
+      → 1 ≤ count (file-width (versionOf s)) s (filesAt s) → count (file-width (versionOf s)) s (filesAt s) ≤ most-files (versionOf s) → pastCount (file-width (versionOf s)) (filesAt s) ≤ length s
+      → FilesAre s (length s) (count (file-width (versionOf s)) s (filesAt s)) (pastCount (file-width (versionOf s)) (filesAt s)) 0 0 a c u → a ≡ length s → c ≤ item-limit → u ≤ most-uses (versionOf s) → Sound s
+  unfolding decode encode fields byte-list
+  put-together a c u H R F M low high le G last hc hu =
+      let st = counted-files (file-width (versionOf s)) (filesAt s) a c u le G last in
       let X1 = string (text s header) in
-      let X2 = count-list string (counted (after s) (text s) s (foldersAt s)) in
-      let X3 = count-list remapping (counted (afterRemapping s) (remappingAt s) s (remappingsAt s)) in
-      let X4 = count-list file (counted (afterFile s) (fileAt s) s (filesAt s)) in
+      let X2 = count-list (folder-width (versionOf s)) string (countedBy (folder-width (versionOf s)) (after s) (text s) s (foldersAt s)) in
+      let X3 = byte-list remapping (counted (afterRemapping s) (remappingAt s) s (remappingsAt s)) in
+      let X4 = count-list (file-width (versionOf s)) file (countedBy (file-width (versionOf s)) (afterFile s) (fileAt s) s (filesAt s)) in
       let o1 = R .onward in
       let w1 = R .within in
       let o2 = F .onward in
@@ -277,7 +279,7 @@ module _ (s : List ℕ) (B : Bytes s) (E : length s ≤ length s) where
       let cw = H .counts in
       let b1 = B 1 in
       let b2 = B 2 in
-      let z : filesAt s + 1 ≡ header + length X1 + length X2 + length X3 + 1 = omega (arith, l1, l2, l3) in
+      let z : pastCount (file-width (versionOf s)) (filesAt s) ≡ header + length X1 + length X2 + length X3 + width (file-width (versionOf s)) = omega (arith, l1, l2, l3) in
       let one : 1 + 2 ≡ header = refl in
       let end : length s ≡ afterLength s 1 = omega (arith, n0) in
       let body : Stands s (1 + 2) (X1 ++ (X2 ++ (X3 ++ X4))) (afterLength s 1) = rw (← end) whole in
@@ -287,6 +289,7 @@ module _ (s : List ℕ) (B : Bytes s) (E : length s ≤ length s) where
       stands-then s (byte s 0 ∷ []) (sized (X1 ++ (X2 ++ (X3 ++ X4)))) 0 1 (length s) (stands-byte s 0 (omega arith)) two-up' in
       record {
         formed = record {
+          version = H .is-defined;
           root = R .formed;
           folder-count = F .most;
           folders = F .every;
@@ -300,24 +303,26 @@ module _ (s : List ℕ) (B : Bytes s) (E : length s ≤ length s) where
           marks = rw (← z) (G .marked);
           size = omega (arith, len);
         };
-        encoded = zero-up ∙ rw (drop-length s) (ap (λ (l : List ℕ). byte s 0 ∷ l) (append-nil (sized (X1 ++ (X2 ++ (X3 ++ X4))))) ∙ rw (H .is-version));
+        encoded = zero-up ∙ rw (drop-length s) (ap (λ (l : List ℕ). byte s 0 ∷ l) (append-nil (sized (X1 ++ (X2 ++ (X3 ++ X4))))));
       }
 
 pub form-sound : (s : List ℕ) → Bytes s → form s ≡ Ok → Sound s
 unfolding files scanList scanField
 form-sound s B h =
     let E : length s ≤ length s = omega arith in
+    let v = versionOf s in
+    let w = file-width v in
     let p = form-parts s h in
     let R = formed-read s B (length s) E isPath 4 header (foldersAt s) (p .root) in
-    let F = count-read s B (length s) E IsPath string (after s) (text s) (scanPath s (length s)) (formed-read s B (length s) E isPath 4) 0 folder-limit (foldersAt s) (remappingsAt s) (p .folders) in
-    let M = count-read s B (length s) E FormedRemapping remapping (afterRemapping s) (remappingAt s) (scanField RemappingField s (length s)) (remapping-read s B (length s) E) 0 remapping-limit (remappingsAt s) (filesAt s) (p .remappings) in
-    let m = went-on (scanCount 1 file-limit s (length s) (filesAt s)) (p .files-pass) in
-    let c = count-next s (length s) (filesAt s) 1 file-limit (m .first) in
-    let w = went-walk (scanFiles (byte s (filesAt s)) s (length s) (m .mid) 0 0) (m .second) in
-    let G = files-are s B (length s) E (byte s (filesAt s)) (m .mid) 0 0 (w .at) (w .count) (w .uses) (c .1) (omega arith) (omega arith) (w .first) in
-    let l = went-on (scanEnd (length s) (w .at)) (w .second) in
-    let e = end-next s (length s) (w .at) (l .first) in
-    let G' = subst (λ (k : ℕ). FilesAre s (length s) (byte s (filesAt s)) k 0 0 (w .at) (w .count) (w .uses)) (c .0) (G .0) in
+    let F = count-read s B (length s) E (folder-width v) IsPath string (after s) (text s) (scanPath s (length s)) (formed-read s B (length s) E isPath 4) 0 (most-folders v) (foldersAt s) (remappingsAt s) (p .folders) in
+    let M = count-read s B (length s) E Byte FormedRemapping remapping (afterRemapping s) (remappingAt s) (scanField RemappingField s (length s)) (remapping-read s B (length s) E) 0 remapping-limit (remappingsAt s) (filesAt s) (p .remappings) in
+    let m = went-on (scanCount w 1 (most-files v) s (length s) (filesAt s)) (p .files-pass) in
+    let c = count-next s (length s) (filesAt s) w 1 (most-files v) (m .first) in
+    let g = went-walk (scanFiles (count w s (filesAt s)) s (length s) (m .mid) 0 0) (m .second) in
+    let G = files-are s B (length s) E (count w s (filesAt s)) (m .mid) 0 0 (g .at) (g .count) (g .uses) (c .1) (omega arith) (omega arith) (g .first) in
+    let l = went-on (scanEnd (length s) (g .at)) (g .second) in
+    let e = end-next s (length s) (g .at) (l .first) in
+    let G' = subst (λ (k : ℕ). FilesAre s (length s) (count w s (filesAt s)) k 0 0 (g .at) (g .count) (g .uses)) (c .0) (G .0) in
     let x = c .0 in
     let y = c .1 in
-    put-together s B E (w .at) (w .count) (w .uses) (p .headed) R F M (c .2) (c .3) (omega arith) G' (e .0) (G .1) (G .2)
+    put-together s B E (g .at) (g .count) (g .uses) (p .headed) R F M (c .2) (c .3) (omega arith) G' (e .0) (G .1) (G .2)

@@ -19,6 +19,7 @@ use Rattle.bundle.specs.Access.{item-module, item-use, item-ignored, ite
 use Rattle.bundle.specs.Form.{Every, IsName, FormedElement, Formed, Marked, itemCount, useCount}
 use Rattle.bundle.specs.Stand.{Bytes, Stands, stands-then, stands-length, stands-byte, stands-sized}
 use Rattle.bundle.specs.Sound.{Read, CountRead, formed-read, element-read, count-read}
+use Rattle.bundle.specs.declared.Width.the-variants.{Byte}
 use Rattle.bundle.specs.declared.Scan.the-variants.{Next}
 use Rattle.bundle.specs.declared.Walk.the-variants.{Past, Fault}
 use Rattle.bundle.specs.declared.Field.the-variants.{Name, Element as ElementField}
@@ -132,19 +133,19 @@ module _ (s : List ℕ) (B : Bytes s) where
       → Stands s at (count-list string (counted (after s) (text s) s at) ++ count-list element (counted (afterElement s) (elementAt s) s (afterList (after s) s at))) n
       × ((length (counted (after s) (text s) s at) ≤ segment-limit) × Every IsName (counted (after s) (text s) s at))
       × ((length (counted (afterElement s) (elementAt s) s (afterList (after s) s at)) ≤ element-limit) × Every FormedElement (counted (afterElement s) (elementAt s) s (afterList (after s) s at)))
-  unfolding scanUse scanList scanField
+  unfolding scanUse scanList scanField count-list
   use-read end at n E h =
-      let m = read-then (scanList Name segment-limit s end at) h in
-      let a = count-read s B end E IsName string (after s) (text s) (scanName s end) (formed-read s B end E isIdentifier 5) 0 segment-limit at (m .mid) (m .first) in
-      let b = count-read s B end E FormedElement element (afterElement s) (elementAt s) (scanField ElementField s end) (element-read s B end E) 0 element-limit (m .mid) n (m .second) in
+      let m = read-then (scanList Byte Name segment-limit s end at) h in
+      let a = count-read s B end E Byte IsName string (after s) (text s) (scanName s end) (formed-read s B end E isIdentifier 5) 0 segment-limit at (m .mid) (m .first) in
+      let b = count-read s B end E Byte FormedElement element (afterElement s) (elementAt s) (scanField ElementField s end) (element-read s B end E) 0 element-limit (m .mid) n (m .second) in
       use-two (m .mid) a b
     where
-      use-two : (mid : ℕ) → CountRead s B end E IsName string (after s) (text s) 0 segment-limit at mid → CountRead s B end E FormedElement element (afterElement s) (elementAt s) 0 element-limit mid n
+      use-two : (mid : ℕ) → CountRead s B end E Byte IsName string (after s) (text s) 0 segment-limit at mid → CountRead s B end E Byte FormedElement element (afterElement s) (elementAt s) 0 element-limit mid n
           → Stands s at (count-list string (counted (after s) (text s) s at) ++ count-list element (counted (afterElement s) (elementAt s) s (afterList (after s) s at))) n
           × ((length (counted (after s) (text s) s at) ≤ segment-limit) × Every IsName (counted (after s) (text s) s at))
           × ((length (counted (afterElement s) (elementAt s) s (afterList (after s) s at)) ≤ element-limit) × Every FormedElement (counted (afterElement s) (elementAt s) s (afterList (after s) s at)))
       use-two mid a b =
-          let b' : CountRead s B end E FormedElement element (afterElement s) (elementAt s) 0 element-limit (afterList (after s) s at) n = rw (a .ends) at b in
+          let b' : CountRead s B end E Byte FormedElement element (afterElement s) (elementAt s) 0 element-limit (afterList (after s) s at) n = rw (a .ends) at b in
           let st : Stands s at (count-list string (counted (after s) (text s) s at)) (afterList (after s) s at) = rw (a .ends) at (a .stands) in
           (stands-then s (count-list string (counted (after s) (text s) s at)) (count-list element (counted (afterElement s) (elementAt s) s (afterList (after s) s at))) at (afterList (after s) s at) n st (b' .stands), (a .most, a .every), (b' .most, b' .every))
 

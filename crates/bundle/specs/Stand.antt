@@ -6,9 +6,12 @@ use mathlib.Core.Path.{_≡_, refl, sym, ap, _∙_}
 use mathlib.Core.List.{List, [], _∷_, _++_, append-assoc}
 use lib.ListN.{length, getD, drop, length-append, length-drop, take-append-drop}
 use lib.Seq.{drop-cons, drop-drop, drop-at, getD-drop, length-take-le}
-use Rattle.bundle.specs.Scan.{byte, word, text}
+use Rattle.bundle.specs.Scan.{byte, word, text, count, pastCount}
 use Rattle.bundle.specs.Decode.{after, afterLength}
-use Rattle.bundle.specs.Encode.{two, string, sized}
+use Rattle.bundle.specs.Encode.{two, string, count-bytes, sized}
+use Rattle.bundle.specs.Limits.{width}
+use Rattle.bundle.specs.declared.Width.{Width}
+use Rattle.bundle.specs.declared.Width.the-variants.{Byte, Word}
 pub use Rattle.bundle.specs.Read.{Bytes}
 
 -- x stands from a to b
@@ -48,6 +51,11 @@ module _ (s : List ℕ) where
       let z : at + 1 + 1 ≡ at + 2 = omega arith in
       rw (q, r) (rw z at (stands-then (byte s at ∷ []) (byte s (at + 1) ∷ []) at (at + 1) (at + 1 + 1) (stands-byte at (omega arith)) (stands-byte (at + 1) (omega arith))))
 
+  -- a count
+  pub stands-count : Bytes s → (w : Width) (at : ℕ) → pastCount w at ≤ length s → Stands s at (count-bytes w (count w s at)) (pastCount w at)
+  stands-count B Byte at h = stands-byte at (omega arith)
+  stands-count B Word at h = stands-two B at h
+
   -- a body behind its 2-byte length
   pub stands-sized : Bytes s → (body : List ℕ) (at : ℕ) → afterLength s at ≤ length s → Stands s (at + 2) body (afterLength s at) → Stands s at (sized body) (afterLength s at)
   unfolding sized
@@ -64,6 +72,28 @@ module _ (s : List ℕ) where
   at-byte at b l e =
       let z : at + 0 ≡ at = omega arith in
       (rw z at (sym (getD-drop at s 0 0)) ∙ ap (λ (x : List ℕ). getD x 0 0) e, sym (drop-drop 1 at s) ∙ ap (λ (x : List ℕ). drop 1 x) e)
+
+  at-two : (at n : ℕ) (l : List ℕ) → drop at s ≡ two n ++ l → (word s at ≡ n) × (drop (at + 2) s ≡ l)
+  unfolding two
+  at-two at n l e =
+      let a = at-byte at (n / 256) ((n % 256) ∷ l) e in
+      let b = at-byte (at + 1) (n % 256) l (a .1) in
+      let z : at + 1 + 1 ≡ at + 2 = omega arith in
+      let x = a .0 in
+      let y = b .0 in
+      (omega arith, rw z at (b .1))
+
+  pub at-count : (w : Width) (at n : ℕ) (l : List ℕ) → drop at s ≡ count-bytes w n ++ l → (count w s at ≡ n) × (drop (pastCount w at) s ≡ l)
+  at-count Byte at n l e = at-byte at n l e
+  at-count Word at n l e = at-two at n l e
+
+  two-length : (n : ℕ) → length (two n) ≡ 2
+  unfolding two
+  two-length n = refl
+
+  pub count-length : (w : Width) (n : ℕ) → length (count-bytes w n) ≡ width w
+  count-length Byte n = refl
+  count-length Word n = two-length n
 
   pub at-append : (at : ℕ) (x l : List ℕ) → drop at s ≡ x ++ l → drop (at + length x) s ≡ l
   at-append at x l e = sym (drop-drop (length x) at s) ∙ (ap (λ (y : List ℕ). drop (length x) y) e ∙ drop-at x l (length x) refl)

@@ -8,9 +8,12 @@ use mathlib.Core.List.{List}
 use lib.ListN.{length, take, drop, length-drop}
 use lib.Seq.{take-all}
 use lib.Dec.{eqb, ltb, leb}
-use borrow.Author.Tests.{ltb-true, leb-true, eqb-true}
-use Rattle.bundle.specs.Limits.{item-limit, use-limit}
-use Rattle.bundle.specs.Scan.{byte, word, text, andThen, times, scanString, scanFormed, scanCount, scanLength, scanMark, usesAfter, scanHead, scanEnd, walkOn, walkThen}
+use borrow.Author.Tests.{ltb-true, leb-true, eqb-true, le-leb, lt-leb}
+use Rattle.bundle.specs.Limits.{width, item-limit, most-uses}
+use Rattle.bundle.specs.Scan.{byte, word, text, versionOf, count, pastCount, andThen, times, scanString, scanFormed, scanCount, scanList, scanLength, scanMark, usesAfter, scanHead, scanEnd, walkOn, walkThen}
+use Rattle.bundle.specs.declared.Width.{Width}
+use Rattle.bundle.specs.declared.Width.the-variants.{Byte, Word}
+use Rattle.bundle.specs.declared.Field.{Field}
 use Rattle.bundle.specs.declared.Scan.{Scan}
 use Rattle.bundle.specs.declared.Scan.the-variants.{Next, Bad}
 use Rattle.bundle.specs.declared.Walk.{Walk}
@@ -116,19 +119,49 @@ module _ (s : List ℕ) (end at : ℕ) {n : ℕ} where
       let e : at + 1 ≡ n = next-inj (b .1) in
       (sym e, omega arith, leb-true _ _ (t .0), leb-true _ _ (t .1))
 
-  pub count-next : (low high : ℕ) → scanCount low high s end at ≡ Next n → (n ≡ at + 1) × (n ≤ end) × (low ≤ byte s at) × (byte s at ≤ high)
+  pub count-next : (w : Width) (low high : ℕ) → scanCount w low high s end at ≡ Next n → (n ≡ pastCount w at) × (n ≤ end) × (low ≤ count w s at) × (count w s at ≤ high)
   unfolding scanCount
-  count-next low high h =
-      let a = passed (ltb at end) _ _ _ h in
-      let b = passed (leb low (byte s at) && leb (byte s at) high) _ _ _ (a .1) in
-      let t = both (leb low (byte s at)) _ (b .0) in
-      let l : at < end = ltb-true _ _ (a .0) in
-      let e : at + 1 ≡ n = next-inj (b .1) in
+  count-next w low high h =
+      let a = passed (leb (pastCount w at) end) _ _ _ h in
+      let b = passed (leb low (count w s at) && leb (count w s at) high) _ _ _ (a .1) in
+      let t = both (leb low (count w s at)) _ (b .0) in
+      let l : pastCount w at ≤ end = leb-true _ _ (a .0) in
+      let e : pastCount w at ≡ n = next-inj (b .1) in
       (sym e, omega arith, leb-true _ _ (t .0), leb-true _ _ (t .1))
 
   pub end-next : scanEnd end at ≡ Next n → (at ≡ end) × (n ≡ at)
   unfolding scanEnd
   end-next h = let a = passed (eqb at end) _ _ _ h in (eqb-true _ _ (a .0), sym (next-inj (a .1)))
+
+-- a count takes some bytes
+pub some-bytes : (w : Width) → 0 < width w
+some-bytes Byte = omega arith
+some-bytes Word = omega arith
+
+-- EACH WAY THROUGH A COUNT
+module _ (s : List ℕ) (end at : ℕ) (w : Width) (low high : ℕ) where
+  pub count-cut : end < pastCount w at → scanCount w low high s end at ≡ Bad 1 at
+  unfolding scanCount
+  count-cut h = rw (lt-leb (pastCount w at) end h)
+
+  pub count-few : pastCount w at ≤ end → count w s at < low → scanCount w low high s end at ≡ Bad 3 at
+  unfolding scanCount
+  count-few h k = rw (le-leb (pastCount w at) end h, lt-leb low (count w s at) k)
+
+  pub count-many : pastCount w at ≤ end → low ≤ count w s at → high < count w s at → scanCount w low high s end at ≡ Bad 3 at
+  unfolding scanCount
+  count-many h l k = rw (le-leb (pastCount w at) end h, le-leb low (count w s at) l, lt-leb (count w s at) high k)
+
+  pub count-passed : pastCount w at ≤ end → low ≤ count w s at → count w s at ≤ high → scanCount w low high s end at ≡ Next (pastCount w at)
+  unfolding scanCount
+  count-passed h l k = rw (le-leb (pastCount w at) end h, le-leb low (count w s at) l, le-leb (count w s at) high k)
+
+-- a width and a limit that are equal to others
+pub count-same : (low : ℕ) (s : List ℕ) (end at : ℕ) {w v : Width} {m n : ℕ} → w ≡ v → m ≡ n → scanCount w low m s end at ≡ scanCount v low n s end at
+count-same low s end at e f = rw (e, f)
+
+pub list-same : (field : Field) (s : List ℕ) (end at : ℕ) {w v : Width} {m n : ℕ} → w ≡ v → m ≡ n → scanList w field m s end at ≡ scanList v field n s end at
+list-same field s end at e f = rw (e, f)
 
 -- an item's head that was read: its end is n
 pub record Head (s : List ℕ) (end at count uses n : ℕ) : Type 0 where
@@ -139,7 +172,7 @@ pub record Head (s : List ℕ) (end at count uses n : ℕ) : Type 0 where
   pub kind-high : byte s (at + 2) ≤ 6
   pub visibility : byte s (at + 3) ≤ 1
   pub count-small : count < item-limit
-  pub uses-small : usesAfter s at uses ≤ use-limit
+  pub uses-small : usesAfter s at uses ≤ most-uses (versionOf s)
 
 pub head-next : (s : List ℕ) (end at count uses : ℕ) {n : ℕ} → scanHead s end at count uses ≡ Next n → Head s end at count uses n
 unfolding scanHead
@@ -151,7 +184,7 @@ head-next s end at count uses {n = n} h =
     let d = read-then (scanMark 0 1 s (a .mid) (b .mid)) (b .second) in
     let z : at + 3 ≡ b .mid = omega arith in
     let ld = mark-next s (a .mid) (b .mid) 0 1 (d .first) in
-    let t = passed (ltb count item-limit && leb (usesAfter s at uses) use-limit) _ _ _ (d .second) in
+    let t = passed (ltb count item-limit && leb (usesAfter s at uses) (most-uses (versionOf s))) _ _ _ (d .second) in
     let u = both (ltb count item-limit) _ (t .0) in
     let e : a .mid ≡ n = next-inj (t .1) in
     let v : byte s (at + 3) ≤ 1 = rw z (ld .3) in

@@ -6,18 +6,20 @@ use mathlib.Core.Path.{_≡_, refl, sym, ap, _∙_}
 use mathlib.Core.List.{List, [], _∷_, _++_, append-nil, append-assoc}
 use lib.ListN.{length, getD, drop}
 use Rattle.bundle.specs.Bundle.{Bundle, File}
-use Rattle.bundle.specs.Limits.{header}
-use Rattle.bundle.specs.Encode.{string, joined, sized, remapping, file, fields, encode}
-use Rattle.bundle.specs.Encode.{counted as count-list}
+use Rattle.bundle.specs.Limits.{header, folder-width, file-width}
+use Rattle.bundle.specs.Encode.{string, count-bytes, joined, sized, remapping, file, fields, encode}
+use Rattle.bundle.specs.Encode.{counted as byte-list, countedBy as count-list}
+use Rattle.bundle.specs.Scan.{pastCount}
 use Rattle.bundle.specs.Decode.{decode}
 use Rattle.bundle.specs.Answers.{value-ok}
 use Rattle.bundle.specs.Form.{Unconflicted, WellFormed, firstFile}
-use Rattle.bundle.specs.Stand.{Bytes, at-append}
+use Rattle.bundle.specs.Stand.{Bytes, at-count, at-append}
 use Rattle.bundle.specs.SoundBundle.{form-sound, both-pass}
 use Rattle.bundle.specs.CompleteBundle.{form-complete}
 use Rattle.bundle.specs.Free.{conflicts-free, free-conflicts}
 use Rattle.bundle.specs.Marks.{fileMarks, rising-less, files-rising, FoundFiles, files-found, behind-length}
 use Rattle.bundle.specs.Read.{form, verdict, value, refused, read}
+use Rattle.bundle.specs.declared.Width.{Width}
 use Rattle.bundle.specs.declared.Checked.the-variants.{Ok, Refused}
 
 -- REFUSAL AND ACCEPTANCE
@@ -69,23 +71,22 @@ unique a b p q e =
     cc
 
 -- MARKS
-count-behind : (s : List ℕ) (l : List File) (at : ℕ) → drop at s ≡ count-list file l ++ [] → drop (at + 1) s ≡ joined file l ++ []
-unfolding count-list
-count-behind s l at e = at-append s at (length l ∷ []) (joined file l ++ []) e
+count-behind : (s : List ℕ) (w : Width) (l : List File) (at : ℕ) → drop at s ≡ count-list w file l ++ [] → drop (pastCount w at) s ≡ joined file l ++ []
+count-behind s w l at e = at-count s w at (length l) (joined file l ++ []) (e ∙ append-assoc (count-bytes w (length l)) (joined file l) []) .1
 
 behind-fields : (b : Bundle) → drop (firstFile b) (encode b) ≡ joined file (b .files) ++ []
 unfolding encode fields
 behind-fields b =
     let X1 = string (b .root) in
-    let X2 = count-list string (b .folders) in
-    let X3 = count-list remapping (b .remappings) in
-    let X4 = count-list file (b .files) in
+    let X2 = count-list (folder-width (b .version)) string (b .folders) in
+    let X3 = byte-list remapping (b .remappings) in
+    let X4 = count-list (file-width (b .version)) file (b .files) in
     let e : drop 1 (encode b) ≡ sized (fields b) ++ [] = sym (append-nil (sized (fields b))) in
     let e0 : drop header (encode b) ≡ X1 ++ ((X2 ++ (X3 ++ X4)) ++ []) = behind-length (encode b) 1 (fields b) [] e ∙ append-assoc X1 (X2 ++ (X3 ++ X4)) [] in
     let e1 = at-append (encode b) header X1 ((X2 ++ (X3 ++ X4)) ++ []) e0 ∙ append-assoc X2 (X3 ++ X4) [] in
     let e2 = at-append (encode b) (header + length X1) X2 ((X3 ++ X4) ++ []) e1 ∙ append-assoc X3 X4 [] in
     let e3 = at-append (encode b) (header + length X1 + length X2) X3 (X4 ++ []) e2 in
-    count-behind (encode b) (b .files) (header + length X1 + length X2 + length X3) e3
+    count-behind (encode b) (file-width (b .version)) (b .files) (header + length X1 + length X2 + length X3) e3
 
 -- every mark of an accepted bundle is the offset at which its item's bytes stand
 pub marks-are-offsets : (b : Bundle) → WellFormed b → FoundFiles (encode b) (b .files)

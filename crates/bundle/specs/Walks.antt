@@ -8,41 +8,42 @@ use mathlib.Core.List.{List}
 use lib.Dec.{eqb, ltb}
 use borrow.Author.Tests.{eqb-true, lt-ltb, le-ltb, eq-eqb, ne-eqb}
 use Rattle.names.specs.Identifier.{isIdentifier}
-use Rattle.bundle.specs.Limits.{item-limit, use-limit, use-kind, module-kind, depth-limit}
-use Rattle.bundle.specs.Scan.{byte, andThen, scanName, scanPath, scanLength, usesAfter, scanHead, scanBody, scanEnd, walkOn, walkThen, scanItemWith, siblings, scanModule, scanItem, scanItems, scanFile, scanFiles}
+use Rattle.bundle.specs.Limits.{item-limit, most-uses, use-kind, module-kind, depth-limit}
+use Rattle.bundle.specs.Scan.{byte, versionOf, andThen, scanName, scanPath, scanLength, usesAfter, scanHead, scanBody, scanEnd, walkOn, walkThen, scanItemWith, siblings, scanModule, scanItem, scanItems, scanFile, scanFiles}
 use Rattle.bundle.specs.Steps.{string-next, formed-next, length-next, end-next, Head, head-next, read-then, walked-on, walked-then}
 use Rattle.bundle.specs.declared.Scan.the-variants.{Next, Bad}
 use Rattle.bundle.specs.declared.Walk.{Walk}
 use Rattle.bundle.specs.declared.Walk.the-variants.{Past, Fault}
 
-pub record Went (at end a c u : ℕ) : Type 0 where
+-- most: the most uses
+pub record Went (most at end a c u : ℕ) : Type 0 where
   pub from : at ≤ a
   pub to : a ≤ end
   pub count : c ≤ item-limit
-  pub uses : u ≤ use-limit
+  pub uses : u ≤ most
 
 -- every item that is read moves on
-abbrev pub Goes : (ℕ → ℕ → ℕ → Walk) → ℕ → Type 0
-Goes one end = (at c u a c' u' : ℕ) → one at c u ≡ Past a c' u' → Went (suc at) end a c' u'
+abbrev pub Goes : ℕ → (ℕ → ℕ → ℕ → Walk) → ℕ → Type 0
+Goes most one end = (at c u a c' u' : ℕ) → one at c u ≡ Past a c' u' → Went most (suc at) end a c' u'
 
-stays : (at end c u a c' u' : ℕ) → Went at end at c u → Past at c u ≡ Past a c' u' → Went at end a c' u'
-stays at end c u a c' u' w h =
+stays : (most at end c u a c' u' : ℕ) → Went most at end at c u → Past at c u ≡ Past a c' u' → Went most at end a c' u'
+stays most at end c u a c' u' w h =
     let x : at ≡ a = cc in
     let y : c ≡ c' = cc in
     let z : u ≡ u' = cc in
     record { from = omega arith; to = omega (arith, w .to); count = omega (arith, w .count); uses = omega (arith, w .uses) }
 
-module _ (one : ℕ → ℕ → ℕ → Walk) (end : ℕ) (G : Goes one end) where
-  siblings-go : (k at c u a c' u' : ℕ) → Went at end at c u → siblings k one end at c u ≡ Past a c' u' → Went at end a c' u'
+module _ {most : ℕ} (one : ℕ → ℕ → ℕ → Walk) (end : ℕ) (G : Goes most one end) where
+  siblings-go : (k at c u a c' u' : ℕ) → Went most at end at c u → siblings k one end at c u ≡ Past a c' u' → Went most at end a c' u'
   unfolding siblings
-  siblings-go zero at c u a c' u' w h = stays at end c u a c' u' w h
-  siblings-go (suc k) at c u a c' u' w h = go (ltb at end) (siblings-go k) (stays at end c u a c' u' w) h
+  siblings-go zero at c u a c' u' w h = stays most at end c u a c' u' w h
+  siblings-go (suc k) at c u a c' u' w h = go (ltb at end) (siblings-go k) (stays most at end c u a c' u' w) h
     where
       go : (b : Bool)
-          → ((at c u a c' u' : ℕ) → Went at end at c u → siblings k one end at c u ≡ Past a c' u' → Went at end a c' u')
-          → (Past at c u ≡ Past a c' u' → Went at end a c' u')
+          → ((at c u a c' u' : ℕ) → Went most at end at c u → siblings k one end at c u ≡ Past a c' u' → Went most at end a c' u')
+          → (Past at c u ≡ Past a c' u' → Went most at end a c' u')
           → cond b (walkThen (one at c u) (siblings k one end)) (Past at c u) ≡ Past a c' u'
-          → Went at end a c' u'
+          → Went most at end a c' u'
       go false rec stop h = stop h
       go true rec stop h =
           let m = walked-then (one at c u) h in
@@ -88,9 +89,9 @@ module _ (one : ℕ → ℕ → ℕ → Walk) (end : ℕ) (G : Goes one end) whe
 -- an item's module goes on from the item's head
 abbrev Enters : List ℕ → (ℕ → ℕ → ℕ → ℕ → Walk) → Type 0
 Enters s inModule =
-    (next at c u a c' u' : ℕ) → at + 4 ≤ next → c < item-limit → u ≤ use-limit → inModule next at c u ≡ Past a c' u' → Went (suc at) next a c' u'
+    (next at c u a c' u' : ℕ) → at + 4 ≤ next → c < item-limit → u ≤ most-uses (versionOf s) → inModule next at c u ≡ Past a c' u' → Went (most-uses (versionOf s)) (suc at) next a c' u'
 
-item-goes : (s : List ℕ) (inModule : ℕ → ℕ → ℕ → ℕ → Walk) → Enters s inModule → (end : ℕ) → Goes (scanItemWith inModule s end) end
+item-goes : (s : List ℕ) (inModule : ℕ → ℕ → ℕ → ℕ → Walk) → Enters s inModule → (end : ℕ) → Goes (most-uses (versionOf s)) (scanItemWith inModule s end) end
 unfolding scanItemWith
 item-goes s inModule E end at c u a c' u' h =
     let m = walked-on (scanHead s end at c u) h in
@@ -100,11 +101,11 @@ item-goes s inModule E end at c u a c' u' h =
         → cond b (inModule next at c u)
         (walkOn (andThen (scanBody s next at) (scanEnd next)) (λ past. Past past (c + 1) (usesAfter s at u)))
         ≡ Past a c' u'
-        → Went (suc at) end a c' u'
+        → Went (most-uses (versionOf s)) (suc at) end a c' u'
     go next hd true q h =
         let k : byte s (at + 2) ≡ module-kind = eqb-true _ _ q in
         let ne : eqb (byte s (at + 2)) use-kind ≡ false = ne-eqb _ _ (λ (e : byte s (at + 2) ≡ use-kind). omega arith) in
-        let small : u ≤ use-limit = rw ne at (hd .uses-small) in
+        let small : u ≤ most-uses (versionOf s) = rw ne at (hd .uses-small) in
         let w = E next at c u a c' u' (hd .long) (hd .count-small) small h in
         record { from = w .from; to = omega (arith, w .to, hd .within); count = w .count; uses = w .uses }
     go next hd false q h =
@@ -138,14 +139,14 @@ module-enters (suc depth) s next at c u a c' u' h4 hc hu h =
     record { from = omega (arith, w .from); to = w .to; count = w .count; uses = w .uses }
 
 -- THE ITEMS OF A BUNDLE
-pub goes : (depth : ℕ) (s : List ℕ) (end : ℕ) → Goes (scanItem depth s end) end
+pub goes : (depth : ℕ) (s : List ℕ) (end : ℕ) → Goes (most-uses (versionOf s)) (scanItem depth s end) end
 goes depth s end = item-goes s (scanModule depth s) (module-enters depth s) end
 
-pub items-go : (depth : ℕ) (s : List ℕ) (end at c u a c' u' : ℕ) → at ≤ end → c ≤ item-limit → u ≤ use-limit → scanItems depth s end at c u ≡ Past a c' u' → Went at end a c' u'
+pub items-go : (depth : ℕ) (s : List ℕ) (end at c u a c' u' : ℕ) → at ≤ end → c ≤ item-limit → u ≤ most-uses (versionOf s) → scanItems depth s end at c u ≡ Past a c' u' → Went (most-uses (versionOf s)) at end a c' u'
 items-go depth s end at c u a c' u' h hc hu e =
     siblings-go (scanItem depth s end) end (goes depth s end) (end - at) at c u a c' u' (record { from = omega arith; to = h; count = hc; uses = hu }) e
 
-pub file-goes : (s : List ℕ) (end at c u a c' u' : ℕ) → c ≤ item-limit → u ≤ use-limit → scanFile s end at c u ≡ Past a c' u' → (a ≤ end) × (c' ≤ item-limit) × (u' ≤ use-limit)
+pub file-goes : (s : List ℕ) (end at c u a c' u' : ℕ) → c ≤ item-limit → u ≤ most-uses (versionOf s) → scanFile s end at c u ≡ Past a c' u' → (a ≤ end) × (c' ≤ item-limit) × (u' ≤ most-uses (versionOf s))
 unfolding scanFile
 file-goes s end at c u a c' u' hc hu h =
     let m = walked-on (scanPath s end at) h in

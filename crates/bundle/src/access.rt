@@ -1,21 +1,27 @@
 // Access by position to the parts of a bundle. A position is where a part stands; the contracts say which part of the decoded
 // value that is. None of them needs a checked bundle: of other bytes they give the parts of what `decode` makes of them.
 ghost use mathlib.Core.Path.{_≡_};
-ghost use Prim.Native.Nat.{ℕ, suc, _+_, _<_, _≤_, _^_};
+ghost use Prim.Native.Nat.{ℕ, suc, _+_, _*_, _<_, _≤_, _^_};
 ghost use lib.ListN.{length, getD};
 ghost use Rattle.bundle.specs.Bundle.{Text, Remapping, File};
-ghost use Rattle.bundle.specs.Limits.{depth-limit, use-kind, module-kind, ignored-kind};
-ghost use Rattle.bundle.specs.Scan.{text};
-ghost use Rattle.bundle.specs.Decode.{each, after, afterElement, afterRemapping, afterFile, elementAt, remappingAt, fileAt, itemsAt, decode, foldersAt, remappingsAt, filesAt};
+ghost use Rattle.bundle.specs.Limits.{capacity, count-limit, string-size, element-size, remapping-size, file-size, depth-limit, use-kind, module-kind, ignored-kind};
+ghost use Rattle.bundle.specs.Scan.{text, count, pastCount};
+ghost use Rattle.bundle.specs.Decode.{each, far, after, afterElement, afterRemapping, afterFile, elementAt, remappingAt, fileAt, itemsAt, decode, folderFirst, folderCount, remappingFirst, remappingCount, fileFirst, fileCount};
 ghost use Rattle.bundle.specs.Parts.{kindOf, markOf, visibilityOf, nameOf, segmentsOf, elementsOf, innerOf, restOf};
+use crate::Width;
 use crate::bytes::after_length;
 use crate::bytes::after_string;
 use crate::bytes::byte_at;
+use crate::bytes::count_at;
 use crate::bytes::text_at;
+use crate::bytes::version_of;
 use crate::conflicts::after_files;
 use crate::conflicts::after_strings;
-use crate::conflicts::next_path;
+use crate::conflicts::next_remapping;
 use crate::limits::HEADER;
+use crate::limits::file_width;
+use crate::limits::folder_width;
+use crate::limits::width_bytes;
 
 // A counted list: the position of its first value, and how many there are.
 pub struct Listed {
@@ -29,24 +35,54 @@ pub struct Range {
     pub end: usize,
 }
 
-fn folders_at(s: &[u8]) -> usize
-    ensures { λ r. ⌜ (r ≡ foldersAt (now (s .entry))) × (r ≤ 259) ⌝ }
+// The counted list whose count, of a width, stands at `at`.
+fn listed_at(s: &[u8], at: usize, width: Width) -> Listed
+    requires { ⌜ at < 2 ^ 63 ⌝ }
+    ensures { λ r. ⌜ ((r .first ≡ pastCount width at) × (r .count ≡ count width (now (s .entry)) at)) × (r .count < capacity width) ⌝ }
 {
-    after_string(s, HEADER)
+    let n = count_at(s, at, width);
+    Listed {
+        first: at + width_bytes(width),
+        count: n,
+    }
 }
 
-fn remappings_at(s: &[u8]) -> usize
-    ensures { λ r. ⌜ (r ≡ remappingsAt (now (s .entry))) × (r ≤ 66000) ⌝ }
+// Past n remappings.
+fn after_remappings(s: &[u8], at: usize, n: usize) -> usize
+    requires { ⌜ (at < 2 ^ 60) × (n < count-limit) ⌝ }
+    ensures { λ r. ⌜ (r ≡ far (afterRemapping (now (s .entry))) n at) × (r ≤ at + n * remapping-size) ⌝ }
 {
-    let at = folders_at(s);
-    after_strings(s, at + 1, byte_at(s, at))
+    let mut a = at;
+    let mut i = 0;
+    while i < n {
+        a = next_remapping(s, a);
+        i += 1;
+    }
+    a
 }
 
-fn files_at(s: &[u8]) -> usize
-    ensures { λ r. ⌜ (r ≡ filesAt (now (s .entry))) × (r ≤ 270000) ⌝ }
+// The three lists, each after the one before it.
+fn folder_list(s: &[u8]) -> Listed
+    ensures { λ r. ⌜ ((r .first ≡ folderFirst (now (s .entry))) × (r .count ≡ folderCount (now (s .entry)))) × ((r .first < 2 ^ 10) × (r .count < count-limit)) ⌝ }
 {
-    let at = remappings_at(s);
-    after_strings(s, at + 1, 3 * byte_at(s, at))
+    let at = after_string(s, HEADER);
+    listed_at(s, at, folder_width(version_of(s)))
+}
+
+fn remapping_list(s: &[u8]) -> Listed
+    ensures { λ r. ⌜ ((r .first ≡ remappingFirst (now (s .entry))) × (r .count ≡ remappingCount (now (s .entry)))) × ((r .first < 2 ^ 18) × (r .count < count-limit)) ⌝ }
+{
+    let folders = folder_list(s);
+    let at = after_strings(s, folders.first, folders.count);
+    listed_at(s, at, Width::Byte)
+}
+
+fn file_list(s: &[u8]) -> Listed
+    ensures { λ r. ⌜ ((r .first ≡ fileFirst (now (s .entry))) × (r .count ≡ fileCount (now (s .entry)))) × ((r .first < 2 ^ 20) × (r .count < count-limit)) ⌝ }
+{
+    let remappings = remapping_list(s);
+    let at = after_remappings(s, remappings.first, remappings.count);
+    listed_at(s, at, file_width(version_of(s)))
 }
 
 // The package root of the entry.
@@ -58,61 +94,46 @@ pub fn root(s: &[u8]) -> &[u8]
 
 // The folders: each is the string at its position, and the next stands after it.
 pub fn folders(s: &[u8]) -> Listed
-    ensures { λ r. ⌜ (each (after (now (s .entry))) (text (now (s .entry))) (r .count) (r .first) ≡ decode (now (s .entry)) .folders) × ((r .first < 2 ^ 20) × (r .count < 256)) ⌝ }
+    ensures { λ r. ⌜ (each (after (now (s .entry))) (text (now (s .entry))) (r .count) (r .first) ≡ decode (now (s .entry)) .folders) × ((r .first < 2 ^ 20) × (r .count < count-limit)) ⌝ }
 {
-    let at = folders_at(s);
-    let n = byte_at(s, at);
-    Listed {
-        first: at + 1,
-        count: n,
-    }
+    folder_list(s)
 }
 
 pub fn remappings(s: &[u8]) -> Listed
-    ensures { λ r. ⌜ (each (afterRemapping (now (s .entry))) (remappingAt (now (s .entry))) (r .count) (r .first) ≡ decode (now (s .entry)) .remappings) × ((r .first < 2 ^ 20) × (r .count < 256)) ⌝ }
+    ensures { λ r. ⌜ (each (afterRemapping (now (s .entry))) (remappingAt (now (s .entry))) (r .count) (r .first) ≡ decode (now (s .entry)) .remappings) × ((r .first < 2 ^ 20) × (r .count < count-limit)) ⌝ }
 {
-    let at = remappings_at(s);
-    let n = byte_at(s, at);
-    Listed {
-        first: at + 1,
-        count: n,
-    }
+    remapping_list(s)
 }
 
 pub fn files(s: &[u8]) -> Listed
-    ensures { λ r. ⌜ (each (afterFile (now (s .entry))) (fileAt (now (s .entry))) (r .count) (r .first) ≡ decode (now (s .entry)) .files) × ((r .first < 2 ^ 20) × (r .count < 256)) ⌝ }
+    ensures { λ r. ⌜ (each (afterFile (now (s .entry))) (fileAt (now (s .entry))) (r .count) (r .first) ≡ decode (now (s .entry)) .files) × ((r .first < 2 ^ 20) × (r .count < count-limit)) ⌝ }
 {
-    let at = files_at(s);
-    let n = byte_at(s, at);
-    Listed {
-        first: at + 1,
-        count: n,
-    }
+    file_list(s)
 }
 
 // The positions of the i-th folder, remapping and file.
 pub fn folder_at(s: &[u8], i: usize) -> usize
-    requires { ⌜ i < 256 ⌝ }
+    requires { ⌜ i < count-limit ⌝ }
     ensures { λ r. ⌜ ((d : Text) → i < length (decode (now (s .entry)) .folders) → getD (decode (now (s .entry)) .folders) i d ≡ text (now (s .entry)) r) × (r < 2 ^ 20) ⌝ }
 {
-    let at = folders_at(s);
-    after_strings(s, at + 1, i)
+    let folders = folder_list(s);
+    after_strings(s, folders.first, i)
 }
 
 pub fn remapping_at(s: &[u8], i: usize) -> usize
-    requires { ⌜ i < 256 ⌝ }
+    requires { ⌜ i < count-limit ⌝ }
     ensures { λ r. ⌜ ((d : Remapping) → i < length (decode (now (s .entry)) .remappings) → getD (decode (now (s .entry)) .remappings) i d ≡ remappingAt (now (s .entry)) r) × (r < 2 ^ 20) ⌝ }
 {
-    let at = remappings_at(s);
-    after_strings(s, at + 1, 3 * i)
+    let remappings = remapping_list(s);
+    after_remappings(s, remappings.first, i)
 }
 
 pub fn file_at(s: &[u8], i: usize) -> usize
-    requires { ⌜ i < 256 ⌝ }
+    requires { ⌜ i < count-limit ⌝ }
     ensures { λ r. ⌜ ((d : File) → i < length (decode (now (s .entry)) .files) → getD (decode (now (s .entry)) .files) i d ≡ fileAt (now (s .entry)) r) × (r < 2 ^ 26) ⌝ }
 {
-    let at = files_at(s);
-    after_files(s, at + 1, i)
+    let files = file_list(s);
+    after_files(s, files.first, i)
 }
 
 // The string at a position: a folder, a segment.
@@ -125,21 +146,22 @@ pub fn string(s: &[u8], at: usize) -> &[u8]
 
 pub fn next_string(s: &[u8], at: usize) -> usize
     requires { ⌜ at < 2 ^ 63 ⌝ }
-    ensures { λ r. ⌜ (r ≡ after (now (s .entry)) at) × (r ≤ at + 256) ⌝ }
+    ensures { λ r. ⌜ (r ≡ after (now (s .entry)) at) × (r ≤ at + string-size) ⌝ }
 {
     after_string(s, at)
 }
 
 pub fn next_file(s: &[u8], at: usize) -> usize
     requires { ⌜ at < 2 ^ 62 ⌝ }
-    ensures { λ r. ⌜ (r ≡ afterFile (now (s .entry)) at) × (r ≤ at + 66000) ⌝ }
+    ensures { λ r. ⌜ (r ≡ afterFile (now (s .entry)) at) × (r ≤ at + file-size) ⌝ }
 {
-    next_path(s, true, at)
+    let length = after_string(s, at);
+    after_length(s, length)
 }
 
 pub fn next_element(s: &[u8], at: usize) -> usize
     requires { ⌜ at < 2 ^ 62 ⌝ }
-    ensures { λ r. ⌜ (r ≡ afterElement (now (s .entry)) at) × (r ≤ at + 512) ⌝ }
+    ensures { λ r. ⌜ (r ≡ afterElement (now (s .entry)) at) × (r ≤ at + element-size) ⌝ }
 {
     let alias = after_string(s, at);
     after_string(s, alias)
@@ -180,7 +202,7 @@ pub fn file_path(s: &[u8], at: usize) -> &[u8]
 
 pub fn file_items(s: &[u8], at: usize) -> Range
     requires { ⌜ at < 2 ^ 62 ⌝ }
-    ensures { λ r. ⌜ (itemsAt depth-limit (now (s .entry)) (r .end) (r .at) ≡ fileAt (now (s .entry)) at .items) × (r .end ≤ at + 66000) ⌝ }
+    ensures { λ r. ⌜ (itemsAt depth-limit (now (s .entry)) (r .end) (r .at) ≡ fileAt (now (s .entry)) at .items) × (r .end ≤ at + file-size) ⌝ }
 {
     let length = after_string(s, at);
     let end = after_length(s, length);
@@ -233,33 +255,25 @@ pub fn item_name(s: &[u8], at: usize) -> &[u8]
 // A use's segments.
 pub fn use_segments(s: &[u8], at: usize) -> Listed
     requires { ⌜ at < 2 ^ 62 ⌝ }
-    ensures { λ r. ⌜ ((depth end : ℕ) → at < end → kindOf (itemsAt depth (now (s .entry)) end at) ≡ use-kind → each (after (now (s .entry))) (text (now (s .entry))) (r .count) (r .first) ≡ segmentsOf (itemsAt depth (now (s .entry)) end at)) × ((r .first ≤ at + 5) × (r .count < 256)) ⌝ }
+    ensures { λ r. ⌜ ((depth end : ℕ) → at < end → kindOf (itemsAt depth (now (s .entry)) end at) ≡ use-kind → each (after (now (s .entry))) (text (now (s .entry))) (r .count) (r .first) ≡ segmentsOf (itemsAt depth (now (s .entry)) end at)) × ((r .first ≤ at + 5) × (r .count < count-limit)) ⌝ }
 {
-    let n = byte_at(s, at + 4);
-    Listed {
-        first: at + 5,
-        count: n,
-    }
+    listed_at(s, at + 4, Width::Byte)
 }
 
 // A use's elements.
 pub fn use_elements(s: &[u8], at: usize) -> Listed
     requires { ⌜ at < 2 ^ 59 ⌝ }
-    ensures { λ r. ⌜ ((depth end : ℕ) → at < end → kindOf (itemsAt depth (now (s .entry)) end at) ≡ use-kind → each (afterElement (now (s .entry))) (elementAt (now (s .entry))) (r .count) (r .first) ≡ elementsOf (itemsAt depth (now (s .entry)) end at)) × ((r .first ≤ at + 66000) × (r .count < 256)) ⌝ }
+    ensures { λ r. ⌜ ((depth end : ℕ) → at < end → kindOf (itemsAt depth (now (s .entry)) end at) ≡ use-kind → each (afterElement (now (s .entry))) (elementAt (now (s .entry))) (r .count) (r .first) ≡ elementsOf (itemsAt depth (now (s .entry)) end at)) × ((r .first ≤ at + file-size) × (r .count < count-limit)) ⌝ }
 {
-    let segments = byte_at(s, at + 4);
-    let elements = after_strings(s, at + 5, segments);
-    let n = byte_at(s, elements);
-    Listed {
-        first: elements + 1,
-        count: n,
-    }
+    let segments = listed_at(s, at + 4, Width::Byte);
+    let elements = after_strings(s, segments.first, segments.count);
+    listed_at(s, elements, Width::Byte)
 }
 
 // A module's items.
 pub fn module_items(s: &[u8], at: usize) -> Range
     requires { ⌜ at < 2 ^ 62 ⌝ }
-    ensures { λ r. ⌜ ((depth end : ℕ) → at < end → kindOf (itemsAt (suc depth) (now (s .entry)) end at) ≡ module-kind → itemsAt depth (now (s .entry)) (r .end) (r .at) ≡ innerOf (itemsAt (suc depth) (now (s .entry)) end at)) × ((at < r .at) × (r .end ≤ at + 66000)) ⌝ }
+    ensures { λ r. ⌜ ((depth end : ℕ) → at < end → kindOf (itemsAt (suc depth) (now (s .entry)) end at) ≡ module-kind → itemsAt depth (now (s .entry)) (r .end) (r .at) ≡ innerOf (itemsAt (suc depth) (now (s .entry)) end at)) × ((at < r .at) × (r .end ≤ at + file-size)) ⌝ }
 {
     let inner = after_string(s, at + 4);
     let end = after_length(s, at);
@@ -272,7 +286,7 @@ pub fn module_items(s: &[u8], at: usize) -> Range
 // The next item.
 pub fn next_item(s: &[u8], at: usize) -> usize
     requires { ⌜ at < 2 ^ 62 ⌝ }
-    ensures { λ r. ⌜ ((depth end : ℕ) → at < end → itemsAt depth (now (s .entry)) end r ≡ restOf (itemsAt depth (now (s .entry)) end at)) × ((at < r) × (r ≤ at + 66000)) ⌝ }
+    ensures { λ r. ⌜ ((depth end : ℕ) → at < end → itemsAt depth (now (s .entry)) end r ≡ restOf (itemsAt depth (now (s .entry)) end at)) × ((at < r) × (r ≤ at + file-size)) ⌝ }
 {
     after_length(s, at)
 }

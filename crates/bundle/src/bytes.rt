@@ -1,8 +1,10 @@
 // Bytes, numbers and strings at a place.
 ghost use mathlib.Core.Path.{_≡_};
 ghost use Prim.Native.Nat.{_+_, _<_, _≤_, _^_};
-ghost use Rattle.bundle.specs.Scan.{byte, word, text};
+ghost use Rattle.bundle.specs.Limits.{capacity};
+ghost use Rattle.bundle.specs.Scan.{byte, word, text, versionOf, count};
 ghost use Rattle.bundle.specs.Decode.{after, afterLength};
+use crate::Width;
 
 fn wide(b: u8) -> usize
     ensures { λ r. ⌜ (r ≡ b) × (r < 256) ⌝ }
@@ -22,10 +24,28 @@ pub fn byte_at(s: &[u8], at: usize) -> usize
 
 // The 2-byte number at `at`.
 pub fn word_at(s: &[u8], at: usize) -> usize
-    requires { ⌜ at < 2 ^ 63 ⌝ }
+    requires { ⌜ at + 1 < 2 ^ 64 ⌝ }
     ensures { λ r. ⌜ (r ≡ word (now (s .entry)) at) × (r < 65536) ⌝ }
 {
     byte_at(s, at) * 256 + byte_at(s, at + 1)
+}
+
+// The version: byte 0.
+pub fn version_of(s: &[u8]) -> usize
+    ensures { λ r. ⌜ r ≡ versionOf (now (s .entry)) ⌝ }
+{
+    byte_at(s, 0)
+}
+
+// The count at `at`, of a width.
+pub fn count_at(s: &[u8], at: usize, width: Width) -> usize
+    requires { ⌜ at + 1 < 2 ^ 64 ⌝ }
+    ensures { λ r. ⌜ (r ≡ count width (now (s .entry)) at) × (r < capacity width) ⌝ }
+{
+    match width {
+        Width::Byte => byte_at(s, at),
+        Width::Word => word_at(s, at),
+    }
 }
 
 // The bytes of the string at `at`, as far as there are any.

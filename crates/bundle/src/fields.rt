@@ -5,11 +5,14 @@ ghost use lib.ListN.{length};
 ghost use Rattle.bundle.specs.Scan.{scanString, scanPath, scanName, scanAlias, scanField, times, scanCount, scanList, scanUse, scanLength, scanMark, scanEnd};
 use crate::Field;
 use crate::Scan;
+use crate::Width;
 use crate::bytes::byte_at;
+use crate::bytes::count_at;
 use crate::bytes::text_at;
 use crate::bytes::word_at;
 use crate::limits::ELEMENTS;
 use crate::limits::SEGMENTS;
+use crate::limits::width_bytes;
 
 pub fn string_end(s: &[u8], at: usize, end: usize) -> Scan
     requires { ⌜ end ≤ length (now s) ⌝ }
@@ -135,33 +138,37 @@ fn fields_end(s: &[u8], at: usize, end: usize, field: Field, n: usize) -> Scan
     Scan::Next(a)
 }
 
-// A count between two limits.
-pub fn count_end(s: &[u8], at: usize, end: usize, low: usize, high: usize) -> Scan
+// A count of a width, between two limits.
+pub fn count_end(s: &[u8], at: usize, end: usize, width: Width, low: usize, high: usize) -> Scan
     requires { ⌜ end ≤ length (now s) ⌝ }
-    ensures { λ r. ⌜ r ≡ scanCount low high (now (s .entry)) end at ⌝ }
+    ensures { λ r. ⌜ r ≡ scanCount width low high (now (s .entry)) end at ⌝ }
 {
+    let bytes = width_bytes(width);
     if at >= end {
         return Scan::Bad(1, at);
     }
-    let n = byte_at(s, at);
+    if end - at < bytes {
+        return Scan::Bad(1, at);
+    }
+    let n = count_at(s, at, width);
     if n < low {
         return Scan::Bad(3, at);
     }
     if n > high {
         return Scan::Bad(3, at);
     }
-    Scan::Next(at + 1)
+    Scan::Next(at + bytes)
 }
 
 // A count up to a limit, and as many fields.
-pub fn list_end(s: &[u8], at: usize, end: usize, field: Field, limit: usize) -> Scan
+pub fn list_end(s: &[u8], at: usize, end: usize, width: Width, field: Field, limit: usize) -> Scan
     requires { ⌜ end ≤ length (now s) ⌝ }
-    ensures { λ r. ⌜ r ≡ scanList field limit (now (s .entry)) end at ⌝ }
+    ensures { λ r. ⌜ r ≡ scanList width field limit (now (s .entry)) end at ⌝ }
 {
-    let count = count_end(s, at, end, 0, limit);
+    let count = count_end(s, at, end, width, 0, limit);
     match count {
         Scan::Bad(n, p) => Scan::Bad(n, p),
-        Scan::Next(first) => fields_end(s, first, end, field, byte_at(s, at)),
+        Scan::Next(first) => fields_end(s, first, end, field, count_at(s, at, width)),
     }
 }
 
@@ -170,10 +177,10 @@ pub fn use_end(s: &[u8], at: usize, end: usize) -> Scan
     requires { ⌜ end ≤ length (now s) ⌝ }
     ensures { λ r. ⌜ r ≡ scanUse (now (s .entry)) end at ⌝ }
 {
-    let segments = list_end(s, at, end, Field::Name, SEGMENTS);
+    let segments = list_end(s, at, end, Width::Byte, Field::Name, SEGMENTS);
     match segments {
         Scan::Bad(n, p) => Scan::Bad(n, p),
-        Scan::Next(elements) => list_end(s, elements, end, Field::Element, ELEMENTS),
+        Scan::Next(elements) => list_end(s, elements, end, Width::Byte, Field::Element, ELEMENTS),
     }
 }
 

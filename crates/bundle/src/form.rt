@@ -9,7 +9,9 @@ use crate::Checked;
 use crate::Field;
 use crate::Scan;
 use crate::Walk;
-use crate::bytes::byte_at;
+use crate::Width;
+use crate::bytes::count_at;
+use crate::bytes::version_of;
 use crate::bytes::word_at;
 use crate::fields::count_end;
 use crate::fields::length_end;
@@ -18,11 +20,13 @@ use crate::fields::nothing_left;
 use crate::fields::path_end;
 use crate::items::items;
 use crate::limits::DEPTH;
-use crate::limits::FILES;
-use crate::limits::FOLDERS;
 use crate::limits::HEADER;
 use crate::limits::REMAPPINGS;
-use crate::limits::VERSION;
+use crate::limits::file_width;
+use crate::limits::folder_width;
+use crate::limits::is_defined;
+use crate::limits::most_files;
+use crate::limits::most_folders;
 
 fn file_end(s: &[u8], at: usize, end: usize, count: usize, uses: usize) -> Walk
     requires { ⌜ (end ≤ length (now s)) × ((count ≤ item-limit) × (uses ≤ use-limit)) ⌝ }
@@ -73,7 +77,7 @@ fn header_end(s: &[u8]) -> Scan
     if s.len() < HEADER {
         return Scan::Bad(1, 0);
     }
-    if byte_at(s, 0) != VERSION {
+    if !is_defined(version_of(s)) {
         return Scan::Bad(2, 0);
     }
     let declared = word_at(s, 1);
@@ -92,11 +96,13 @@ fn files_form(s: &[u8], at: usize) -> Checked
     ensures { λ r. ⌜ r ≡ Read·files (now (s .entry)) at ⌝ }
 {
     let end = s.len();
-    let count = count_end(s, at, end, 1, FILES);
+    let version = version_of(s);
+    let width = file_width(version);
+    let count = count_end(s, at, end, width, 1, most_files(version));
     match count {
         Scan::Bad(n, p) => Checked::Refused(n, p),
         Scan::Next(first) => {
-            let all = files_end(s, first, end, byte_at(s, at));
+            let all = files_end(s, first, end, count_at(s, at, width));
             match all {
                 Walk::Fault(n, p) => Checked::Refused(n, p),
                 Walk::Past(last, _, _) => {
@@ -116,11 +122,19 @@ fn lists_form(s: &[u8], at: usize) -> Checked
     ensures { λ r. ⌜ r ≡ Read·lists (now (s .entry)) at ⌝ }
 {
     let end = s.len();
-    let folders = list_end(s, at, end, Field::Path, FOLDERS);
+    let version = version_of(s);
+    let folders = list_end(
+        s,
+        at,
+        end,
+        folder_width(version),
+        Field::Path,
+        most_folders(version),
+    );
     match folders {
         Scan::Bad(n, p) => Checked::Refused(n, p),
         Scan::Next(a) => {
-            let remappings = list_end(s, a, end, Field::Remapping, REMAPPINGS);
+            let remappings = list_end(s, a, end, Width::Byte, Field::Remapping, REMAPPINGS);
             match remappings {
                 Scan::Bad(n, p) => Checked::Refused(n, p),
                 Scan::Next(b) => files_form(s, b),

@@ -7,6 +7,7 @@ ghost use Rattle.bundle.specs.Scan.{usesAfter, scanHead, scanBody, scanI
 use crate::Scan;
 use crate::Walk;
 use crate::bytes::byte_at;
+use crate::bytes::version_of;
 use crate::fields::length_end;
 use crate::fields::mark_end;
 use crate::fields::name_end;
@@ -16,7 +17,7 @@ use crate::limits::IGNORED;
 use crate::limits::ITEMS;
 use crate::limits::MODULE;
 use crate::limits::USE;
-use crate::limits::USES;
+use crate::limits::most_uses;
 
 // How many uses there are after the item at `at`.
 fn uses_after(s: &[u8], at: usize, uses: usize) -> usize
@@ -49,7 +50,7 @@ fn head_end(s: &[u8], at: usize, end: usize, count: usize, uses: usize) -> Scan
                             if count >= ITEMS {
                                 return Scan::Bad(3, at);
                             }
-                            if uses_after(s, at, uses) > USES {
+                            if uses_after(s, at, uses) > most_uses(version_of(s)) {
                                 return Scan::Bad(3, at);
                             }
                             Scan::Next(next)

@@ -56,6 +56,12 @@ pub enum Walk {
     Fault(u8, usize),
 }
 
+// How wide a count is written: a byte, or two.
+pub enum Width {
+    Byte,
+    Word,
+}
+
 // The fields that stand in counted lists.
 pub enum Field {
     Path,

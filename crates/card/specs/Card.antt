@@ -5,20 +5,23 @@ use native.Mathlib.Decide.{decLt}
 use mathlib.Core.Bool.{Bool, true, false, cond, _&&_, not}
 use mathlib.Core.Path.{_≡_, refl, sym, ap, _∙_}
 use mathlib.Core.List.{List, [], _∷_, _++_, map}
-use lib.Dec.{eqb, ltb}
+use lib.Dec.{eqb, leb}
 use lib.ListN.{length, getD, drop, length-append}
-use borrow.Author.Tests.{eq-eqb, ne-eqb, eqb-true, eqb-false}
-use Rattle.names.specs.Bytes.{slash, hasPrefix, same-append, same, same-eq, equal-same, different, member, not-true}
+use borrow.Author.Tests.{eq-eqb, ne-eqb, eqb-true, eqb-false, le-leb, lt-leb}
+use Rattle.names.specs.Bytes.{slash, hasPrefix, same-append, same, same-eq, equal-same, different, member, and-right, not-true}
 use Rattle.names.specs.Path.{root, isPath, component-limit}
 use Rattle.names.specs.Prefix.{startsWith, stemOf, child, childFile}
 use Rattle.names.specs.PathTheorems.{form}
 use Rattle.names.specs.FolderTheorems.{Plain}
 use Rattle.bundle.specs.Bundle.{Text, Bundle, File, Remapping}
+use Rattle.bundle.specs.Form.{withSlash}
 use Rattle.bundle.specs.Scan.{text}
 use Rattle.bundle.specs.Decode.{decode, fileAt, remappingAt}
 use Rattle.card.specs.Layout.{node-limit, bucket-limit, card-size, key-limit, parentAt, startAt, hashAt, nextAt, markAt, headAt, contextAt, targetAt, placeAt, foldersOf, remappingsOf, filesOf, rootOf, keyOf}
 use Rattle.card.specs.Tree.{Tree, ascends, below-is, hit-is}
-use Rattle.card.specs.Index.{Chained, Looked, Walking, walking-start, walking-on, walking-found, walking-end, hashed, hashed-append}
+use Rattle.card.specs.Index.{lastIn, last-below, last-key, last-above, Chained, Looked, Walking, walking-start, walking-on, walking-found, walking-end, hashed, hashed-append}
+use Rattle.card.specs.declared.look.Near.{Near}
+use Rattle.card.specs.declared.look.Near.the-variants.{At, Nothing}
 
 -- `/`, the folders and the files, in the bundle's order: an index is a place in this list
 abbrev pub nodesOf : Bundle → List Text
@@ -62,6 +65,11 @@ pub record Above (c : List ℕ) : Type 0 where
 pub record FolderAt (b : Bundle) (p : Text) (i : ℕ) : Type 0 where
   pub folder : i ≤ length (b .folders)
   pub path : getD (nodesOf b) i [] ≡ p
+
+-- what is found of a folder's path
+abbrev pub InFolder : Bundle → Text → Near → Type 0
+InFolder b t (At i) = FolderAt b t i
+InFolder b t Nothing = member t (withSlash b) ≡ false
 
 -- of each remapping its position and the folders of its context and its target
 pub record Maps (s : List ℕ) (c : List ℕ) : Type 0 where
@@ -249,55 +257,117 @@ hash-keyed k m t e h q = q ∙ rw e
 abbrev pub isAt : List Text → Text → ℕ → Bool
 isAt ps t i = same (getD ps i []) t
 
+-- up to the index last
+abbrev pub isUpTo : List Text → Text → ℕ → ℕ → Bool
+isUpTo ps t last i = leb i last && isAt ps t i
+
 -- the code's test
-unfoldable pub met : List ℕ → ℕ → ℕ → ℕ → Text → Bool
-met s hash h start t = eqb hash h && same (text s start) t
+unfoldable pub met : List ℕ → ℕ → ℕ → ℕ → ℕ → ℕ → Text → Bool
+met s i last hash h start t = leb i last && (eqb hash h && same (text s start) t)
 
-module _ (s : List ℕ) (hash h start : ℕ) (t : Text) (v : ℕ) (vq : v ≡ hash) where
-  pub met-unlike : (v ≡ h → ⊥) → false ≡ met s hash h start t
+module _ (s : List ℕ) (i last hash h start : ℕ) (t : Text) where
+  pub met-late : last < i → false ≡ met s i last hash h start t
   unfolding met
-  met-unlike z = rw (ne-eqb hash h (λ y. z (vq ∙ y)))
+  met-late l = rw (lt-leb i last l)
 
-  pub met-here : v ≡ h → (f : ℕ) → f ≡ start → (x : Text) → x ≡ text s f → (r : Bool) → r ≡ same x t → r ≡ met s hash h start t
-  unfolding met
-  met-here z f fq x xq r rq = rw (eq-eqb hash h (sym vq ∙ z)) (rq ∙ rw (xq, fq))
+  module _ (l : i ≤ last) (v : ℕ) (vq : v ≡ hash) where
+    pub met-unlike : (v ≡ h → ⊥) → false ≡ met s i last hash h start t
+    unfolding met
+    met-unlike z = rw (le-leb i last l, ne-eqb hash h (λ y. z (vq ∙ y)))
 
--- q is a test that only what has the path t passes, and the code's test is q
-module _ {s : List ℕ} {ps : List Text} {c : List ℕ} (I : IndexOf s ps c) (t : Text) (h : ℕ) (hq : h ≡ hashOf (keyOf c) t) where
+    pub met-here : v ≡ h → (f : ℕ) → f ≡ start → (x : Text) → x ≡ text s f → (r : Bool) → r ≡ same x t → r ≡ met s i last hash h start t
+    unfolding met
+    met-here z f fq x xq r rq = rw (le-leb i last l, eq-eqb hash h (sym vq ∙ z)) (rq ∙ rw (xq, fq))
+
+-- a chain is gone down from `from` for the path t of hash h
+pub record Chain (ps : List Text) (c : List ℕ) (h : ℕ) (t : Text) (from : ℕ) : Type 0 where
+  pub hashes : h ≡ hashOf (keyOf c) t
+  pub within : from < length ps
+  pub keyed : (from ≡ 0 → ⊥) → bucketAt c from ≡ h % bucket-limit
+
+module _ {s : List ℕ} {ps : List Text} {c : List ℕ} (I : IndexOf s ps c) (t : Text) (h from : ℕ) (W : Chain ps c h t from) (last : ℕ) where
   hash-at : (i : ℕ) → i < length ps → isAt ps t i ≡ true → hashAt c i ≡ h
-  hash-at i o q = I .hash i o ∙ ap (hashOf (keyOf c)) (same-eq _ _ q) ∙ sym hq
+  hash-at i o q = I .hash i o ∙ ap (hashOf (keyOf c)) (same-eq _ _ q) ∙ sym (W .hashes)
 
-  pub met-at : (i : ℕ) → i < length ps → (i ≡ 0 → ⊥) → met s (hashAt c i) h (startAt c i) t ≡ isAt ps t i
+  met-at : (i : ℕ) → i < length ps → (i ≡ 0 → ⊥) → met s i last (hashAt c i) h (startAt c i) t ≡ isUpTo ps t last i
   unfolding met
-  met-at i o z = rw (I .texts i o z) (go (eqb (hashAt c i) h) refl)
+  met-at i o z = rw (I .texts i o z) (ap (λ (b : Bool). leb i last && b) (go (eqb (hashAt c i) h) refl))
     where
       go : (u : Bool) → eqb (hashAt c i) h ≡ u → (u && isAt ps t i) ≡ isAt ps t i
       go true e = refl
       go false e = sym (not-true (isAt ps t i) (λ q. eqb-false (hashAt c i) h e (hash-at i o q)))
 
-  pub bucket-at : (i : ℕ) → i < length ps → isAt ps t i ≡ true → bucketAt c i ≡ h % bucket-limit
-  bucket-at i o q = ap (λ (x : ℕ). x % bucket-limit) (hash-at i o q)
+  bucket-at : (i : ℕ) → i < suc from → isUpTo ps t last i ≡ true → bucketAt c i ≡ h % bucket-limit
+  bucket-at i o q = ap (λ (x : ℕ). x % bucket-limit) (hash-at i (omega (arith, W .within)) (and-right (leb i last) (isAt ps t i) q))
+
+  links : (i : ℕ) → i < suc from → nextAt c i ≡ lastIn (bucketAt c) (bucketAt c i) i
+  links i o = I .chains .links i (omega (arith, W .within))
 
   abbrev pub Searching : ℕ → Type 0
-  Searching i = Walking (isAt ps t) (bucketAt c) (h % bucket-limit) (length ps) i
+  Searching i = Walking (isUpTo ps t last) (bucketAt c) (h % bucket-limit) (suc from) i
 
-  pub path-start : (i : ℕ) → i ≡ headAt c (h % bucket-limit) → Searching i
-  path-start i e =
-      walking-start (I .chains .links) bucket-at (λ z. omega (arith, I .some)) i (e ∙ I .chains .heads (h % bucket-limit) (omega arith))
+  pub path-start : Searching from
+  path-start = record { within = omega arith; keyed = W .keyed; passed = λ j a b. absurd (omega arith) }
 
   module _ (i : ℕ) (w : Searching i) where
-    pub path-end : i ≡ 0 → Looked (isAt ps t) (length ps) i
-    path-end z = walking-end (I .chains .links) bucket-at i w z
+    pub path-within : i < length ps
+    path-within = omega (arith, w .within, W .within)
 
-    module _ (z : i ≡ 0 → ⊥) (u : Bool) (uq : u ≡ met s (hashAt c i) h (startAt c i) t) where
-      told-path : isAt ps t i ≡ u
-      told-path = sym (uq ∙ met-at i (w .within) z)
+    pub path-end : i ≡ 0 → Looked (isUpTo ps t last) (suc from) i
+    path-end z = walking-end links bucket-at i w z
 
-      pub path-found : u ≡ true → Looked (isAt ps t) (length ps) i
-      path-found e = walking-found (I .chains .links) bucket-at i w z (told-path ∙ e)
+    module _ (z : i ≡ 0 → ⊥) (u : Bool) (uq : u ≡ met s i last (hashAt c i) h (startAt c i) t) where
+      told-path : isUpTo ps t last i ≡ u
+      told-path = sym (uq ∙ met-at i path-within z)
+
+      pub path-found : u ≡ true → Looked (isUpTo ps t last) (suc from) i
+      path-found e = walking-found links bucket-at i w z (told-path ∙ e)
 
       pub path-on : u ≡ false → (m : ℕ) → m ≡ nextAt c i → Searching m × (m < i)
-      path-on e m mq = walking-on (I .chains .links) bucket-at i w z (told-path ∙ e) m mq
+      path-on e m mq = walking-on links bucket-at i w z (told-path ∙ e) m mq
+
+-- from the head of its chain, and from the index before one of its paths
+module _ {s : List ℕ} {ps : List Text} {c : List ℕ} (I : IndexOf s ps c) (t : Text) (h : ℕ) (hq : h ≡ hashOf (keyOf c) t) where
+  module _ (from : ℕ) (e : from ≡ headAt c (h % bucket-limit)) where
+    is-last : from ≡ lastIn (bucketAt c) (h % bucket-limit) (length ps)
+    is-last = e ∙ I .chains .heads (h % bucket-limit) (omega arith)
+
+    pub from-head : Chain ps c h t from
+    from-head = record {
+      hashes = hq;
+      within = rw is-last (last-below (bucketAt c) (h % bucket-limit) (length ps) (λ z. omega (arith, I .some)));
+      keyed = λ z. rw is-last (last-key (bucketAt c) (h % bucket-limit) (length ps) (λ x. z (is-last ∙ x)));
+    }
+
+    -- nothing after the head
+    pub past-head : (j : ℕ) → from < j → j < length ps → isAt ps t j ≡ false
+    past-head j l o =
+        not-true (isAt ps t j) (λ q. last-above (bucketAt c) (h % bucket-limit) (length ps) j (rw is-last at l) o
+        (ap (λ (x : ℕ). x % bucket-limit) (I .hash j o ∙ ap (hashOf (keyOf c)) (same-eq _ _ q) ∙ sym hq)))
+
+    -- what a walk from the head finds
+    pub whole-chain : (last r : ℕ) → Looked (isUpTo ps t last) (suc from) r → Looked (isUpTo ps t last) (length ps) r
+    whole-chain last r L = record {
+      within = omega (arith, L .within, from-head .within);
+      holds = L .holds;
+      nothing = λ e j z o. at e j z o (decLt from j);
+    }
+      where
+        and-false' : (b : Bool) → (b && false) ≡ false
+        and-false' true = refl
+        and-false' false = refl
+
+        at : r ≡ 0 → (j : ℕ) → (j ≡ 0 → ⊥) → j < length ps → Dec (from < j) → isUpTo ps t last j ≡ false
+        at e j z o (yes l) = rw (past-head j l o) (and-false' (leb j last))
+        at e j z o (no l) = L .nothing e j z (omega arith)
+
+  -- all indices are below the limit
+  pub up-to-all : (last r : ℕ) → node-limit ≤ last → Looked (isUpTo ps t last) (length ps) r → Looked (isAt ps t) (length ps) r
+  up-to-all last r l L = record {
+    within = L .within;
+    holds = λ z. and-right (leb r last) (isAt ps t r) (L .holds z);
+    nothing = λ e j z o. rw (le-leb j last (omega (arith, I .count))) at (L .nothing e j z o);
+  }
 
 -- BELOW: what `is_below` answers is whether the path lies at or below the other, by whole components
 pub below-card : {s : List ℕ} {c : List ℕ} → CardIs s c → (i d : ℕ) → i < length (nodesIn s) → d < length (nodesIn s)

@@ -11,7 +11,7 @@ node-limit = folder-limit + file-limit + 1
 abbrev pub bucket-limit : ℕ
 bucket-limit = 256
 
--- of each index its parent's, the position of its path, its hash, the index before it of the same hash, whether it is a package root
+-- of each index its parent's, the position of its path, its hash, the index before it of the same hash
 abbrev pub parents-at : ℕ
 parents-at = 0
 
@@ -24,16 +24,21 @@ hashes-at = 2 * node-limit
 abbrev pub nexts-at : ℕ
 nexts-at = 3 * node-limit
 
-abbrev pub marks-at : ℕ
-marks-at = 4 * node-limit
-
 -- of each hash its last index
 abbrev pub heads-at : ℕ
-heads-at = 5 * node-limit
+heads-at = 4 * node-limit
+
+-- the multiplier of the hash
+abbrev pub key-at : ℕ
+key-at = heads-at + bucket-limit
+
+-- of each index whether it is a package root
+abbrev pub marks-at : ℕ
+marks-at = key-at + 1
 
 -- of each remapping the index of its context and of its target, and its position
 abbrev pub contexts-at : ℕ
-contexts-at = heads-at + bucket-limit
+contexts-at = marks-at + node-limit
 
 abbrev pub targets-at : ℕ
 targets-at = contexts-at + remapping-limit
@@ -41,7 +46,7 @@ targets-at = contexts-at + remapping-limit
 abbrev pub places-at : ℕ
 places-at = targets-at + remapping-limit
 
--- how many folders, remappings and files; the index of the entry's root; the multiplier of the hash
+-- how many folders, remappings and files; the index of the entry's root
 abbrev pub folders-at : ℕ
 folders-at = places-at + remapping-limit
 
@@ -54,11 +59,8 @@ files-at = folders-at + 2
 abbrev pub root-at : ℕ
 root-at = folders-at + 3
 
-abbrev pub key-at : ℕ
-key-at = folders-at + 4
-
 abbrev pub card-size : ℕ
-card-size = folders-at + 5
+card-size = folders-at + 4
 
 -- a multiplier is below this: products of a hash and a multiplier stay below 2^61
 abbrev pub key-limit : ℕ

@@ -1,16 +1,17 @@
 // Lookups in a card.
 ghost use mathlib.Core.Path.{_≡_};
 ghost use mathlib.Core.List.{_++_};
-ghost use Prim.Native.Nat.{ℕ, _+_, _<_, _^_};
+ghost use Prim.Native.Nat.{ℕ, suc, _+_, _<_, _^_};
 ghost use lib.Dec.{eqb};
 ghost use lib.ListN.{length, getD};
 ghost use Rattle.names.specs.FolderTheorems.{Plain};
+ghost use Rattle.bundle.specs.Decode.{decode};
 ghost use Rattle.names.specs.Path.{component-limit};
 ghost use Rattle.card.specs.Layout.{node-limit, card-size, parentAt, startAt, markAt};
 ghost use Rattle.card.specs.Tree.{ascends};
 ghost use Rattle.card.specs.Laws.{nearest, near};
 ghost use Rattle.card.specs.Index.{Looked};
-ghost use Rattle.card.specs.Card.{IndexOf, CardIs, Above, nodesIn, isAt, hit, met, cutOf, sought};
+ghost use Rattle.card.specs.Card.{IndexOf, CardIs, Above, nodesIn, isAt, isUpTo, hit, met, Chain, cutOf, sought, InFolder};
 use crate::hash::hash_of;
 use crate::hash::mix;
 use crate::layout::BUCKETS;
@@ -20,6 +21,7 @@ use crate::layout::HEADS;
 use crate::layout::KEY;
 use crate::layout::MARKS;
 use crate::layout::NEXTS;
+use crate::layout::NODES;
 use crate::layout::PARENTS;
 use crate::layout::STARTS;
 
@@ -158,14 +160,48 @@ pub fn find_child<'a>(
     i
 }
 
-// Whether the path of this hash at start is t.
-fn is_path_at(s: &[u8], hash: u32, h: usize, start: u32, t: &[u8]) -> bool
-    ensures { λ r. ⌜ r ≡ met (now (s .entry)) hash h start (now (t .entry)) ⌝ }
+// Whether the path of index i, of this hash and at this start, is t; of an index after last it is not asked.
+fn is_path_at(s: &[u8], i: usize, last: usize, hash: u32, h: usize, start: u32, t: &[u8]) -> bool
+    ensures { λ r. ⌜ r ≡ met (now (s .entry)) i last hash h start (now (t .entry)) ⌝ }
 {
+    if i > last {
+        return false;
+    }
     if far(hash) != h {
         return false;
     }
     names::same_bytes(bundle::string(s, far(start)), t)
+}
+
+// Down a chain from `from`, the first index of the path t, whose hash is h, that is not after last; 0 where there is none.
+pub fn walk<'a>(
+    s: &'a [u8],
+    card: &'a [u32; CARD],
+    h: usize,
+    t: &'a [u8],
+    from: usize,
+    last: usize,
+) -> usize
+    requires { ⌜ IndexOf (now s) (nodesIn (now s)) (now card) × Chain (nodesIn (now s)) (now card) h (now t) from ⌝ }
+    ensures { λ r. ⌜ Looked (isUpTo (nodesIn (now (s .entry))) (now (t .entry)) last) (suc from) r ⌝ }
+{
+    let mut i = from;
+    while i != 0 {
+        if is_path_at(s, i, last, card[HASHES + i], h, card[STARTS + i], t) {
+            return i;
+        }
+        i = far(card[NEXTS + i]);
+    }
+    i
+}
+
+// The last index of a path that is not after last; 0 where there is none.
+fn find_up_to<'a>(s: &'a [u8], card: &'a [u32; CARD], t: &'a [u8], last: usize) -> usize
+    requires { ⌜ IndexOf (now s) (nodesIn (now s)) (now card) ⌝ }
+    ensures { λ r. ⌜ Looked (isUpTo (nodesIn (now (s .entry))) (now (t .entry)) last) (length (nodesIn (now (s .entry)))) r ⌝ }
+{
+    let h = hash_of(far(card[KEY]), t);
+    walk(s, card, h, t, far(card[HEADS + h % BUCKETS]), last)
 }
 
 // The index of a path; 0 where it is not listed, or is `/`.
@@ -173,13 +209,20 @@ pub fn find_path<'a>(s: &'a [u8], card: &'a [u32; CARD], t: &'a [u8]) -> usize
     requires { ⌜ IndexOf (now s) (nodesIn (now s)) (now card) ⌝ }
     ensures { λ r. ⌜ Looked (isAt (nodesIn (now (s .entry))) (now (t .entry))) (length (nodesIn (now (s .entry)))) r ⌝ }
 {
-    let h = hash_of(far(card[KEY]), t);
-    let mut i = far(card[HEADS + h % BUCKETS]);
-    while i != 0 {
-        if is_path_at(s, card[HASHES + i], h, card[STARTS + i], t) {
-            return i;
-        }
-        i = far(card[NEXTS + i]);
+    find_up_to(s, card, t, NODES)
+}
+
+// The index of the folder t, `/` among them.
+pub fn folder_of<'a>(s: &'a [u8], card: &'a [u32; CARD], folders: usize, t: &'a [u8]) -> Near
+    requires { ⌜ IndexOf (now s) (nodesIn (now s)) (now card) × (folders ≡ length (decode (now s) .folders)) ⌝ }
+    ensures { λ r. ⌜ InFolder (decode (now (s .entry))) (now (t .entry)) r ⌝ }
+{
+    if names::same_bytes(t, b"/") {
+        return Near::At(0);
     }
-    i
+    let i = find_up_to(s, card, t, folders);
+    if i == 0 {
+        return Near::Nothing;
+    }
+    Near::At(i)
 }

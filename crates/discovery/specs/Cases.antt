@@ -51,7 +51,7 @@ abbrev pub at-path : String → Items → File
 at-path p is = record { path = ascii p; items = is }
 
 abbrev pub below-r : List String → List File → Bundle
-below-r folders fs = record { root = ascii "/r"; folders = ascii "/r" ∷ map ascii folders; remappings = []; files = fs }
+below-r folders fs = record { version = 1; root = ascii "/r"; folders = ascii "/r" ∷ map ascii folders; remappings = []; files = fs }
 
 abbrev pub printed-entry : File
 printed-entry = at-path "/r/main.simf" (use-of 0 0 (ascii "crate" ∷ ascii "a" ∷ []) (record { name = ascii "f"; alias = [] } ∷ []) (named 2 0 0 (ascii "main") none))

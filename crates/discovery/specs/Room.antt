@@ -5,9 +5,9 @@ use mathlib.Core.Path.{_≡_, refl, ap, _∙_}
 use mathlib.Core.List.{List, [], _∷_}
 use lib.ListN.{length, length-append}
 use Rattle.bundle.specs.Bundle.{Items, none, named, use-of, module-of, ignored, File, Bundle}
-use Rattle.bundle.specs.Limits.{folder-limit, file-limit, use-limit}
-use Rattle.bundle.specs.Scan.{byte, scanCount}
-use Rattle.bundle.specs.Decode.{afterFile, fileAt, filesAt, decode}
+use Rattle.bundle.specs.Limits.{file-width, most-files, folder-limit, file-limit, use-limit}
+use Rattle.bundle.specs.Scan.{versionOf, scanCount}
+use Rattle.bundle.specs.Decode.{afterFile, fileAt, filesAt, fileCount, fileFirst, decode}
 use Rattle.bundle.specs.Form.{useCount, fileUses}
 use Rattle.bundle.specs.Read.{files, verdict}
 use Rattle.bundle.specs.Stand.{Bytes}
@@ -58,7 +58,8 @@ pub record Counted (b : Bundle) : Type 0 where
 pub checked-roomy : (s : List ℕ) → verdict s ≡ Ok → Counted (decode s)
 unfolding decode files
 checked-roomy s h =
-    let m = went-on (scanCount 1 file-limit s (length s) (filesAt s)) (form-parts s (both-pass s h .0) .files-pass) in
-    let k = count-next s (length s) (filesAt s) 1 file-limit (m .first) in
-    let n = each-length (afterFile s) (fileAt s) (byte s (filesAt s)) (filesAt s + 1) in
+    let v = versionOf s in
+    let m = went-on (scanCount (file-width v) 1 (most-files v) s (length s) (filesAt s)) (form-parts s (both-pass s h .0) .files-pass) in
+    let k = count-next s (length s) (filesAt s) (file-width v) 1 (most-files v) (m .first) in
+    let n = each-length (afterFile s) (fileAt s) (fileCount s) (fileFirst s) in
     record { some = omega (arith, k .2); files = omega (arith, k .3) }

@@ -77,7 +77,7 @@ abbrev at-path : String → Items → File
 at-path p is = record { path = ascii p; items = is }
 
 abbrev below-r : List File → Bundle
-below-r fs = record { root = ascii "/r"; folders = ascii "/r" ∷ []; remappings = []; files = fs }
+below-r fs = record { version = 1; root = ascii "/r"; folders = ascii "/r" ∷ []; remappings = []; files = fs }
 
 abbrev plain : String → Element
 plain n = record { name = ascii n; alias = [] }

@@ -33,6 +33,7 @@ imports name rest = use-of 0 0 (ascii "crate" ∷ ascii name ∷ []) [] rest
 
 abbrev pair : Items → Items → Bundle
 pair first second = record {
+  version = 1;
   root = ascii "/r";
   folders = ascii "/r" ∷ [];
   remappings = [];

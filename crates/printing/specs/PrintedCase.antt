@@ -43,7 +43,7 @@ abbrev a-file : File
 a-file = record { path = ascii "/r/a.simf"; items = named 2 0 1 (ascii "f") none }
 
 abbrev of-files : List File → Bundle
-of-files fs = record { root = ascii "/r"; folders = ascii "/r" ∷ []; remappings = []; files = fs }
+of-files fs = record { version = 1; root = ascii "/r"; folders = ascii "/r" ∷ []; remappings = []; files = fs }
 
 unfoldable pub text-of : List String → Text
 text-of [] = []

@@ -5,12 +5,12 @@ use native.Mathlib.Decide.{decLt}
 use mathlib.Core.Bool.{Bool, true, false, cond}
 use mathlib.Core.Path.{_≡_, refl, sym, ap, _∙_}
 use mathlib.Core.List.{List}
-use lib.Dec.{eqb, ltb}
+use lib.Dec.{ltb}
 use lib.ListN.{length, getD, take, List·getD-eq-default}
 use lib.Seq.{take-all, getD-take, length-take-le}
 use borrow.Author.Tests.{lt-ltb, le-ltb}
-use Rattle.bundle.specs.Limits.{version, header}
-use Rattle.bundle.specs.Scan.{byte, word, scanHeader, scanPath}
+use Rattle.bundle.specs.Limits.{defined, header}
+use Rattle.bundle.specs.Scan.{byte, word, versionOf, scanHeader, scanPath}
 use Rattle.bundle.specs.Stand.{Bytes}
 use Rattle.bundle.specs.Bundle.{Bundle}
 use Rattle.bundle.specs.Conflicts.{orElse, conflicts}
@@ -24,7 +24,7 @@ use Rattle.bundle.specs.declared.Checked.the-variants.{Refused}
 abbrev past-length : Bool → ℕ → Checked
 past-length b w = cond b (Refused 1 (header + w)) (Refused 2 0)
 
-header-long : (s : List ℕ) → Bytes s → 65538 < length s → scanHeader s ≡ cond (eqb (byte s 0) version) (Bad 1 (header + word s 1)) (Bad 2 0)
+header-long : (s : List ℕ) → Bytes s → 65538 < length s → scanHeader s ≡ cond (defined (versionOf s)) (Bad 1 (header + word s 1)) (Bad 2 0)
 unfolding scanHeader
 header-long s B h =
     let a = B 1 in
@@ -34,9 +34,9 @@ header-long s B h =
     let v : word s 1 ≤ length s - header = omega arith in
     rw (le-ltb (length s) header l, le-ltb (length s - header) (word s 1) v, lt-ltb (word s 1) (length s - header) w)
 
-verdict-long : (s : List ℕ) → Bytes s → 65538 < length s → verdict s ≡ past-length (eqb (byte s 0) version) (word s 1)
+verdict-long : (s : List ℕ) → Bytes s → 65538 < length s → verdict s ≡ past-length (defined (versionOf s)) (word s 1)
 unfolding verdict form
-verdict-long s B h = rw (header-long s B h) (go (eqb (byte s 0) version) (conflicts s) (λ root. after (scanPath s (length s) root) (lists s)))
+verdict-long s B h = rw (header-long s B h) (go (defined (versionOf s)) (conflicts s) (λ root. after (scanPath s (length s) root) (lists s)))
   where
     go : (b : Bool) (c : Checked) (f : ℕ → Checked) → orElse (after (cond b (Bad 1 (header + word s 1)) (Bad 2 0)) f) c ≡ past-length b (word s 1)
     go true c f = refl
@@ -58,7 +58,7 @@ module _ (s : List ℕ) (B : Bytes s) (n : ℕ) (enough : 65539 ≤ n) where
           go' (yes l) = absurd (omega (arith, lib.ListN.length-take n s))
           go' (no l) = omega (arith, List·getD-eq-default (take n s) 0 {n = i} (omega arith))
 
-  both-told : n < length s → (verdict (take n s) ≡ past-length (eqb (byte s 0) version) (word s 1)) × (verdict s ≡ past-length (eqb (byte s 0) version) (word s 1))
+  both-told : n < length s → (verdict (take n s) ≡ past-length (defined (versionOf s)) (word s 1)) × (verdict s ≡ past-length (defined (versionOf s)) (word s 1))
   both-told l =
       let z = length-take-le n s (omega arith) in
       let e0 = getD-take n s 0 0 (omega arith) in
@@ -80,5 +80,5 @@ module _ (s : List ℕ) (B : Bytes s) (n : ℕ) (enough : 65539 ≤ n) where
   read-enough = go (decLt n (length s))
     where
       go : Dec (n < length s) → reading (verdict (take n s)) (decode (take n s)) ≡ reading (verdict s) (decode s)
-      go (yes l) = let b = both-told l in rw (b .0, b .1) (reading-long (eqb (byte s 0) version) (word s 1) (decode (take n s)) (decode s))
+      go (yes l) = let b = both-told l in rw (b .0, b .1) (reading-long (defined (versionOf s)) (word s 1) (decode (take n s)) (decode s))
       go (no l) = ap (λ (x : List ℕ). reading (verdict x) (decode x)) (take-all n s (omega arith))

@@ -38,6 +38,7 @@ path ws = counted string (texts ws)
 abbrev bytes : String → List String → List Remapping → List String → List ℕ
 bytes root folders rs gs =
     encode (record {
+      version = 1;
       root = ascii root;
       folders = texts folders;
       remappings = rs;

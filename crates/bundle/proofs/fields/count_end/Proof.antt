@@ -1,39 +1,49 @@
 -- `bundle::fields::count_end` meets its contract, way by way. Assumes nothing.
 use borrow.Author.Needs.{needs}
-use borrow.Author.Tests.{lt-ltb, le-ltb, le-leb, lt-leb}
-use Rattle.bundle.specs.Scan.{scanCount}
+use native.Mathlib.Omega.{arith}
 use Rattle.bundle.proofs.fields.count_end.Statement.{statement}
 use Rattle.bundle.proofs.fields.count_end.Tie as tie
+use mathlib.Core.Path.{sym, ap, _∙_}
+use Rattle.bundle.specs.Steps.{count-cut, count-few, count-many, count-passed}
+use Rattle.bundle.specs.declared.Scan.the-variants.{Next}
+
+width-bytes-requires : tie.Need-width-bytes-requires
+width-bytes-requires c κs = search needs
 
 returns : tie.Need-returns
-unfolding scanCount
-returns c = simp (le-ltb _ _ (c .if1 .taken))
+returns c =
+    let start' = c .before .before .before in
+    sym (count-cut (start' .args .s .now) (start' .args .end) (start' .args .at) (start' .args .width) (start' .args .low) (start' .args .high) (omega arith))
 
-byte-at-requires : tie.Need-byte-at-requires
-byte-at-requires c κs = search needs
+sub-if2 : tie.Need-sub-if2
+sub-if2 c = search needs
 
 returns-2 : tie.Need-returns-2
-unfolding scanCount
-returns-2 c = simp (lt-ltb _ _ (c .before .before .if1 .left), ← c .before .byte-at .ensures .0, lt-leb _ _ (c .if2 .taken))
+returns-2 c =
+    let start' = c .before .before .before .before in
+    sym (count-cut (start' .args .s .now) (start' .args .end) (start' .args .at) (start' .args .width) (start' .args .low) (start' .args .high) (omega arith))
+
+count-at-requires : tie.Need-count-at-requires
+count-at-requires c κs = search needs
 
 returns-3 : tie.Need-returns-3
-unfolding scanCount
 returns-3 c =
-    let if1' = c .before .before .before .if1 in
-    let byte-at' = c .before .before .byte-at in
-    let if2' = c .before .if2 in
-    simp (lt-ltb _ _ (if1' .left), ← byte-at' .ensures .0, le-leb _ _ (if2' .left), lt-leb _ _ (c .if3 .taken))
-
-add-t8 : tie.Need-add-t8
-add-t8 c = search needs
+    let start' = c .before .before .before .before .before .before in
+    sym (count-few (start' .args .s .now) (start' .args .end) (start' .args .at) (start' .args .width) (start' .args .low) (start' .args .high) (omega arith) (omega arith))
 
 returns-4 : tie.Need-returns-4
-unfolding scanCount
 returns-4 c =
-    let if1' = c .before .before .before .if1 in
-    let byte-at' = c .before .before .byte-at in
-    let if2' = c .before .if2 in
-    simp (lt-ltb _ _ (if1' .left), ← byte-at' .ensures .0, le-leb _ _ (if2' .left), le-leb _ _ (c .if3 .left))
+    let start' = c .before .before .before .before .before .before .before in
+    sym (count-many (start' .args .s .now) (start' .args .end) (start' .args .at) (start' .args .width) (start' .args .low) (start' .args .high) (omega arith) (omega arith) (omega arith))
+
+add-t10 : tie.Need-add-t10
+add-t10 c = search needs
+
+returns-5 : tie.Need-returns-5
+returns-5 c =
+    let start' = c .before .before .before .before .before .before .before in
+    let width-bytes' = c .before .before .before .before .before .width-bytes in
+    rw (width-bytes' .ensures .0) (sym (count-passed (start' .args .s .now) (start' .args .end) (start' .args .at) (start' .args .width) (start' .args .low) (start' .args .high) (omega arith) (omega arith) (omega arith)))
 
 pub count-end-spec : {M : Type 1} → statement M
-count-end-spec = tie.close (tie.spec returns byte-at-requires returns-2 returns-3 add-t8 returns-4)
+count-end-spec = tie.close (tie.spec width-bytes-requires returns sub-if2 returns-2 count-at-requires returns-3 returns-4 add-t10 returns-5)

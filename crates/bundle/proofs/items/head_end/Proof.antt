@@ -1,12 +1,12 @@
 -- `bundle::items::head_end` meets its contract, way by way. Assumes nothing.
 use borrow.Author.Needs.{needs}
-use mathlib.Core.Path.{sym, _∙_}
 use native.Mathlib.Omega.{arith}
+use Rattle.bundle.proofs.items.head_end.Statement.{statement}
+use Rattle.bundle.proofs.items.head_end.Tie as tie
+use mathlib.Core.Path.{sym, _∙_, ap}
 use borrow.Author.Tests.{lt-ltb, le-ltb, le-leb, lt-leb}
 use Rattle.bundle.specs.Steps.{length-next}
 use Rattle.bundle.specs.Scan.{scanHead}
-use Rattle.bundle.proofs.items.head_end.Statement.{statement}
-use Rattle.bundle.proofs.items.head_end.Tie as tie
 
 length-end-requires : tie.Need-length-end-requires
 length-end-requires c κs = search needs
@@ -62,22 +62,33 @@ returns c =
 uses-after-requires : tie.Need-uses-after-requires
 uses-after-requires c κs = search needs
 
+version-of-requires : tie.Need-version-of-requires
+version-of-requires c κs = search needs
+
+most-uses-requires : tie.Need-most-uses-requires
+most-uses-requires c κs = search needs
+
 returns-2 : tie.Need-returns-2
 unfolding scanHead
 returns-2 c =
-    let length-end' = c .before .before .before .before .before .before .before .before .before .before .before .before .before .length-end in
-    let whole2' = c .before .before .before .before .before .before .before .before .before .before .before .whole2 in
-    let mark-end' = c .before .before .before .before .before .before .before .before .before .mark-end in
-    let kind2' = c .before .before .before .before .before .before .before .kind2 in
-    let mark-end2' = c .before .before .before .before .before .mark-end2 in
-    let enum-told' = c .before .before .before .enum-told in
-    let if1' = c .before .before .if1 in
-    let uses-after' = c .before .uses-after in
-    rw (sym (length-end' .ensures) ∙ whole2' .given .1, sym (mark-end' .ensures) ∙ kind2' .given .1, sym (mark-end2' .ensures) ∙ enum-told' .given .1) (simp (lt-ltb _ _ (if1' .left), ← uses-after' .ensures, lt-leb _ _ (c .if2 .taken)))
+    let length-end' = c .before .before .before .before .before .before .before .before .before .before .before .before .before .before .before .length-end in
+    let whole2' = c .before .before .before .before .before .before .before .before .before .before .before .before .before .whole2 in
+    let mark-end' = c .before .before .before .before .before .before .before .before .before .before .before .mark-end in
+    let kind2' = c .before .before .before .before .before .before .before .before .before .kind2 in
+    let mark-end2' = c .before .before .before .before .before .before .before .mark-end2 in
+    let enum-told' = c .before .before .before .before .before .enum-told in
+    let if1' = c .before .before .before .before .if1 in
+    let uses-after' = c .before .before .before .uses-after in
+    let version-of' = c .before .before .version-of in
+    let most-uses' = c .before .most-uses in
+    rw (sym (length-end' .ensures) ∙ whole2' .given .1, sym (mark-end' .ensures) ∙ kind2' .given .1, sym (mark-end2' .ensures) ∙ enum-told' .given .1) (simp (lt-ltb _ _ (if1' .left), ← uses-after' .ensures, ← version-of' .ensures, ← most-uses' .ensures, lt-leb _ _ (c .if2 .taken)))
 
 returns-3 : tie.Need-returns-3
 unfolding scanHead
-returns-3 c = rw (sym (c .before .before .before .length-end .ensures) ∙ c .before .whole .given .1)
+returns-3 c =
+    let length-end' = c .before .before .before .length-end in
+    let whole' = c .before .whole in
+    rw (sym (length-end' .ensures) ∙ whole' .given .1)
 
 returns-4 : tie.Need-returns-4
 unfolding scanHead
@@ -102,34 +113,17 @@ returns-5 c =
 returns-6 : tie.Need-returns-6
 unfolding scanHead
 returns-6 c =
-    let length-end' = c .before .before .before .before .before .before .before .before .before .before .before .before .before .length-end in
-    let whole2' = c .before .before .before .before .before .before .before .before .before .before .before .whole2 in
-    let mark-end' = c .before .before .before .before .before .before .before .before .before .mark-end in
-    let kind2' = c .before .before .before .before .before .before .before .kind2 in
-    let mark-end2' = c .before .before .before .before .before .mark-end2 in
-    let enum-told' = c .before .before .before .enum-told in
-    let if1' = c .before .before .if1 in
-    let uses-after' = c .before .uses-after in
-    rw (sym (length-end' .ensures) ∙ whole2' .given .1, sym (mark-end' .ensures) ∙ kind2' .given .1, sym (mark-end2' .ensures) ∙ enum-told' .given .1) (simp (lt-ltb _ _ (if1' .left), ← uses-after' .ensures, le-leb _ _ (c .if2 .left)))
+    let length-end' = c .before .before .before .before .before .before .before .before .before .before .before .before .before .before .before .length-end in
+    let whole2' = c .before .before .before .before .before .before .before .before .before .before .before .before .before .whole2 in
+    let mark-end' = c .before .before .before .before .before .before .before .before .before .before .before .mark-end in
+    let kind2' = c .before .before .before .before .before .before .before .before .before .kind2 in
+    let mark-end2' = c .before .before .before .before .before .before .before .mark-end2 in
+    let enum-told' = c .before .before .before .before .before .enum-told in
+    let if1' = c .before .before .before .before .if1 in
+    let uses-after' = c .before .before .before .uses-after in
+    let version-of' = c .before .before .version-of in
+    let most-uses' = c .before .most-uses in
+    rw (sym (length-end' .ensures) ∙ whole2' .given .1, sym (mark-end' .ensures) ∙ kind2' .given .1, sym (mark-end2' .ensures) ∙ enum-told' .given .1) (simp (lt-ltb _ _ (if1' .left), ← uses-after' .ensures, ← version-of' .ensures, ← most-uses' .ensures, le-leb _ _ (c .if2 .left)))
 
 pub head-end-spec : {M : Type 1} → statement M
-head-end-spec =
-    tie.close
-    (tie.spec
-    length-end-requires
-    enum-known-whole
-    enum-known-whole-2
-    add-mark-end
-    mark-end-requires
-    enum-known-kind
-    enum-known-kind-2
-    mark-end-requires-2
-    enum-known-seen
-    enum-told
-    returns
-    uses-after-requires
-    returns-2
-    returns-3
-    returns-4
-    returns-5
-    returns-6)
+head-end-spec = tie.close (tie.spec length-end-requires enum-known-whole enum-known-whole-2 add-mark-end mark-end-requires enum-known-kind enum-known-kind-2 mark-end-requires-2 enum-known-seen enum-told returns uses-after-requires version-of-requires most-uses-requires returns-2 returns-3 returns-4 returns-5 returns-6)
