@@ -13,6 +13,7 @@ pub use look::find_path;
 pub use look::is_below;
 pub use look::nearest_marked;
 pub use look::start_of;
+pub use parts::file_count;
 pub use parts::folder_count;
 pub use parts::parent_of;
 pub use parts::remapping_context;

@@ -3,9 +3,10 @@ ghost use mathlib.Core.Path.{_≡_};
 ghost use Prim.Native.Nat.{_<_, _^_};
 ghost use lib.ListN.{length};
 ghost use Rattle.bundle.specs.Limits.{remapping-limit};
-ghost use Rattle.card.specs.Layout.{node-limit, card-size, parentAt, contextAt, targetAt, placeAt, foldersOf, remappingsOf};
+ghost use Rattle.card.specs.Layout.{node-limit, card-size, parentAt, contextAt, targetAt, placeAt, foldersOf, remappingsOf, filesOf};
 use crate::layout::CARD;
 use crate::layout::CONTEXTS;
+use crate::layout::FILE_COUNT;
 use crate::layout::FOLDER_COUNT;
 use crate::layout::PARENTS;
 use crate::layout::PLACES;
@@ -21,7 +22,7 @@ pub fn parent_of(card: &[u32; CARD], i: usize) -> usize
     far(card[PARENTS + i])
 }
 
-// How many folders, and how many remappings.
+// How many folders, remappings and files.
 pub fn folder_count(card: &[u32; CARD]) -> usize
     requires { ⌜ length (now card) ≡ card-size ⌝ }
     ensures { λ r. ⌜ (r ≡ foldersOf (now (card .entry))) × (r < 2 ^ 32) ⌝ }
@@ -34,6 +35,13 @@ pub fn remapping_count(card: &[u32; CARD]) -> usize
     ensures { λ r. ⌜ r ≡ remappingsOf (now (card .entry)) ⌝ }
 {
     far(card[REMAPPING_COUNT])
+}
+
+pub fn file_count(card: &[u32; CARD]) -> usize
+    requires { ⌜ length (now card) ≡ card-size ⌝ }
+    ensures { λ r. ⌜ r ≡ filesOf (now (card .entry)) ⌝ }
+{
+    far(card[FILE_COUNT])
 }
 
 // Of remapping j the position, and the indices of the folders of its context and its target.

@@ -3,15 +3,17 @@ use Prim.Native.Nat.{ℕ, zero, suc, _+_, _-_, _*_, _≤_, _<_, _^_}
 use native.Mathlib.Numerals.{add-one, unary-clauses}
 use native.Mathlib.Omega.{arith}
 use mathlib.Core.Bool.{cond}
-use mathlib.Core.Path.{_≡_, refl, sym, ap, _∙_}
+use mathlib.Core.Path.{_≡_, refl, sym, ap, subst, _∙_}
 use mathlib.Core.Logic.{⊎-elim}
 use mathlib.Core.List.{List, [], _∷_, _++_, map, append-nil, append-assoc, List·Memᴰ, List·Memᴰ·not-nil, Memᴰ·cast}
 use lib.Dec.{eqb}
 use lib.ListN.{length, getD, take, set, replicate, length-append, length-map, List·getD-map}
 use lib.Seq.{take-suc-set, length-take-le, getD-take}
 use borrow.Author.Tests.{eq-eqb, ne-eqb}
-use Rattle.bundle.specs.Bundle.{Items}
-use Rattle.bundle.specs.Limits.{use-limit, use-kind, module-kind}
+use Rattle.bundle.specs.Bundle.{Items, none, named, use-of, module-of, ignored, File, Bundle}
+use Rattle.bundle.specs.Form.{Every, IsName, Formed, FormedFile, WellFormed}
+use Rattle.bundle.specs.Members.{every-mem}
+use Rattle.bundle.specs.Limits.{depth-limit, use-limit, use-kind, module-kind}
 use Rattle.bundle.specs.Scan.{byte, text}
 use Rattle.bundle.specs.Decode.{each, counted, after, afterLength, itemsAt}
 use Rattle.bundle.specs.Access.{insideOf, items-end, items-step, by-kind, kindOf, restOf, innerOf, first-kind, first-rest, first-inner, first-segments, segmentsOf}
@@ -210,3 +212,30 @@ module _ (s : List ℕ) (u : Uses) (fits : u .count ≤ length (u .marks)) where
     mark-at-place f =
         let l = length-take-le (u .count) (u .marks) fits in
         f (getD (u .marks) i 0) (Memᴰ·cast (sym (getD-take (u .count) (u .marks) i 0 h)) (getD-mem (take (u .count) (u .marks)) i 0 (omega arith)))
+
+-- SEGMENTS ARE NAMES in items that are in form
+abbrev pub NamedUse : Use → Type 0
+NamedUse u = Every IsName (u .segments)
+
+every-append : (l k : List Use) → Every NamedUse l → Every NamedUse k → Every NamedUse (l ++ k)
+unfolding Every
+every-append [] k h i = i
+every-append (u ∷ l) k h i = (h .0, every-append l k (h .1) i)
+
+pub uses-named : (x : Items) (depth : ℕ) → Formed x depth → Every NamedUse (uses x)
+unfolding Formed uses Every
+uses-named none depth h = tt
+uses-named (named k m v name rest) depth h = uses-named rest depth (h .1 .1 .1)
+uses-named (use-of m v segments elements rest) depth h = (h .1 .0 .1, uses-named rest depth (h .1 .1 .1))
+uses-named (module-of m v name inner rest) depth h = every-append (uses inner) (uses rest) (uses-named inner (depth - 1) (h .1 .1 .0 .1)) (uses-named rest depth (h .1 .1 .1))
+uses-named (ignored m v rest) depth h = uses-named rest depth (h .1)
+
+-- of a file of a bundle in form
+pub file-named : (b : Bundle) → WellFormed b → (i : ℕ) (f : File) → i < length (b .files) → getD (b .files) i f ≡ f → Every NamedUse (uses (f .items))
+file-named b w i f h is = uses-named (f .items) depth-limit (subst FormedFile is (every-mem FormedFile (w .form .files) (getD-mem (b .files) i f h)) .1)
+
+-- the i-th is named
+pub named-at-place : (s : List ℕ) (u : Uses) → u .count ≤ length (u .marks) → Every NamedUse (useList s u) → (i : ℕ) → i < u .count → NamedUse (useAt s (getD (u .marks) i 0))
+named-at-place s u fits h i lt =
+    let n = use-list-length s u fits in
+    subst NamedUse (use-at-place s u fits i lt) (every-mem NamedUse h (getD-mem (useList s u) i (useAt s (getD (u .marks) i 0)) (omega arith)))

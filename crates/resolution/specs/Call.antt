@@ -10,6 +10,7 @@ use Rattle.bundle.specs.Limits.{segment-limit}
 use Rattle.bundle.specs.Scan.{text, andThen, scanField, scanList, scanEnd}
 use Rattle.bundle.specs.Decode.{after, counted}
 use Rattle.bundle.specs.Read.{Reading, value, refused, read}
+use Rattle.bundle.specs.declared.Width.the-variants.{Byte}
 use Rattle.bundle.specs.declared.Scan.{Scan}
 use Rattle.bundle.specs.declared.Scan.the-variants.{Next, Bad}
 use Rattle.bundle.specs.declared.Field.the-variants.{Name}
@@ -35,7 +36,7 @@ scanSegment u = scanField Name u (length u)
 
 -- a use's segments as a bundle has them: a count, and as many names; nothing after them
 unfoldable pub scanSegments : List ℕ → Scan
-scanSegments u = andThen (scanList Name segment-limit u (length u) 0) (scanEnd (length u))
+scanSegments u = andThen (scanList Byte Name segment-limit u (length u) 0) (scanEnd (length u))
 
 abbrev pub segments : List ℕ → List Text
 segments u = counted (after u) (text u) u 0

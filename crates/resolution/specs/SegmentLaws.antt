@@ -8,8 +8,10 @@ use lib.ListN.{length}
 use borrow.Author.Tests.{le-leb, lt-leb, le-ltb, lt-ltb, eq-eqb, ne-eqb}
 use Rattle.names.specs.Identifier.{isIdentifier}
 use Rattle.bundle.specs.Limits.{segment-limit}
-use Rattle.bundle.specs.Scan.{byte, text, scanString, scanFormed, scanField, scanCount, scanList, scanEnd, times}
+use Rattle.bundle.specs.Scan.{byte, text, scanString, scanFormed, scanField, scanList, scanEnd, times}
 use Rattle.bundle.specs.Decode.{after}
+use Rattle.bundle.specs.Steps.{count-cut, count-many, count-passed}
+use Rattle.bundle.specs.declared.Width.the-variants.{Byte}
 use Rattle.bundle.specs.declared.Scan.the-variants.{Next, Bad}
 use Rattle.resolution.specs.Call.{scanSegment, scanSegments}
 
@@ -30,23 +32,23 @@ module _ (u : List ℕ) (at : ℕ) where
 -- THE SEGMENTS
 module _ (u : List ℕ) where
   pub no-count : length u ≡ 0 → Bad 1 0 ≡ scanSegments u
-  unfolding scanSegments scanList scanCount
-  no-count h = let k : length u ≤ 0 = omega arith in rw (le-ltb _ _ k)
+  unfolding scanSegments scanList
+  no-count h = rw (count-cut u (length u) 0 Byte 0 segment-limit (omega arith))
 
   module _ (h : 0 < length u) where
     pub many : segment-limit < byte u 0 → Bad 3 0 ≡ scanSegments u
-    unfolding scanSegments scanList scanCount
-    many k = let o : 0 ≤ byte u 0 = omega arith in rw (lt-ltb _ _ h, le-leb 0 _ o, lt-leb _ _ k)
+    unfolding scanSegments scanList
+    many k = rw (count-many u (length u) 0 Byte 0 segment-limit (omega arith) (omega arith) k)
 
     module _ (k : byte u 0 ≤ segment-limit) where
       pub segment-bad : (w p : ℕ) → times (byte u 0) (scanSegment u) 1 ≡ Bad w p → Bad w p ≡ scanSegments u
-      unfolding scanSegments scanList scanCount
-      segment-bad w p e = let o : 0 ≤ byte u 0 = omega arith in rw (lt-ltb _ _ h, le-leb 0 _ o, le-leb _ _ k, e)
+      unfolding scanSegments scanList
+      segment-bad w p e = rw (count-passed u (length u) 0 Byte 0 segment-limit (omega arith) (omega arith) k, e)
 
       pub all-read : (last : ℕ) → times (byte u 0) (scanSegment u) 1 ≡ Next last → last ≡ length u → Next last ≡ scanSegments u
-      unfolding scanSegments scanList scanCount scanEnd
-      all-read last e q = let o : 0 ≤ byte u 0 = omega arith in rw (lt-ltb _ _ h, le-leb 0 _ o, le-leb _ _ k, e, eq-eqb _ _ q)
+      unfolding scanSegments scanList scanEnd
+      all-read last e q = rw (count-passed u (length u) 0 Byte 0 segment-limit (omega arith) (omega arith) k, e, eq-eqb _ _ q)
 
       pub left-over : (last : ℕ) → times (byte u 0) (scanSegment u) 1 ≡ Next last → (last ≡ length u → ⊥) → Bad 1 last ≡ scanSegments u
-      unfolding scanSegments scanList scanCount scanEnd
-      left-over last e q = let o : 0 ≤ byte u 0 = omega arith in rw (lt-ltb _ _ h, le-leb 0 _ o, le-leb _ _ k, e, ne-eqb _ _ q)
+      unfolding scanSegments scanList scanEnd
+      left-over last e q = rw (count-passed u (length u) 0 Byte 0 segment-limit (omega arith) (omega arith) k, e, ne-eqb _ _ q)
