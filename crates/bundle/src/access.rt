@@ -15,13 +15,13 @@ use crate::bytes::byte_at;
 use crate::bytes::count_at;
 use crate::bytes::text_at;
 use crate::bytes::version_of;
-use crate::conflicts::after_files;
-use crate::conflicts::after_strings;
-use crate::conflicts::next_remapping;
 use crate::limits::HEADER;
 use crate::limits::file_width;
 use crate::limits::folder_width;
 use crate::limits::width_bytes;
+use crate::steps::after_files;
+use crate::steps::after_strings;
+use crate::steps::next_remapping;
 
 // A counted list: the position of its first value, and how many there are.
 pub struct Listed {
@@ -62,14 +62,14 @@ fn after_remappings(s: &[u8], at: usize, n: usize) -> usize
 }
 
 // The three lists, each after the one before it.
-fn folder_list(s: &[u8]) -> Listed
+pub fn folder_list(s: &[u8]) -> Listed
     ensures { λ r. ⌜ ((r .first ≡ folderFirst (now (s .entry))) × (r .count ≡ folderCount (now (s .entry)))) × ((r .first < 2 ^ 10) × (r .count < count-limit)) ⌝ }
 {
     let at = after_string(s, HEADER);
     listed_at(s, at, folder_width(version_of(s)))
 }
 
-fn remapping_list(s: &[u8]) -> Listed
+pub fn remapping_list(s: &[u8]) -> Listed
     ensures { λ r. ⌜ ((r .first ≡ remappingFirst (now (s .entry))) × (r .count ≡ remappingCount (now (s .entry)))) × ((r .first < 2 ^ 18) × (r .count < count-limit)) ⌝ }
 {
     let folders = folder_list(s);
@@ -77,7 +77,7 @@ fn remapping_list(s: &[u8]) -> Listed
     listed_at(s, at, Width::Byte)
 }
 
-fn file_list(s: &[u8]) -> Listed
+pub fn file_list(s: &[u8]) -> Listed
     ensures { λ r. ⌜ ((r .first ≡ fileFirst (now (s .entry))) × (r .count ≡ fileCount (now (s .entry)))) × ((r .first < 2 ^ 20) × (r .count < count-limit)) ⌝ }
 {
     let remappings = remapping_list(s);

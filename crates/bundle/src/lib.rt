@@ -1,11 +1,11 @@
 // The bundle reader: any bytes are a bundle, or are refused by a number from 1 to 13 and a place.
 mod access;
 mod bytes;
-mod conflicts;
 mod fields;
 mod form;
 mod items;
 pub mod limits;
+mod steps;
 
 pub use access::Listed;
 pub use access::Range;
@@ -13,9 +13,11 @@ pub use access::element_alias;
 pub use access::element_name;
 pub use access::file_at;
 pub use access::file_items;
+pub use access::file_list;
 pub use access::file_path;
 pub use access::files;
 pub use access::folder_at;
+pub use access::folder_list;
 pub use access::folders;
 pub use access::item_kind;
 pub use access::item_name;
@@ -27,6 +29,7 @@ pub use access::next_item;
 pub use access::next_string;
 pub use access::remapping_at;
 pub use access::remapping_context;
+pub use access::remapping_list;
 pub use access::remapping_name;
 pub use access::remapping_target;
 pub use access::remappings;
@@ -34,9 +37,9 @@ pub use access::root;
 pub use access::string;
 pub use access::use_elements;
 pub use access::use_segments;
-pub use conflicts::next_remapping;
+pub use steps::next_remapping;
 ghost use mathlib.Core.Path.{_≡_};
-ghost use Rattle.bundle.specs.Read.{verdict};
+ghost use Rattle.bundle.specs.Read.{form as Read·form};
 
 // What the check of a bundle answers: a refusal has document 01's number, 1 to 13, and the place.
 pub enum Checked {
@@ -70,14 +73,9 @@ pub enum Field {
     Remapping,
 }
 
-// Whether the bytes are a bundle. Ruled out: `Ok` for a bundle with a folder listed twice; `Refused(8, ..)` for a path that
-// is also listed before, which is 7.
-pub fn check(s: &[u8]) -> Checked
-    ensures { λ r. ⌜ r ≡ verdict (now (s .entry)) ⌝ }
+// 1 to 6. Ruled out: `Ok` for bytes that the header's length does not count.
+pub fn check_form(s: &[u8]) -> Checked
+    ensures { λ r. ⌜ r ≡ Read·form (now (s .entry)) ⌝ }
 {
-    let formed = form::form(s);
-    match formed {
-        Checked::Refused(n, p) => Checked::Refused(n, p),
-        Checked::Ok => conflicts::conflicts(s),
-    }
+    form::form(s)
 }

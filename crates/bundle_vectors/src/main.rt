@@ -3,7 +3,7 @@
 use bundle::Checked;
 
 fn tell(s: &[u8]) {
-    let told = bundle::check(s);
+    let told = card::check(s);
     match told {
         Checked::Ok => {
             io::write_all(1, b"ok\n");

@@ -15,9 +15,8 @@ use Rattle.names.specs.Path.{root, isPath}
 use Rattle.names.specs.Prefix.{directlyIn, parent}
 use Rattle.names.specs.FolderTheorems.{directly-in-parent, parent-directly-in, parent-prefix}
 use Rattle.bundle.specs.Bundle.{Text, Bundle, File}
-use Rattle.bundle.specs.Limits.{count-width}
-use Rattle.bundle.specs.Scan.{byte, text}
-use Rattle.bundle.specs.Decode.{each, after, afterFile, fileAt, foldersAt, filesAt, decode}
+use Rattle.bundle.specs.Scan.{text}
+use Rattle.bundle.specs.Decode.{each, after, afterFile, fileAt, folderCount, folderFirst, fileCount, fileFirst, decode}
 use Rattle.bundle.specs.Conflicts.{Placed, placedAt, any, listed, folders, files}
 use Rattle.bundle.specs.Form.{withSlash}
 use Rattle.bundle.specs.Members.{mem-getD, any-true, mem-any, mem-member, getD-mem}
@@ -33,7 +32,7 @@ use Rattle.card.specs.declared.look.Near.the-variants.{At, Nothing}
 
 -- THE POSITIONS of the listed paths
 abbrev pub spots : List ℕ → List ℕ
-spots s = each (after s) itself (byte s (foldersAt s)) (foldersAt s + count-width) ++ each (afterFile s) itself (byte s (filesAt s)) (filesAt s + count-width)
+spots s = each (after s) itself (folderCount s) (folderFirst s) ++ each (afterFile s) itself (fileCount s) (fileFirst s)
 
 pub each-map : {A : Type 0} (next : ℕ → ℕ) (get : ℕ → A) (n at : ℕ) → map get (each next itself n at) ≡ each next get n at
 unfolding each
@@ -53,13 +52,13 @@ pub nodes-at : (s : List ℕ) → nodesAt s (spots s) ≡ nodesIn s
 unfolding decode
 nodes-at s =
     ap (λ (l : List Text). root ∷ l)
-    (map-append (text s) (each (after s) itself (byte s (foldersAt s)) (foldersAt s + count-width)) (each (afterFile s) itself (byte s (filesAt s)) (filesAt s + count-width))
-    ∙ rw (each-map (after s) (text s) (byte s (foldersAt s)) (foldersAt s + count-width), each-map (afterFile s) (text s) (byte s (filesAt s)) (filesAt s + count-width), file-paths s (byte s (filesAt s)) (filesAt s + count-width)))
+    (map-append (text s) (each (after s) itself (folderCount s) (folderFirst s)) (each (afterFile s) itself (fileCount s) (fileFirst s))
+    ∙ rw (each-map (after s) (text s) (folderCount s) (folderFirst s), each-map (afterFile s) (text s) (fileCount s) (fileFirst s), file-paths s (fileCount s) (fileFirst s)))
 
 pub placed-spots : (s : List ℕ) → map (placedAt s) (spots s) ≡ folders s ++ files s
 placed-spots s =
-    map-append (placedAt s) (each (after s) itself (byte s (foldersAt s)) (foldersAt s + count-width)) (each (afterFile s) itself (byte s (filesAt s)) (filesAt s + count-width))
-    ∙ rw (each-map (after s) (placedAt s) (byte s (foldersAt s)) (foldersAt s + count-width), each-map (afterFile s) (placedAt s) (byte s (filesAt s)) (filesAt s + count-width))
+    map-append (placedAt s) (each (after s) itself (folderCount s) (folderFirst s)) (each (afterFile s) itself (fileCount s) (fileFirst s))
+    ∙ rw (each-map (after s) (placedAt s) (folderCount s) (folderFirst s), each-map (afterFile s) (placedAt s) (fileCount s) (fileFirst s))
 
 -- THE SAME INDEX in a card that differs elsewhere
 pub index-agree : {s : List ℕ} {ps : List Text} {c : List ℕ} → IndexOf s ps c → (d : List ℕ) → length d ≡ card-size → ((j : ℕ) → starts-at ≤ j → j ≤ key-at → getD d j 0 ≡ getD c j 0) → IndexOf s ps d
@@ -201,3 +200,164 @@ module _ (s sp : List ℕ) (F : List Text) where
   pub told-all : (i : ℕ) → length (nodesAt s sp) ≤ i → onFrom i ≡ Ok
   unfolding listed
   told-all i h = rw (drop-of-length-le sp {i = i - 1} (omega (arith, length-map sp (text s))))
+
+-- THE LOOP
+-- a card that indexes the listed paths of a bundle in form, its parents 0
+pub record Indexed (s c : List ℕ) (folders n : ℕ) : Type 0 where
+  pub holds : Holds s (spots s) c n
+  pub paths : (i : ℕ) → i < length (nodesIn s) → isPath (getD (nodesIn s) i []) ≡ true
+  pub folder-count : folders ≡ length (decode s .folders)
+  pub zeros : (j : ℕ) → j < starts-at → getD c j 0 ≡ 0
+
+-- each path's parent
+pub record Parents (s c : List ℕ) (n : ℕ) : Type 0 where
+  pub each-one : (j : ℕ) → j < n → (j ≡ 0 → ⊥) → FolderAt (decode s) (parent (getD (nodesIn s) j [])) (parentAt c j)
+  pub top : parentAt c 0 ≡ 0
+  pub small : (j : ℕ) → j < node-limit → parentAt c j < node-limit
+
+abbrev pub allTold : List ℕ → Checked
+allTold s = listed (root ∷ []) (withSlash (decode s)) (map (placedAt s) (spots s))
+
+-- what 7 and 8 leave of the card c₀
+pub record Linked (s c₀ c : List ℕ) (r : Checked) : Type 0 where
+  pub size : length c ≡ card-size
+  pub kept : (j : ℕ) → starts-at ≤ j → getD c j 0 ≡ getD c₀ j 0
+  pub told : r ≡ allTold s
+  pub parents : r ≡ Ok → Parents s c (length (nodesIn s))
+
+-- the indices below i are done
+pub record Linking (s c₀ c : List ℕ) (folders n i : ℕ) : Type 0 where
+  pub indexed : Indexed s c₀ folders n
+  pub size : length c ≡ card-size
+  pub kept : (j : ℕ) → starts-at ≤ j → getD c j 0 ≡ getD c₀ j 0
+  pub from : 1 ≤ i
+  pub to : i ≤ n
+  pub parents : Parents s c i
+  pub told : allTold s ≡ onFrom s (spots s) (withSlash (decode s)) i
+
+pub linking-start : (s c : List ℕ) (folders n : ℕ) → Indexed s c folders n → Linking s c c folders n 1
+linking-start s c folders n R = record {
+  indexed = R;
+  size = R .holds .index .size;
+  kept = λ j o. refl;
+  from = omega arith;
+  to = omega (arith, R .holds .full);
+  parents = record { each-one = λ j o z. absurd (z (omega arith)); top = R .zeros 0 (omega arith); small = λ j o. let y : getD c (0 + j) 0 ≡ 0 = R .zeros (0 + j) (omega arith) in rw y (omega arith) };
+  told = refl;
+}
+
+refused-not-ok : {k p : ℕ} → Refused k p ≡ Ok → ⊥
+refused-not-ok e = let z : _≡_ {A = ℕ} 0 1 = cc in omega arith
+
+module _ (s c₀ c : List ℕ) (folders n i : ℕ) (w : Linking s c₀ c folders n i) where
+  whole : length (nodesIn s) ≡ n
+  whole = sym (ap length (nodes-at s)) ∙ ap suc (length-map (spots s) (text s)) ∙ sym (w .indexed .holds .full)
+
+  pub link-end : n ≤ i → Linked s c₀ c Ok
+  link-end h =
+      let z : i ≡ length (nodesIn s) = omega (arith, w .to, whole) in
+      record {
+        size = w .size;
+        kept = w .kept;
+        told = sym (w .told ∙ told-all s (spots s) (withSlash (decode s)) i (omega (arith, ap length (nodes-at s))));
+        parents = λ e. rw z at (w .parents);
+      }
+
+  pub link-index : IndexOf s (nodesIn s) c
+  link-index = rw (nodes-at s) at (index-agree (w .indexed .holds .index) c (w .size) (λ j o k. w .kept j o))
+
+  module _ (o : i < n) where
+    pub link-within : i < length (nodesIn s)
+    link-within = omega (arith, whole)
+
+    pub link-first : i ≡ 0 → ⊥
+    link-first z = omega (arith, w .from)
+
+    pub link-room : i < node-limit
+    link-room = omega (arith, whole, link-index .count)
+
+    module _ (a : ℕ) (aq : a ≡ startAt c i) (p : Text) (pq : p ≡ text s a) where
+      pub link-low : a < 67108864
+      link-low = rw aq (link-index .low i link-within)
+
+      pub link-node : p ≡ getD (nodesIn s) i []
+      link-node = pq ∙ ap (text s) aq ∙ link-index .texts i link-within link-first
+
+      pub link-path : isPath p ≡ true
+      link-path = rw link-node (w .indexed .paths i link-within)
+
+      link-spot : a ≡ getD (spots s) (i - 1) 0
+      link-spot =
+          let z : suc (i - 1) ≡ i = omega (arith, w .from) in
+          aq ∙ w .kept (starts-at + i) (omega arith) ∙ rw z at (w .indexed .holds .starts (i - 1) (omega (arith, w .indexed .holds .full)))
+
+      in-list : i < length (nodesAt s (spots s))
+      in-list = omega (arith, link-within, ap length (nodes-at s))
+
+      module _ (u : Bool) (uq : u ≡ member p (take i (nodesIn s))) where
+        seen : {b : Bool} → u ≡ b → member (text s a) (take i (nodesAt s (spots s))) ≡ b
+        seen e = rw (nodes-at s, ← pq) (sym uq ∙ e)
+
+        pub link-twice : u ≡ true → Linked s c₀ c (Refused 7 a)
+        link-twice e = record {
+          size = w .size;
+          kept = w .kept;
+          told = sym (w .told ∙ told-twice s (spots s) (withSlash (decode s)) i in-list link-first a link-spot (seen e));
+          parents = λ q. absurd (refused-not-ok q);
+        }
+
+        module _ (f : u ≡ false) where
+          not-root : p ≡ root → ⊥
+          not-root e =
+              false-true (sym f ∙ uq ∙ member-found p (take i (nodesIn s)) 0 (omega (arith, length-take i (nodesIn s), link-within, w .from))
+              (rw (getD-take i (nodesIn s) 0 [] (w .from)) (equal-same p root e)))
+
+          module _ (r : Near) (R : InFolder (decode s) (parent p) r) where
+            pub link-orphan : r ≡ Nothing → Linked s c₀ c (Refused 8 a)
+            link-orphan e = record {
+              size = w .size;
+              kept = w .kept;
+              told =
+                  sym (w .told ∙ told-orphan s (spots s) (withSlash (decode s)) i in-list link-first a link-spot (seen f)
+                  (rw (← pq) (no-folder s (w .indexed .paths) p link-path not-root (rw e at R))));
+              parents = λ q. absurd (refused-not-ok q);
+            }
+
+            module _ (d : ℕ) (e : r ≡ At d) where
+              found : FolderAt (decode s) (parent p) d
+              found = rw e at R
+
+              pub link-small : d < node-limit
+              link-small = omega (arith, found .folder, length-append (withSlash (decode s)) (map (λ (g : File). g .path) (decode s .files)), link-index .count)
+
+              pub link-more : Linking s c₀ (set c (0 + i) d) folders n (i + 1)
+              link-more = record {
+                indexed = w .indexed;
+                size = rw length-set (w .size);
+                kept = λ j k. getD-set-other c (0 + i) j d 0 (λ z. omega (arith, link-room)) ∙ w .kept j k;
+                from = omega arith;
+                to = omega arith;
+                parents = record {
+                  each-one = λ j k z. one j k z (decEq j i);
+                  top = getD-set-other c (0 + i) 0 d 0 (λ z. omega (arith, w .from)) ∙ w .parents .top;
+                  small = λ j k. less j k (decEq j i);
+                };
+                told =
+                    w .told ∙ told-on s (spots s) (withSlash (decode s)) i in-list link-first a link-spot (seen f)
+                    (rw (← pq) (has-folder s (w .indexed .paths) p link-path not-root d found));
+              }
+                where
+                  inside : 0 + i < length c
+                  inside = omega (arith, link-room, w .size)
+
+                  one : (j : ℕ) → j < i + 1 → (j ≡ 0 → ⊥) → Dec (j ≡ i) → FolderAt (decode s) (parent (getD (nodesIn s) j [])) (parentAt (set c (0 + i) d) j)
+                  one j k z (yes y) = rw (y, getD-set-same c (0 + i) d 0 inside, ← link-node) found
+                  one j k z (no y) = rw (getD-set-other c (0 + i) (0 + j) d 0 (λ x. y (omega arith))) (w .parents .each-one j (omega arith) z)
+
+                  less : (j : ℕ) → j < node-limit → Dec (j ≡ i) → parentAt (set c (0 + i) d) j < node-limit
+                  less j k (yes y) = rw (y, getD-set-same c (0 + i) d 0 inside) link-small
+                  less j k (no y) = rw (getD-set-other c (0 + i) (0 + j) d 0 (λ x. y (omega arith))) (w .parents .small j k)
+
+-- a path's parent is its first bytes
+pub at-parent : (s : List ℕ) (p : Text) → isPath p ≡ true → (k : ℕ) → k ≡ length (parent p) → (r : Near) → InFolder (decode s) (take k p) r → InFolder (decode s) (parent p) r
+at-parent s p h k e r w = let z : take k p ≡ parent p = rw e (parent-prefix p h) in rw z at w

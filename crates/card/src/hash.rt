@@ -5,7 +5,7 @@ ghost use Rattle.card.specs.Layout.{key-limit};
 ghost use Rattle.card.specs.Index.{hashed};
 ghost use Rattle.card.specs.Card.{hashOf};
 
-const SEED: usize = 5381;
+pub const SEED: usize = 5381;
 
 // Hashes are modulo this, less one, up to the last carry.
 const FOLD: usize = 2147483648;
