@@ -22,13 +22,7 @@ use crate::readings::load_and_parse_dependencies;
 use card::CARD;
 
 // All lookups of a unit, then all its readings.
-fn turn<'a>(
-    s: &'a [u8],
-    card: &'a [u32; CARD],
-    g: Graph,
-    unit: usize,
-    known: &mut [usize; KNOWN],
-) -> Graph
+fn turn(s: &[u8], card: &[u32; CARD], g: Graph, unit: usize, known: &mut [usize; KNOWN]) -> Graph
     requires { ⌜ (verdict (now s) ≡ Ok) × CardIs (now s) (now card) × (Invariant (decode (now s)) unit g × (unit < g .units)) × (Table (decode (now s)) unit g (now known) × Places (now s) (now known)) ⌝ }
     ensures { λ r. ⌜ Invariant (decode (now (s .entry))) (unit + 1) r ⌝ }
     ensures { λ r. ⌜ Table (decode (now (s .entry))) (unit + 1) r (now (known .exit)) × Places (now (s .entry)) (now (known .exit)) ⌝ }
@@ -44,7 +38,7 @@ fn turn<'a>(
 
 // The graph of a checked bundle; what every use of a reached file resolves to is kept. Ruled out: a graph of unit 0 alone where it
 // imports another file; a list with an id twice; a use of a reached file without its entry.
-pub fn discover<'a>(s: &'a [u8], card: &'a [u32; CARD], known: &mut [usize; KNOWN]) -> Graph
+pub fn discover(s: &[u8], card: &[u32; CARD], known: &mut [usize; KNOWN]) -> Graph
     requires { ⌜ (verdict (now s) ≡ Ok) × CardIs (now s) (now card) × Fresh (now known) ⌝ }
     ensures { λ r. ⌜ Discovers (decode (now (s .entry))) r ⌝ }
     ensures { λ r. ⌜ Complete (decode (now (s .entry))) (now (known .exit)) × Places (now (s .entry)) (now (known .exit)) ⌝ }

@@ -19,7 +19,7 @@ use card::CARD;
 use resolution::Resolution;
 
 // A lookup: what the use at `mark` in the file of index f of the card resolves to.
-fn resolve_single<'a>(s: &'a [u8], card: &'a [u32; CARD], f: usize, mark: usize) -> Resolution
+fn resolve_single(s: &[u8], card: &[u32; CARD], f: usize, mark: usize) -> Resolution
     requires { ⌜ Mapped (now s) (now card) × Importer (now s) f × (UseMark (now s) mark × NamedUse (useAt (now s) mark)) ⌝ }
     ensures { λ r. ⌜ r ≡ answer (listsIn (now (s .entry))) (resolvePathInternal (listsIn (now (s .entry))) (pathIn (now (s .entry)) f) (useAt (now (s .entry)) mark .segments)) ⌝ }
 {
@@ -32,9 +32,9 @@ fn resolve_single<'a>(s: &'a [u8], card: &'a [u32; CARD], f: usize, mark: usize)
 // All lookups of the file of index f of the card, whose uses these are. What they push is stored here, so that no record is copied for a
 // use. What each resolves to is kept, from the entry `first` on. Ruled out: a fault at the place of another use; a use that fails
 // gathered as an import; a target kept for another use.
-pub fn resolve_imports<'a>(
-    s: &'a [u8],
-    card: &'a [u32; CARD],
+pub fn resolve_imports(
+    s: &[u8],
+    card: &[u32; CARD],
     f: usize,
     u: Uses,
     g: Graph,

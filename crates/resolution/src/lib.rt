@@ -4,6 +4,9 @@ mod package;
 mod segments;
 mod uses;
 
+ghost use mathlib.Core.Path.{_≡_};
+ghost use Rattle.resolution.specs.Call.{resolve as Call·resolve};
+use card::CARD;
 pub use uses::resolve_path_internal;
 
 // What a use resolves to.
@@ -26,4 +29,27 @@ pub enum Lookup {
 pub enum Choice {
     At(usize),
     Nothing,
+}
+
+// The resolution call: a bundle, the importer's path, and a use's segments as a bundle has them, a count and as many names.
+// Ruled out: an answer with a file of the library of `/r/pay` for an importer `/r/payroll/m.simf`; 24 where the lookup fails,
+// which is 22.
+pub fn resolve(s: &[u8], importer: &[u8], u: &[u8]) -> Resolution
+    ensures { λ r. ⌜ r ≡ Call·resolve (now (s .entry)) (now (importer .entry)) (now (u .entry)) ⌝ }
+{
+    let mut card = [0u32; CARD];
+    let checked = card::read(s, &mut card);
+    match checked {
+        bundle::Checked::Refused(n, p) => Resolution::Refused(n, p),
+        bundle::Checked::Ok => {
+            if !names::is_path(importer) {
+                return Resolution::Refused(4, 0);
+            }
+            let formed = segments::segments_end(u);
+            match formed {
+                bundle::Scan::Bad(n, _) => Resolution::Refused(n, 0),
+                bundle::Scan::Next(_) => uses::resolve_in(s, &card, importer, u),
+            }
+        }
+    }
 }

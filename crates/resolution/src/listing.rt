@@ -22,7 +22,7 @@ fn is_folder(i: usize, folders: usize) -> bool
 }
 
 // The file, or the folder, that a name in the folder of index dir stands for; `left` segments are left.
-fn locate<'a>(s: &'a [u8], card: &'a [u32; CARD], dir: usize, name: &'a [u8], left: usize) -> Lookup
+fn locate(s: &[u8], card: &[u32; CARD], dir: usize, name: &[u8], left: usize) -> Lookup
     requires { ⌜ CardIs (now s) (now card) × (IsFolder (now s) dir × IsName (now name)) ⌝ }
     ensures { λ r. ⌜ located (now (s .entry)) (childFile (pathIn (now (s .entry)) dir) (now (name .entry))) left r ⌝ }
 {
@@ -34,11 +34,11 @@ fn locate<'a>(s: &'a [u8], card: &'a [u32; CARD], dir: usize, name: &'a [u8], le
 }
 
 // From the folder of index base, the n segments of u from first on: those that name folders are entered, the next names the file.
-pub fn build_and_verify_path<'a>(
-    s: &'a [u8],
-    card: &'a [u32; CARD],
+pub fn build_and_verify_path(
+    s: &[u8],
+    card: &[u32; CARD],
     base: usize,
-    u: &'a [u8],
+    u: &[u8],
     first: usize,
     n: usize,
 ) -> Lookup

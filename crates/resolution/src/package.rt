@@ -13,13 +13,7 @@ use crate::Choice;
 use card::CARD;
 
 // Whether a name in the file of index f can take remapping j.
-fn remapping_applies<'a>(
-    s: &'a [u8],
-    card: &'a [u32; CARD],
-    f: usize,
-    name: &'a [u8],
-    j: usize,
-) -> bool
+fn remapping_applies(s: &[u8], card: &[u32; CARD], f: usize, name: &[u8], j: usize) -> bool
     requires { ⌜ Mapped (now s) (now card) × ((f < length (nodesIn (now s))) × (j < length (decode (now s) .remappings))) ⌝ }
     ensures { λ r. ⌜ r ≡ applies (pathIn (now (s .entry)) f) (now (name .entry)) (remappingIn (now (s .entry)) j) ⌝ }
 {
@@ -49,11 +43,11 @@ fn longer(card: &[u32; CARD], best: Choice, j: usize) -> Choice
 }
 
 // One more remapping: j.
-fn remapping_step<'a>(
-    s: &'a [u8],
-    card: &'a [u32; CARD],
+fn remapping_step(
+    s: &[u8],
+    card: &[u32; CARD],
     f: usize,
-    name: &'a [u8],
+    name: &[u8],
     best: Choice,
     j: usize,
 ) -> Choice
@@ -67,7 +61,7 @@ fn remapping_step<'a>(
 }
 
 // The remapping that a name in the file of index f takes.
-pub fn remapping_for<'a>(s: &'a [u8], card: &'a [u32; CARD], f: usize, name: &'a [u8]) -> Choice
+pub fn remapping_for(s: &[u8], card: &[u32; CARD], f: usize, name: &[u8]) -> Choice
     requires { ⌜ Mapped (now s) (now card) × (f < length (nodesIn (now s))) ⌝ }
     ensures { λ r. ⌜ (chosen (now (s .entry)) r ≡ remappingFor (listsIn (now (s .entry))) (pathIn (now (s .entry)) f) (now (name .entry))) × CanTake (now (s .entry)) (pathIn (now (s .entry)) f) (now (name .entry)) r ⌝ }
 {

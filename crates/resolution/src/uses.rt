@@ -31,12 +31,7 @@ fn resolved(card: &[u32; CARD], t: usize, left: usize) -> Resolution
 }
 
 // Whether index t has the package root of the file of index f.
-fn check_local_file_imported_as_external<'a>(
-    s: &'a [u8],
-    card: &'a [u32; CARD],
-    f: usize,
-    t: usize,
-) -> bool
+fn check_local_file_imported_as_external(s: &[u8], card: &[u32; CARD], f: usize, t: usize) -> bool
     requires { ⌜ CardIs (now s) (now card) × ((f < length (nodesIn (now s))) × (t < length (nodesIn (now s)))) ⌝ }
     ensures { λ r. ⌜ r ≡ checkLocalFileImportedAsExternal (listsIn (now (s .entry))) (pathIn (now (s .entry)) f) (pathIn (now (s .entry)) t) ⌝ }
 {
@@ -54,12 +49,12 @@ fn check_local_file_imported_as_external<'a>(
 }
 
 // From the target of index base, the n segments of u from first on.
-fn resolve_external_path<'a>(
-    s: &'a [u8],
-    card: &'a [u32; CARD],
+fn resolve_external_path(
+    s: &[u8],
+    card: &[u32; CARD],
     f: usize,
     base: usize,
-    u: &'a [u8],
+    u: &[u8],
     first: usize,
     n: usize,
 ) -> Resolution
@@ -91,11 +86,11 @@ fn itself(card: &[u32; CARD], f: usize, base: usize, n: usize) -> Resolution
 }
 
 // Below the file's package root, the n segments of u from first on.
-fn resolve_crate_path<'a>(
-    s: &'a [u8],
-    card: &'a [u32; CARD],
+fn resolve_crate_path(
+    s: &[u8],
+    card: &[u32; CARD],
     f: usize,
-    u: &'a [u8],
+    u: &[u8],
     first: usize,
     n: usize,
 ) -> Resolution
@@ -118,11 +113,11 @@ fn resolve_crate_path<'a>(
 // A use in the file of index f: its segments are the n strings of u from first on, which may be the bundle itself. Ruled out: a
 // file below another package root than the importer's for `crate`; 23 for a `crate` path that fails in a file directly in its
 // package root, which resolves to itself.
-pub fn resolve_path_internal<'a>(
-    s: &'a [u8],
-    card: &'a [u32; CARD],
+pub fn resolve_path_internal(
+    s: &[u8],
+    card: &[u32; CARD],
     f: usize,
-    u: &'a [u8],
+    u: &[u8],
     first: usize,
     n: usize,
 ) -> Resolution
@@ -148,7 +143,7 @@ pub fn resolve_path_internal<'a>(
 }
 
 // 29, then 20 to 25; the segments are those of u.
-pub fn resolve_in<'a>(s: &'a [u8], card: &'a [u32; CARD], file: &'a [u8], u: &'a [u8]) -> Resolution
+pub fn resolve_in(s: &[u8], card: &[u32; CARD], file: &[u8], u: &[u8]) -> Resolution
     requires { ⌜ Mapped (now s) (now card) × Every IsName (segments (now u)) ⌝ }
     ensures { λ r. ⌜ r ≡ resolveIn (listsIn (now (s .entry))) (now (file .entry)) (segments (now (u .entry))) ⌝ }
 {
