@@ -15,7 +15,8 @@ use Rattle.names.specs.Identifier.{isIdentifier}
 use Rattle.names.specs.Keywords.{isCrate, isKeyword}
 use Rattle.names.specs.FolderTheorems.{directly-in-parent}
 use Rattle.bundle.specs.Bundle.{Text, Remapping, File, Bundle}
-use Rattle.bundle.specs.Limits.{folder-limit, remapping-limit, file-limit, item-limit, use-limit, depth-limit}
+use Rattle.bundle.specs.Limits.{capacity, folder-limit, remapping-limit, file-limit, item-limit, use-limit, depth-limit}
+use Rattle.bundle.specs.declared.Width.the-variants.{Word}
 use Rattle.bundle.specs.Encode.{fields}
 use Rattle.bundle.specs.Conflicts.{any}
 use Rattle.bundle.specs.Stand.{Bytes}
@@ -44,7 +45,7 @@ pub record Accepted (b : Bundle) : Type 0 where
   pub item-count : fileItems (b .files) ≤ item-limit
   pub use-count : fileUses (b .files) ≤ use-limit
   -- the header's length counts it
-  pub size : length (fields b) < 65536
+  pub size : length (fields b) < capacity Word
   -- 4 to 6: every path and every item is in form
   pub root-path : IsPath (b .root)
   pub paths : (p : Text) → List·Memᴰ p (pathsListed b) → IsPath p

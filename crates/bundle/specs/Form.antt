@@ -12,7 +12,8 @@ use Rattle.names.specs.Prefix.{directlyIn}
 use Rattle.names.specs.Identifier.{isIdentifier}
 use Rattle.names.specs.Keywords.{isKeyword, isCrate}
 use Rattle.bundle.specs.Bundle.{Text, Element, Items, none, named, use-of, module-of, ignored, Remapping, File, Bundle}
-use Rattle.bundle.specs.Limits.{defined, header, width, folder-width, file-width, most-folders, remapping-limit, most-files, item-limit, most-uses, segment-limit, element-limit, depth-limit, use-kind, module-kind, ignored-kind}
+use Rattle.bundle.specs.Limits.{defined, header, width, capacity, folder-width, file-width, most-folders, remapping-limit, most-files, item-limit, most-uses, segment-limit, element-limit, depth-limit, use-kind, module-kind, ignored-kind}
+use Rattle.bundle.specs.declared.Width.the-variants.{Byte, Word}
 use Rattle.bundle.specs.Encode.{string, countedBy, counted, sized, element, items, remapping, file, fields}
 use Rattle.bundle.specs.Conflicts.{any}
 
@@ -33,7 +34,7 @@ IsAlias t = (eqb (length t) 0 || isIdentifier t) ≡ true
 
 -- a length byte counts it
 abbrev pub Short : Text → Type 0
-Short t = length t < 256
+Short t = length t < capacity Byte
 
 abbrev pub FormedElement : Element → Type 0
 FormedElement e = IsName (e .name) × IsAlias (e .alias)
@@ -116,7 +117,7 @@ pub record InForm (b : Bundle) : Type 0 where
   pub use-count : fileUses (b .files) ≤ most-uses (b .version)
   pub marks : MarkedFiles (b .files) (firstFile b)
   -- the header's length counts it
-  pub size : length (fields b) < 65536
+  pub size : length (fields b) < capacity Word
 
 -- NO CONFLICTS, 7 to 13
 -- no path is listed before, and each lies directly in a folder

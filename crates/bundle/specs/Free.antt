@@ -10,7 +10,7 @@ use Rattle.names.specs.Prefix.{directlyIn}
 use Rattle.names.specs.Identifier.{isIdentifier}
 use Rattle.names.specs.Keywords.{isCrate, isKeyword}
 use Rattle.bundle.specs.Bundle.{Text, Remapping, File}
-use Rattle.bundle.specs.Scan.{byte, text}
+use Rattle.bundle.specs.Scan.{text}
 use Rattle.bundle.specs.Decode.{each, after, afterRemapping, afterFile, remappingAt, fileAt, decode, folderCount, folderFirst, remappingCount, remappingFirst, fileCount, fileFirst}
 use Rattle.bundle.specs.Conflicts.{Placed, PlacedRemapping, placedAt, placedRemappingAt, texts, orElse, any, listed, located, sameRemapping, remapped, conflicts, remappings}
 use Rattle.bundle.specs.Conflicts.{named as nameTold}

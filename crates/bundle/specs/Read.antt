@@ -3,7 +3,7 @@ use Prim.Native.Nat.{ℕ, _<_}
 use mathlib.Core.List.{List}
 use lib.ListN.{length}
 use Rattle.bundle.specs.Bundle.{Bundle}
-use Rattle.bundle.specs.Limits.{folder-width, file-width, most-folders, remapping-limit, most-files}
+use Rattle.bundle.specs.Limits.{capacity, folder-width, file-width, most-folders, remapping-limit, most-files}
 use Rattle.bundle.specs.Scan.{byte, versionOf, count, scanHeader, scanPath, scanList, scanCount, scanFiles, scanEnd}
 use Rattle.bundle.specs.Decode.{decode}
 use Rattle.bundle.specs.Conflicts.{orElse, conflicts}
@@ -18,7 +18,7 @@ use Rattle.bundle.specs.declared.Checked.the-variants.{Ok, Refused}
 
 -- numbers that are bytes
 abbrev pub Bytes : List ℕ → Type 0
-Bytes s = (i : ℕ) → byte s i < 256
+Bytes s = (i : ℕ) → byte s i < capacity Byte
 
 abbrev pub after : Scan → (ℕ → Checked) → Checked
 after (Next at) f = f at

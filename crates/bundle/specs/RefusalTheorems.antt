@@ -3,14 +3,18 @@
 -- Assumes nothing.
 use Prim.Native.Nat.{ℕ, _+_, _≤_, _<_}
 use native.Mathlib.Omega.{arith}
+use mathlib.Core.Bool.{true, false}
 use mathlib.Core.Path.{_≡_, refl, sym, ap, subst, _∙_}
 use mathlib.Core.Logic.{_⊎_, inl, inr}
 use mathlib.Core.List.{List, [], _∷_, map}
 use lib.ListN.{length}
+use borrow.Author.Tests.{le-ltb}
 use Rattle.names.specs.Path.{root}
 use Rattle.names.specs.Prefix.{parent}
 use Rattle.bundle.specs.Bundle.{Bundle, File}
-use Rattle.bundle.specs.Scan.{byte}
+use Rattle.bundle.specs.Limits.{defined, header}
+use Rattle.bundle.specs.Scan.{versionOf, scanHeader}
+use Rattle.bundle.specs.SoundBundle.{form-parts, both-pass}
 use Rattle.bundle.specs.Decode.{after, decode, folderCount, folderFirst, fileCount, fileFirst}
 use Rattle.bundle.specs.Conflicts.{texts, orElse, listed, remapped, conflicts, folders, files, remappings, allFolders}
 use Rattle.bundle.specs.Read.{Bytes, form, verdict, refused, read}
@@ -42,6 +46,14 @@ unformed s B = record { only = only; all = λ f. go (form s) refl f }
     go : (c : Checked) → form s ≡ c → (BytesInForm s → ⊥) → (n : ℕ) × ((p : ℕ) × (((1 ≤ n) × (n ≤ 6)) × (orElse (form s) (conflicts s) ≡ Refused n p)))
     go Ok e f = absurd (f (in-form-only s B e))
     go (Refused n p) e f = (n, (p, (early s n p e, rw e)))
+
+-- 2 TELLS A VERSION THAT IS NOT DEFINED, whatever follows the header; an accepted bundle's is defined
+pub undefined-refused : (s : List ℕ) → header ≤ length s → defined (versionOf s) ≡ false → verdict s ≡ Refused 2 0
+unfolding verdict form scanHeader
+undefined-refused s h e = rw (le-ltb (length s) header h, e)
+
+pub accepted-defined : (s : List ℕ) → verdict s ≡ Ok → defined (versionOf s) ≡ true
+accepted-defined s e = form-parts s (both-pass s e .0) .headed .is-defined
 
 -- 7 TO 13: a verdict from 7 on is one of the refusals, at the first path or remapping that is not good
 pub refusal-only : (s : List ℕ) → Bytes s → (n p : ℕ) → 7 ≤ n → verdict s ≡ Refused n p → Refusal s n p

@@ -70,6 +70,10 @@ unique a b p q e =
     let z : read (encode a) ≡ read (encode b) = ap read e in
     cc
 
+-- and two versions never do
+pub one-version : (a b : Bundle) → WellFormed a → WellFormed b → encode a ≡ encode b → a .version ≡ b .version
+one-version a b p q e = ap (λ (x : Bundle). x .version) (unique a b p q e)
+
 -- MARKS
 count-behind : (s : List ℕ) (w : Width) (l : List File) (at : ℕ) → drop at s ≡ count-list w file l ++ [] → drop (pastCount w at) s ≡ joined file l ++ []
 count-behind s w l at e = at-count s w at (length l) (joined file l ++ []) (e ∙ append-assoc (count-bytes w (length l)) (joined file l) []) .1

@@ -83,7 +83,7 @@ unfolding isIdentifier
 no-identifier [] h = refl
 no-identifier (b ∷ s) h = absurd (omega arith)
 
-pub long-identifier : (s : List ℕ) → 32 < length s → isIdentifier s ≡ false
+pub long-identifier : (s : List ℕ) → name-limit < length s → isIdentifier s ≡ false
 unfolding isIdentifier
 long-identifier [] h = refl
 long-identifier (b ∷ s) h = simp (lt-leb _ _ h)
@@ -101,7 +101,7 @@ wrong-byte (b ∷ s) (suc i) n h e =
     let f : all inside s ≡ false = all-fails inside s i (le-of-suc-le-suc h) (simp (eq-eqb _ _ e)) in
     simp (f, and-false)
 
-pub right-bytes : (s : List ℕ) → length s ≤ 32 → (length s ≡ 0 → ⊥) → class (getD s 0 0) ≡ 1
+pub right-bytes : (s : List ℕ) → length s ≤ name-limit → (length s ≡ 0 → ⊥) → class (getD s 0 0) ≡ 1
     → ((k : ℕ) → k < length s → 1 ≤ k → class (getD s k 0) ≡ 0 → ⊥) → isIdentifier s ≡ true
 unfolding isIdentifier
 right-bytes [] n m e f = absurd (m refl)
@@ -110,7 +110,7 @@ right-bytes (b ∷ s) n m e f =
     simp (le-leb _ _ n, eq-eqb _ _ e, g)
 
 -- an identifier's bytes: at most 32, none of them zero
-pub identifier-short : (s : List ℕ) → isIdentifier s ≡ true → length s ≤ 32
+pub identifier-short : (s : List ℕ) → isIdentifier s ≡ true → length s ≤ name-limit
 unfolding isIdentifier
 identifier-short [] h = zero-le
 identifier-short (b ∷ s) h = leb-true _ _ (and-left _ (eqb (class b) 1 && all inside s) h)

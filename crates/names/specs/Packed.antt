@@ -10,6 +10,7 @@ use mathlib.Core.List.{List}
 use mathlib.Core.Bool.{Bool, true, _&&_}
 use borrow.Author.Tests.{eq-eqb, eqb-true}
 use Rattle.names.specs.Bytes.{and-left, and-right}
+use Rattle.names.specs.Identifier.{name-limit}
 use lib.Dec.{lit≤, eqb}
 use lib.ListN.{getD, length, List·getD-eq-default}
 use lib.Seq.{ext-getD}
@@ -34,7 +35,7 @@ Bytes l = (i : ℕ) → getD l i 0 < 256
 pub record Text (l : List ℕ) : Type 0 where
   pub bytes : Bytes l
   pub letters : (i : ℕ) → i < length l → 0 < getD l i 0
-  pub short : length l ≤ 32
+  pub short : length l ≤ name-limit
 
 pub word-inj : (l m : List ℕ) → Bytes l → Bytes m → (k n : ℕ) → word l k n ≡ word m k n → (j : ℕ) → j < n → getD l (k + j) 0 ≡ getD m (k + j) 0
 unfolding word
@@ -54,7 +55,7 @@ module _ (l m : List ℕ) (tl : Text l) (tm : Text m) (e : packed l ≡ packed m
       let z : i ≡ k + (i - k) = omega arith in
       rw z (word-inj l m (tl .bytes) (tm .bytes) k 8 q (i - k) (omega arith))
 
-  each : (i : ℕ) → i < 32 → getD l i 0 ≡ getD m i 0
+  each : (i : ℕ) → i < name-limit → getD l i 0 ≡ getD m i 0
   unfolding packed
   each i h = go (decLt i 8) (decLt i 16) (decLt i 24)
     where
@@ -72,7 +73,7 @@ not-shorter l m tl tm e = go (decLe (length m) (length l))
     go (yes h) = h
     go (no h) =
         let k : length l < length m = omega arith in
-        let s : length m ≤ 32 = tm .short in
+        let s : length m ≤ name-limit = tm .short in
         omega (arith, tm .letters (length l) k, each l m tl tm e (length l) (omega arith), List·getD-eq-default l 0 {n = length l} (le-refl (length l)))
 
 pub packed-inj : (l m : List ℕ) → Text l → Text m → packed l ≡ packed m → l ≡ m

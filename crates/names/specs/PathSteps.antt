@@ -10,7 +10,8 @@ use lib.ListN.{length, getD, take, drop, length-append, length-drop, List·getD-
 use lib.Seq.{drop-drop, getD-drop, length-take-le}
 use borrow.Author.Tests.{eq-eqb, ne-eqb, eqb-true, lt-ltb, le-ltb, le-leb, lt-leb}
 use Rattle.names.specs.Bytes.{ascii, slash, same, same-eq, same-append, different, hasPrefix, all}
-use Rattle.names.specs.Path.{split, components, render, root, printable, isComponent, wellFormed, isPath}
+use Rattle.names.specs.Path.{split, components, render, root, printable, isComponent, wellFormed, isPath, component-limit, path-limit}
+use Rattle.names.specs.Identifier.{name-limit}
 use Rattle.names.specs.Prefix.{begins, startsWith, init, parent, depth, directlyIn, stemOf, child}
 use Rattle.names.specs.Pieces.{firstSlash, later, split-is, leads, begins-leads, not-root, root-byte}
 use Rattle.names.specs.Split.{slashes, length-split, init-split, init-none, render-split}
@@ -47,7 +48,7 @@ pub fits-none : (s : List ℕ) → fits 0 (split s) ≡ false
 unfolding fits
 fits-none s = rw (split-is s, leb·suc-zero)
 
-pub fits-first : (s : List ℕ) → wellFormed (split s) ≡ fits (16 - 0) (split (drop 0 s))
+pub fits-first : (s : List ℕ) → wellFormed (split s) ≡ fits (component-limit - 0) (split (drop 0 s))
 unfolding fits wellFormed
 fits-first s = refl
 
@@ -120,7 +121,7 @@ module _ (c : List ℕ) where
   unfolding isComponent
   empty-component h = simp (lt-leb 1 (length c) (omega arith))
 
-  pub long-component : 32 < length c → isComponent c ≡ false
+  pub long-component : name-limit < length c → isComponent c ≡ false
   unfolding isComponent
   long-component h = simp (lt-leb _ _ h, and-false)
 
@@ -132,7 +133,7 @@ module _ (c : List ℕ) where
   unfolding isComponent
   dot-component h = simp (h, and-false)
 
-  pub component-but-dots : (length c ≡ 0 → ⊥) → length c ≤ 32 → all printable c ≡ true → same c (ascii ".") ≡ false
+  pub component-but-dots : (length c ≡ 0 → ⊥) → length c ≤ name-limit → all printable c ≡ true → same c (ascii ".") ≡ false
       → isComponent c ≡ not (same c (ascii ".."))
   unfolding isComponent
   component-but-dots a b p d = simp (le-leb 1 (length c) (omega arith), le-leb _ _ b, p, d)
@@ -147,7 +148,7 @@ module _ (s : List ℕ) where
   pub empty-path : length s ≡ 0 → isPath s ≡ false
   empty-path h = led-wrong (λ e. omega (arith, List·getD-eq-default s 0 {n = 0} (omega arith)))
 
-  pub long-path : 255 < length s → isPath s ≡ false
+  pub long-path : path-limit < length s → isPath s ≡ false
   unfolding isPath
   long-path h = simp (lt-leb _ _ h, and-false)
 
@@ -155,9 +156,9 @@ module _ (s : List ℕ) where
   unfolding isPath components wellFormed all
   root-path h e =
       let r : same s root ≡ true = sym (root-byte s h) ∙ eq-eqb _ _ e in
-      rw (eq-eqb _ _ e, le-leb (length s) 255 (omega arith), r)
+      rw (eq-eqb _ _ e, le-leb (length s) path-limit (omega arith), r)
 
-  pub path-is : getD s 0 0 ≡ slash → length s ≤ 255 → (length s ≡ 1 → ⊥) → isPath s ≡ wellFormed (split (drop 1 s))
+  pub path-is : getD s 0 0 ≡ slash → length s ≤ path-limit → (length s ≡ 1 → ⊥) → isPath s ≡ wellFormed (split (drop 1 s))
   unfolding isPath components
   path-is e h n = rw (eq-eqb _ _ e, le-leb _ _ h, not-root s n)
 

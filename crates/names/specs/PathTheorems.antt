@@ -9,7 +9,7 @@ use lib.Dec.{eqb, leb}
 use lib.ListN.{length, getD, take, drop, length-append, length-drop}
 use borrow.Author.Tests.{eq-eqb, ne-eqb, eqb-true, le-leb, leb-true}
 use Rattle.names.specs.Bytes.{slash, same, same-refl, same-eq, same-differs, different, not-true, all, all-each, and-left, and-right, false-true}
-use Rattle.names.specs.Identifier.{between}
+use Rattle.names.specs.Identifier.{name-limit, between}
 use Rattle.names.specs.Path.{split, components, led, render, root, printable, isComponent, wellFormed, isPath, component-limit, path-limit}
 use Rattle.names.specs.Prefix.{begins, startsWith}
 use Rattle.names.specs.Pieces.{leads, begins-leads, split-is}
@@ -44,7 +44,7 @@ module _ (c : List ℕ) (h : isComponent c ≡ true) where
   all-printable : all printable c ≡ true
   unfolding isComponent
   all-printable =
-      and-left (all printable c) _ (and-right (leb (length c) 32) _ (and-right (leb 1 (length c)) _ h))
+      and-left (all printable c) _ (and-right (leb (length c) name-limit) _ (and-right (leb 1 (length c)) _ h))
 
   no-slash : (k : ℕ) → k < length c → getD c k 0 ≡ slash → ⊥
   no-slash k l e =

@@ -30,6 +30,9 @@ fn class_of(b: u8) -> u8
     0
 }
 
+// The longest name, as specs/Identifier.antt has it.
+pub const NAME: usize = 32;
+
 // Whether the bytes are an identifier. Ruled out: `true` of `9a`, of 33 letters or of no byte; `false` of `_`.
 pub fn is_identifier(s: &[u8]) -> bool
     ensures { λ r. ⌜ r ≡ isIdentifier (now (s .entry)) ⌝ }
@@ -37,7 +40,7 @@ pub fn is_identifier(s: &[u8]) -> bool
     if s.len() == 0 {
         return false;
     }
-    if s.len() > 32 {
+    if s.len() > NAME {
         return false;
     }
     if class_of(s[0]) != 1 {

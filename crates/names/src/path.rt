@@ -11,8 +11,14 @@ ghost use Rattle.names.specs.Pieces.{firstSlash};
 use crate::bytes::after;
 use crate::bytes::has_prefix;
 use crate::bytes::same_bytes;
+use crate::identifier::NAME;
 
 const SLASH: u8 = 47;
+
+// The longest path and the most components, as specs/Path.antt has them.
+const PATH: usize = 255;
+
+const COMPONENTS: usize = 16;
 
 fn is_root(s: &[u8]) -> bool
     ensures { λ r. ⌜ r ≡ same (now (s .entry)) root ⌝ }
@@ -56,7 +62,7 @@ fn is_component(c: &[u8]) -> bool
     if c.len() == 0 {
         return false;
     }
-    if c.len() > 32 {
+    if c.len() > NAME {
         return false;
     }
     if !all_printable(c) {
@@ -88,7 +94,7 @@ fn are_components(s: &[u8]) -> bool
 {
     let mut at = 0;
     let mut count: usize = 0;
-    while count < 16 {
+    while count < COMPONENTS {
         let rest = &s[at..];
         let n = first_slash(rest);
         if !is_component(&rest[..n]) {
@@ -113,7 +119,7 @@ pub fn is_path(s: &[u8]) -> bool
     if s[0] != SLASH {
         return false;
     }
-    if s.len() > 255 {
+    if s.len() > PATH {
         return false;
     }
     if s.len() == 1 {

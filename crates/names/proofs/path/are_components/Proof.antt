@@ -7,7 +7,7 @@ use mathlib.Core.Path.{_≡_, sym, _∙_}
 use native.Mathlib.Omega.{arith}
 use lib.ListN.{length, drop, take}
 use lib.Seq.{length-take-le}
-use Rattle.names.specs.Path.{split, wellFormed}
+use Rattle.names.specs.Path.{split, wellFormed, component-limit}
 use Rattle.names.specs.PathSteps.{fits, fits-first, fits-bad, fits-last, fits-more, fits-none}
 use Rattle.names.proofs.path.are_components.Statement.{statement}
 use Rattle.names.proofs.path.are_components.Tie as tie
@@ -15,10 +15,10 @@ use Rattle.names.proofs.path.are_components.Tie as tie
 -- `names::path::are_components` meets its contract: the pieces passed are components. Assumes nothing.
 
 abbrev Inv-loop : tie.InvT-loop
-Inv-loop s at₀ count₀ at count = (at ≤ length s) × (count ≤ 16) × (wellFormed (split s) ≡ fits (16 - count) (split (drop at s)))
+Inv-loop s at₀ count₀ at count = (at ≤ length s) × (count ≤ component-limit) × (wellFormed (split s) ≡ fits (component-limit - count) (split (drop at s)))
 
 abbrev μ-loop : tie.MeasureT-loop
-μ-loop s at₀ count₀ at count = 16 - count
+μ-loop s at₀ count₀ at count = component-limit - count
 
 loop-holds : tie.Need-loop-holds Inv-loop μ-loop
 loop-holds c = (omega arith, omega arith, fits-first _)
@@ -46,7 +46,7 @@ returns c =
     sym
     (c .before .before .before .before .before .before .loop .inv .2
     ∙ fits-bad (c .before .before .before .before .before .before .before .before .args .s .now) (c .before .before .before .before .before .before .loop .at) _ (rest-is (c .before .before .before .before .before .before .before .before .args .s .now) (c .before .before .before .before .before .before .loop .at)) _ (c .before .before .before .first-slash .ensures .0)
-    (16 - c .before .before .before .before .before .before .loop .count) (16 - (c .before .before .before .before .before .before .loop .count + 1)) (omega arith)
+    (component-limit - c .before .before .before .before .before .before .loop .count) (component-limit - (c .before .before .before .before .before .before .loop .count + 1)) (omega arith)
     (sym (c .before .is-component .ensures) ∙ not-true _ (c .if1 .taken)))
 
 returns-2 : tie.Need-returns-2 Inv-loop μ-loop
@@ -54,7 +54,7 @@ returns-2 c =
     sym
     (c .before .before .before .before .before .before .before .loop .inv .2
     ∙ fits-last (c .before .before .before .before .before .before .before .before .before .args .s .now) (c .before .before .before .before .before .before .before .loop .at) _ (rest-is (c .before .before .before .before .before .before .before .before .before .args .s .now) (c .before .before .before .before .before .before .before .loop .at)) _ (c .before .before .before .before .first-slash .ensures .0)
-    (16 - c .before .before .before .before .before .before .before .loop .count) (16 - (c .before .before .before .before .before .before .before .loop .count + 1)) (omega arith)
+    (component-limit - c .before .before .before .before .before .before .before .loop .count) (component-limit - (c .before .before .before .before .before .before .before .loop .count + 1)) (omega arith)
     (sym (c .before .before .is-component .ensures) ∙ not-false _ (c .before .if1 .left))
     (c .if2 .taken))
 
@@ -79,13 +79,13 @@ loop-again c =
       omega arith,
       c .before .before .before .before .before .before .before .loop .inv .2
           ∙ fits-more (c .before .before .before .before .before .before .before .before .before .args .s .now) (c .before .before .before .before .before .before .before .loop .at) _ (rest-is (c .before .before .before .before .before .before .before .before .before .args .s .now) (c .before .before .before .before .before .before .before .loop .at)) _ (c .before .before .before .before .first-slash .ensures .0)
-          (16 - c .before .before .before .before .before .before .before .loop .count) (16 - (c .before .before .before .before .before .before .before .loop .count + 1)) (omega arith)
+          (component-limit - c .before .before .before .before .before .before .before .loop .count) (component-limit - (c .before .before .before .before .before .before .before .loop .count + 1)) (omega arith)
           (sym (c .before .before .is-component .ensures) ∙ not-false _ (c .before .if1 .left)) k,
     )
 
 returns-3 : tie.Need-returns-3 Inv-loop μ-loop
 returns-3 c =
-    let e : 16 - c .before .loop .count ≡ 0 = omega arith in
+    let e : component-limit - c .before .loop .count ≡ 0 = omega arith in
     sym (c .before .loop .inv .2 ∙ rw e (fits-none _))
 
 pub are-components-spec : {M : Type 1} → statement M
