@@ -125,13 +125,7 @@ fn cut_of(s: &[u8], start: u32, d: usize) -> usize
 }
 
 // The index of the path of a name, with its ending, in the folder d; 0 where none is listed.
-pub fn find_child<'a>(
-    s: &'a [u8],
-    card: &'a [u32; CARD],
-    d: usize,
-    name: &'a [u8],
-    ending: &'a [u8],
-) -> usize
+pub fn find_child(s: &[u8], card: &[u32; CARD], d: usize, name: &[u8], ending: &[u8]) -> usize
     requires { ⌜ CardIs (now s) (now card) × ((d < length (nodesIn (now s))) × Plain (now name ++ now ending)) ⌝ }
     ensures { λ r. ⌜ Looked (sought (nodesIn (now (s .entry))) d (now (name .entry) ++ now (ending .entry))) (length (nodesIn (now (s .entry)))) r ⌝ }
 {
@@ -174,14 +168,7 @@ fn is_path_at(s: &[u8], i: usize, last: usize, hash: u32, h: usize, start: u32, 
 }
 
 // Down a chain from `from`, the first index of the path t, whose hash is h, that is not after last; 0 where there is none.
-pub fn walk<'a>(
-    s: &'a [u8],
-    card: &'a [u32; CARD],
-    h: usize,
-    t: &'a [u8],
-    from: usize,
-    last: usize,
-) -> usize
+pub fn walk(s: &[u8], card: &[u32; CARD], h: usize, t: &[u8], from: usize, last: usize) -> usize
     requires { ⌜ IndexOf (now s) (nodesIn (now s)) (now card) × Chain (nodesIn (now s)) (now card) h (now t) from ⌝ }
     ensures { λ r. ⌜ Looked (isUpTo (nodesIn (now (s .entry))) (now (t .entry)) last) (suc from) r ⌝ }
 {
@@ -196,7 +183,7 @@ pub fn walk<'a>(
 }
 
 // The last index of a path that is not after last; 0 where there is none.
-fn find_up_to<'a>(s: &'a [u8], card: &'a [u32; CARD], t: &'a [u8], last: usize) -> usize
+fn find_up_to(s: &[u8], card: &[u32; CARD], t: &[u8], last: usize) -> usize
     requires { ⌜ IndexOf (now s) (nodesIn (now s)) (now card) ⌝ }
     ensures { λ r. ⌜ Looked (isUpTo (nodesIn (now (s .entry))) (now (t .entry)) last) (length (nodesIn (now (s .entry)))) r ⌝ }
 {
@@ -205,7 +192,7 @@ fn find_up_to<'a>(s: &'a [u8], card: &'a [u32; CARD], t: &'a [u8], last: usize) 
 }
 
 // The index of a path; 0 where it is not listed, or is `/`.
-pub fn find_path<'a>(s: &'a [u8], card: &'a [u32; CARD], t: &'a [u8]) -> usize
+pub fn find_path(s: &[u8], card: &[u32; CARD], t: &[u8]) -> usize
     requires { ⌜ IndexOf (now s) (nodesIn (now s)) (now card) ⌝ }
     ensures { λ r. ⌜ Looked (isAt (nodesIn (now (s .entry))) (now (t .entry))) (length (nodesIn (now (s .entry)))) r ⌝ }
 {

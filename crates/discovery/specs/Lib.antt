@@ -23,3 +23,4 @@ pub mod Turns
 pub mod Known
 pub mod Places
 pub mod Complete
+pub mod Importing

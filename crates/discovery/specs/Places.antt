@@ -1,19 +1,22 @@
 -- WHERE EACH FILE STANDS: the table has the position of every file of the bundle. Assumes nothing.
 use Prim.Native.Nat.{ℕ, zero, suc, _+_, _*_, _^_, _≤_, _<_}
 use native.Mathlib.Omega.{arith}
+use native.Mathlib.Decide.{decLt}
 use mathlib.Core.Bool.{Bool, true, false}
+use mathlib.Core.Logic.{_⊎_, inr, ⊎-elim}
 use lib.Dec.{eqb}
 use borrow.Author.Tests.{eqb-true, eqb-false}
 use mathlib.Core.Path.{_≡_, refl, sym, ap, _∙_}
-use mathlib.Core.List.{List}
-use lib.ListN.{length, getD, set, length-set, replicate, length-replicate, getD-replicate}
+use mathlib.Core.List.{List, map}
+use lib.ListN.{length, getD, set, length-append, length-map, length-set, replicate, length-replicate, getD-replicate}
 use lib.Seq.{getD-set-same, getD-set-other}
 use Rattle.bundle.specs.Bundle.{Text, File}
 use Rattle.bundle.specs.Limits.{file-limit}
-use Rattle.bundle.specs.Decode.{each, far, afterFile, fileAt, decode}
-use Rattle.bundle.specs.ListLaws.{each-at, each-length, far-more}
+use Rattle.bundle.specs.Decode.{fileAt, decode}
 use Rattle.bundle.specs.Read.{verdict}
 use Rattle.bundle.specs.declared.Checked.the-variants.{Ok}
+use Rattle.card.specs.Layout.{startAt, foldersOf, filesOf}
+use Rattle.card.specs.Card.{CardIs, nodesIn}
 use Rattle.resolution.specs.Lists.{Lists}
 use Rattle.discovery.specs.Discovery.{Use}
 use Rattle.discovery.specs.Room.{checked-roomy}
@@ -60,92 +63,65 @@ places-turn s t t' r index n first count l file us v h e f p =
 pub places-put : (s t files r : List ℕ) → FilesPut t files r → verdict s ≡ Ok → Places s t → Places s r
 places-put s t files r x v p = places-kept s t r p (x .wide) (λ i k. x .rest (place-part + i) (omega arith)) v
 
--- THE LOOP that puts the places: i are put, and the next file stands at `at`
-pub record PlacesTo (s t : List ℕ) (first n i at : ℕ) : Type 0 where
-  pub long : length t ≡ known-length
-  pub none : nextOf t ≡ 0
-  pub fits : n ≤ file-limit
-  pub low : first < 2 ^ 20
-  pub next : at ≡ far (afterFile s) i first
-  pub near : at ≤ first + i * 66000
-  pub files : each (afterFile s) (fileAt s) n first ≡ decode s .files
-  pub small : (j : ℕ) → j < file-limit → placeOf t j < 2 ^ 26
-  pub put : (j : ℕ) → j < i → placeOf t j ≡ far (afterFile s) j first
+-- THE STARTS of the files, from a card c
+pub record StartsPut (c t r : List ℕ) : Type 0 where
+  pub wide : length r ≡ length t
+  pub put : (i : ℕ) → i < filesOf c → placeOf r i ≡ startAt c (foldersOf c + 1 + i)
+  pub other : (j : ℕ) → (j < place-part) ⊎ (place-part + filesOf c ≤ j) → getD r j 0 ≡ getD t j 0
 
-count-is : (s : List ℕ) (first n : ℕ) → each (afterFile s) (fileAt s) n first ≡ decode s .files → length (decode s .files) ≡ n
-count-is s first n e = ap length (sym e) ∙ each-length (afterFile s) (fileAt s) n first
+module _ (s c t r : List ℕ) (C : CardIs s c) (v : verdict s ≡ Ok) (x : Fresh t) (p : StartsPut c t r) where
+  total : length (nodesIn s) ≡ suc (length (decode s .folders) + length (decode s .files))
+  total = ap suc (length-append (decode s .folders) (map (λ (f : File). f .path) (decode s .files)) ∙ ap (λ (n : ℕ). length (decode s .folders) + n) (length-map (decode s .files) (λ (f : File). f .path)))
 
-pub places-none : (s t : List ℕ) (first n : ℕ) → verdict s ≡ Ok → Fresh t → each (afterFile s) (fileAt s) n first ≡ decode s .files → first < 2 ^ 20 → PlacesTo s t first n 0 first
-unfolding far
-places-none s t first n v x e low =
-    let few = checked-roomy s v .files in
-    let c = count-is s first n e in
+  pub starts-places : Places s r × (nextOf r ≡ 0)
+  starts-places = (
     record {
-      long = x .long;
-      none = x .none;
-      fits = omega arith;
-      low = low;
-      next = refl;
-      near = omega arith;
-      files = e;
-      small = λ j h. let z = x .clear j h in omega arith;
-      put = λ j h. absurd (omega arith);
-    }
-
-module _ {s t : List ℕ} {first n i at : ℕ} (x : PlacesTo s t first n i at) where
-  pub places-one : (at' : ℕ) → i < n → at' ≡ afterFile s at → at' ≤ at + 66000 → PlacesTo s (set t (place-part + i) at) first n (i + 1) at'
-  places-one at' h e k =
-      let w = x .long in
-      let f = x .fits in
-      let l = x .low in
-      let c = x .near in
-      record {
-        long = length-set t (place-part + i) at ∙ w;
-        none = getD-set-other t (place-part + i) next-part at 0 (λ q. omega arith) ∙ x .none;
-        fits = f;
-        low = l;
-        next = e ∙ (ap (afterFile s) (x .next) ∙ sym (far-more (afterFile s) i first));
-        near = omega arith;
-        files = x .files;
-        small = λ j lt. is-small j lt (eqb j i) refl;
-        put = λ j lt. is-put j lt (eqb j i) refl;
-      }
+      long = p .wide ∙ x .long;
+      small = λ i h. is-small i h (decLt i (filesOf c));
+      stands = λ i d h.
+          let n = C .files in
+          let e : foldersOf c + 1 + i ≡ suc (length (decode s .folders) + i) = omega (arith, C .folders) in
+          sym (C .starts i d h) ∙ ap (fileAt s) (ap (startAt c) (sym e) ∙ sym (p .put i (omega arith)));
+    },
+    (let few = checked-roomy s v .files in let n = C .files in p .other next-part (inr (omega arith)) ∙ x .none),
+  )
     where
-      is-small : (j : ℕ) → j < file-limit → (b : Bool) → eqb j i ≡ b → placeOf (set t (place-part + i) at) j < 2 ^ 26
-      is-small j lt true q =
-          let w = x .long in
-          let f = x .fits in
-          let l = x .low in
-          let c = x .near in
-          let z = eqb-true j i q in
-          rw (z, getD-set-same t (place-part + i) at 0 (omega arith)) (omega arith)
-      is-small j lt false q =
-          let d = eqb-false j i q in
-          rw (getD-set-other t (place-part + i) (place-part + j) at 0 (λ z. d (omega arith))) (x .small j lt)
+      is-small : (i : ℕ) → i < file-limit → Dec (i < filesOf c) → placeOf r i < 2 ^ 26
+      is-small i h (yes k) =
+          let n = C .files in
+          let f = C .folders in
+          let w = C .index .low (foldersOf c + 1 + i) (omega (arith, total)) in
+          rw (p .put i k) w
+      is-small i h (no k) = let e = p .other (place-part + i) (inr (omega arith)) in let z = x .clear i h in omega arith
 
-      is-put : (j : ℕ) → j < i + 1 → (b : Bool) → eqb j i ≡ b → placeOf (set t (place-part + i) at) j ≡ far (afterFile s) j first
-      is-put j lt true q =
-          let w = x .long in
-          let f = x .fits in
-          let z = eqb-true j i q in
-          rw z (getD-set-same t (place-part + i) at 0 (omega arith) ∙ x .next)
-      is-put j lt false q =
+-- the loop: i are put
+pub record StartsTo (c t₀ t : List ℕ) (i : ℕ) : Type 0 where
+  pub wide : length t ≡ length t₀
+  pub upto : i ≤ filesOf c
+  pub put : (j : ℕ) → j < i → placeOf t j ≡ startAt c (foldersOf c + 1 + j)
+  pub other : (j : ℕ) → (j < place-part) ⊎ (place-part + filesOf c ≤ j) → getD t j 0 ≡ getD t₀ j 0
+
+module _ (c t₀ : List ℕ) (long : length t₀ ≡ known-length) (few : filesOf c ≤ file-limit) where
+  pub starts-none : StartsTo c t₀ t₀ 0
+  starts-none = record { wide = refl; upto = omega arith; put = λ j h. absurd (omega arith); other = λ j h. refl }
+
+  pub starts-one : (t : List ℕ) (i x : ℕ) → StartsTo c t₀ t i → i < filesOf c → x ≡ startAt c (foldersOf c + 1 + i) → StartsTo c t₀ (set t (place-part + i) x) (i + 1)
+  starts-one t i x p h e = record {
+    wide = length-set t (place-part + i) x ∙ p .wide;
+    upto = omega arith;
+    put = λ j lt. go j lt (eqb j i) refl;
+    other = λ j o. getD-set-other t (place-part + i) j x 0 (λ q. ⊎-elim (λ k. omega arith) (λ k. omega arith) o) ∙ p .other j o;
+  }
+    where
+      go : (j : ℕ) → j < i + 1 → (b : Bool) → eqb j i ≡ b → placeOf (set t (place-part + i) x) j ≡ startAt c (foldersOf c + 1 + j)
+      go j lt true q = let z = eqb-true j i q in let w = p .wide in rw z (getD-set-same t (place-part + i) x 0 (omega arith) ∙ e)
+      go j lt false q =
           let d = eqb-false j i q in
           let lt' : j < i = below-other j i lt d in
-          getD-set-other t (place-part + i) (place-part + j) at 0 (λ z. d (omega arith)) ∙ x .put j lt'
+          getD-set-other t (place-part + i) (place-part + j) x 0 (λ z. d (omega arith)) ∙ p .put j lt'
         where
           below-other : (j i : ℕ) → j < i + 1 → (j ≡ i → ⊥) → j < i
           below-other j i a b = omega arith
 
-  pub places-all : n ≤ i → Places s t × (nextOf t ≡ 0)
-  places-all h = (
-    record {
-      long = x .long;
-      small = x .small;
-      stands = λ j d lt.
-          let c = count-is s first n (x .files) in
-          let lt' : j < n = omega arith in
-          ap (λ (l : List File). getD l j d) (sym (x .files)) ∙ (each-at (afterFile s) (fileAt s) n j first d lt' ∙ ap (fileAt s) (sym (x .put j (omega arith))));
-    },
-    x .none,
-  )
+  pub starts-all : (t : List ℕ) (i : ℕ) → StartsTo c t₀ t i → filesOf c ≤ i → StartsPut c t₀ t
+  starts-all t i p h = record { wide = p .wide; put = λ j lt. p .put j (omega arith); other = p .other }

@@ -9,11 +9,10 @@ use mathlib.Core.List.{List, [], _∷_, _++_, map, List·Memᴰ, List·Memᴰ·h
 use lib.ListN.{length, getD, take, drop, set, replicate, length-set, length-map, length-append, length-replicate, drop-of-length-le, List·getD-map}
 use lib.Seq.{take-suc, length-take-le, take-take, take-nil, getD-take, getD-set-same, getD-set-other}
 use borrow.Author.Tests.{lt-ltb, le-ltb}
-use Rattle.names.specs.Bytes.{same, same-refl}
+use Rattle.names.specs.Bytes.{member, same, same-refl}
 use Rattle.bundle.specs.Bundle.{Text, File, Bundle}
 use Rattle.bundle.specs.Limits.{file-limit, folder-limit, use-limit}
 use Rattle.resolution.specs.Lists.{Lists, listsOf}
-use Rattle.resolution.specs.Layouts.{Importer}
 use Rattle.resolution.specs.Call.{position, answer}
 use Rattle.resolution.specs.Resolution.{resolvePathInternal}
 use Rattle.resolution.specs.declared.Resolution.{Resolution}
@@ -280,7 +279,7 @@ module _ (b : Bundle) (roomy : Roomy b) (n : ℕ) (g : Graph) (v : Invariant b n
       ∙ (List·getD-map (filePath (listsOf b)) (take (g .units) (g .files)) n 0 ∙ ap (filePath (listsOf b)) (getD-take (g .units) (g .files) n 0 waits))
 
   module _ (f : File) (is : getD (b .files) place f ≡ f) where
-    path-is : filePath (listsOf b) place ≡ f .path
+    pub path-is : filePath (listsOf b) place ≡ f .path
     path-is =
         let w = first-place .within in
         getD-any (pathsOf b) place [] (f .path) w ∙ (List·getD-map (λ (y : File). y .path) (b .files) place f ∙ ap (λ (y : File). y .path) is)
@@ -291,11 +290,8 @@ module _ (b : Bundle) (roomy : Roomy b) (n : ℕ) (g : Graph) (v : Invariant b n
     pub position-is : position (f .path) (pathsOf b) ≡ place
     position-is = ap (λ (p : Text). position p (pathsOf b)) (sym path-is) ∙ first-place .first
 
-    pub importer : Importer (listsOf b) (f .path) place
-    importer = record {
-      listed = mem-member (Memᴰ·cast (sym path-is) (getD-mem (pathsOf b) place [] (first-place .within)));
-      index = sym position-is;
-    }
+    file-listed : member (f .path) (pathsOf b) ≡ true
+    file-listed = mem-member (Memᴰ·cast (sym path-is) (getD-mem (pathsOf b) place [] (first-place .within)))
 
     pub program : programOf (b .files) (f .path) ≡ f .items
     program = program-at (b .files) f place place-small is position-is
@@ -324,7 +320,7 @@ module _ (b : Bundle) (roomy : Roomy b) (n : ℕ) (g : Graph) (v : Invariant b n
         let u = units-are in
         let k = source-file b g (v .kept) p (take-within n sources m) in
         let same-path : p ≡ f .path =
-        sym (id-found p (pathsOf b) k .1) ∙ (ap (λ (i : ℕ). getD (pathsOf b) i []) (e ∙ sym position-is) ∙ id-found (f .path) (pathsOf b) (member-true (f .path) (pathsOf b) (importer .listed)) .1) in
+        sym (id-found p (pathsOf b) k .1) ∙ (ap (λ (i : ℕ). getD (pathsOf b) i []) (e ∙ sym position-is) ∙ id-found (f .path) (pathsOf b) (member-true (f .path) (pathsOf b) file-listed) .1) in
         let q = mem-getD [] m in
         let l = length-take-le n sources (omega arith) in
         let lt : q .0 < n = omega (arith, q .1 .0) in
@@ -353,7 +349,7 @@ module _ (b : Bundle) (roomy : Roomy b) (n : ℕ) (g : Graph) (v : Invariant b n
     means =
         let w = weight in
         let x = v .faults-weigh in
-        lookups-mean (listsOf b) (f .path) (importer .listed) (few .files) its-uses (noImports g)
+        lookups-mean (listsOf b) (f .path) file-listed (few .files) its-uses (noImports g)
         (record { numbers = v .sized .numbers; places = v .sized .places; targets = v .sized .targets; marks = v .sized .marks }) (omega arith) (omega arith)
 
     seen-kept : Kept (listsOf b) (seen .count) seen

@@ -3,15 +3,17 @@ use Prim.Native.Nat.{ℕ, zero, suc, _+_, _-_, _*_, _≤_, _<_, _^_}
 use native.Mathlib.Numerals.{add-one, unary-clauses}
 use native.Mathlib.Omega.{arith}
 use mathlib.Core.Bool.{cond}
-use mathlib.Core.Path.{_≡_, refl, sym, ap, _∙_}
+use mathlib.Core.Path.{_≡_, refl, sym, ap, subst, _∙_}
 use mathlib.Core.Logic.{⊎-elim}
 use mathlib.Core.List.{List, [], _∷_, _++_, map, append-nil, append-assoc, List·Memᴰ, List·Memᴰ·not-nil, Memᴰ·cast}
 use lib.Dec.{eqb}
-use lib.ListN.{length, getD, take, set, replicate, length-append, length-map, List·getD-map}
+use lib.ListN.{length, getD, take, set, replicate, length-set, length-append, length-map, List·getD-map}
 use lib.Seq.{take-suc-set, length-take-le, getD-take}
 use borrow.Author.Tests.{eq-eqb, ne-eqb}
-use Rattle.bundle.specs.Bundle.{Items}
-use Rattle.bundle.specs.Limits.{use-limit, use-kind, module-kind}
+use Rattle.bundle.specs.Bundle.{Items, none, named, use-of, module-of, ignored, File, Bundle}
+use Rattle.bundle.specs.Form.{Every, IsName, Formed, FormedFile, WellFormed}
+use Rattle.bundle.specs.Members.{every-mem}
+use Rattle.bundle.specs.Limits.{depth-limit, use-limit, use-kind, module-kind}
 use Rattle.bundle.specs.Scan.{byte, text}
 use Rattle.bundle.specs.Decode.{each, counted, after, afterLength, itemsAt}
 use Rattle.bundle.specs.Access.{insideOf, items-end, items-step, by-kind, kindOf, restOf, innerOf, first-kind, first-rest, first-inner, first-segments, segmentsOf}
@@ -67,6 +69,7 @@ UseMarks s u = (m : ℕ) → List·Memᴰ m (take (u .count) (u .marks)) → Use
 
 -- the uses l are added
 pub record Gathered (s : List ℕ) (u r : Uses) (l : List Use) : Type 0 where
+  pub wide : length (r .marks) ≡ length (u .marks)
   pub count : r .count ≡ u .count + length l
   pub list : useList s r ≡ useList s u ++ l
   pub marks : UseMarks s u → UseMarks s r
@@ -76,11 +79,12 @@ Room u l = u .count + length l ≤ use-limit
 
 module _ (s : List ℕ) where
   pub gathered-none : (u : Uses) → Gathered s u u []
-  gathered-none u = record { count = omega arith; list = sym (append-nil (useList s u)); marks = λ h. h }
+  gathered-none u = record { wide = refl; count = omega arith; list = sym (append-nil (useList s u)); marks = λ h. h }
 
   pub gathered-use : (u : Uses) (at : ℕ) → UseMark s at → u .count < length (u .marks)
       → Gathered s u (record { marks = set (u .marks) (u .count) at; count = u .count + 1 }) (useAt s at ∷ [])
   gathered-use u at k h = record {
+    wide = length-set (u .marks) (u .count) at;
     count = refl;
     list = rw (add-one (u .count), take-suc-set (u .marks) (u .count) at h) (map-snoc (useAt s) (take (u .count) (u .marks)) at);
     marks = λ f m w. ⊎-elim (f m) (λ e. rw e k) (mem-snoc (take (u .count) (u .marks)) (rw (add-one (u .count), take-suc-set (u .marks) (u .count) at h) at w));
@@ -88,6 +92,7 @@ module _ (s : List ℕ) where
 
   pub gathered-then : {u v r : Uses} {a b : List Use} → Gathered s u v a → Gathered s v r b → Gathered s u r (a ++ b)
   gathered-then {u} {v} {r} {a} {b} g h = record {
+    wide = h .wide ∙ g .wide;
     count = let x = g .count in let y = h .count in omega (arith, length-append a b);
     list = h .list ∙ (ap (λ (l : List Use). l ++ b) (g .list) ∙ append-assoc (useList s u) a b);
     marks = λ f. h .marks (g .marks f);
@@ -147,7 +152,7 @@ from-none s r l k e g = record {
 
 -- one item, by its kind as the code reads it
 module _ (depth : ℕ) (s : List ℕ) (at k : ℕ) (kind : (d e : ℕ) → at < e → k ≡ kindOf (itemsAt d s e at)) where
-  kind-byte : byte s (at + 2) ≡ k
+  pub kind-byte : byte s (at + 2) ≡ k
   kind-byte = sym (kind 0 (suc at) (omega arith) ∙ first-kind 0 s (suc at) at (omega arith))
 
   pub use-mark : k ≡ use-kind → at < 2 ^ 58 → UseMark s at
@@ -167,7 +172,7 @@ module _ (depth : ℕ) (s : List ℕ) (at k : ℕ) (kind : (d e : ℕ) → at < 
       let m : byte s (at + 2) ≡ use-kind → ⊥ = λ e. f (sym kind-byte ∙ e) in
       rw (ne-eqb (byte s (at + 2)) module-kind n, ne-eqb (byte s (at + 2)) use-kind m)
 
-  pub flat-module : k ≡ module-kind → depth ≡ 0 → itemUses depth s at ≡ []
+  flat-module : k ≡ module-kind → depth ≡ 0 → itemUses depth s at ≡ []
   unfolding itemUses uses
   flat-module e z = let b : byte s (at + 2) ≡ module-kind = kind-byte ∙ e in rw (eq-eqb (byte s (at + 2)) module-kind b, z)
 
@@ -175,7 +180,7 @@ module _ (depth : ℕ) (s : List ℕ) (at k : ℕ) (kind : (d e : ℕ) → at < 
   unfolding itemUses
   module-uses d b = rw (eq-eqb (byte s (at + 2)) module-kind b)
 
-  pub deep-module : (end' at' : ℕ) → k ≡ module-kind → (depth ≡ 0 → ⊥)
+  deep-module : (end' at' : ℕ) → k ≡ module-kind → (depth ≡ 0 → ⊥)
       → ((d e : ℕ) → at < e → kindOf (itemsAt (suc d) s e at) ≡ module-kind → itemsAt d s end' at' ≡ innerOf (itemsAt (suc d) s e at))
       → itemUses depth s at ≡ usesAt (depth - 1) s end' at'
   deep-module end' at' e z inner = go depth z
@@ -186,6 +191,19 @@ module _ (depth : ℕ) (s : List ℕ) (at k : ℕ) (kind : (d e : ℕ) → at < 
           let b : byte s (at + 2) ≡ module-kind = kind-byte ∙ e in
           let f = first-kind (suc d) s (suc at) at (omega arith) ∙ b in
           simp unary-clauses (module-uses d b ∙ ap uses (sym (inner d (suc at) (omega arith) f ∙ first-inner d s (suc at) at (omega arith) f)))
+
+-- a module, by its byte
+module _ (depth : ℕ) (s : List ℕ) (at : ℕ) (b : byte s (at + 2) ≡ module-kind) where
+  is-kind : (d e : ℕ) → at < e → byte s (at + 2) ≡ kindOf (itemsAt d s e at)
+  is-kind d e h = sym (first-kind d s e at h)
+
+  pub module-flat : depth ≡ 0 → itemUses depth s at ≡ []
+  module-flat z = flat-module depth s at (byte s (at + 2)) is-kind b z
+
+  pub module-deep : (end' at' : ℕ) → (depth ≡ 0 → ⊥)
+      → ((d e : ℕ) → at < e → kindOf (itemsAt (suc d) s e at) ≡ module-kind → itemsAt d s end' at' ≡ innerOf (itemsAt (suc d) s e at))
+      → itemUses depth s at ≡ usesAt (depth - 1) s end' at'
+  module-deep end' at' z inner = deep-module depth s at (byte s (at + 2)) is-kind end' at' b z inner
 
 -- the segments of the use at a mark, as the code reads them
 pub segments-at : (s : List ℕ) (mark first n : ℕ) → UseMark s mark
@@ -210,3 +228,30 @@ module _ (s : List ℕ) (u : Uses) (fits : u .count ≤ length (u .marks)) where
     mark-at-place f =
         let l = length-take-le (u .count) (u .marks) fits in
         f (getD (u .marks) i 0) (Memᴰ·cast (sym (getD-take (u .count) (u .marks) i 0 h)) (getD-mem (take (u .count) (u .marks)) i 0 (omega arith)))
+
+-- SEGMENTS ARE NAMES in items that are in form
+abbrev pub NamedUse : Use → Type 0
+NamedUse u = Every IsName (u .segments)
+
+every-append : (l k : List Use) → Every NamedUse l → Every NamedUse k → Every NamedUse (l ++ k)
+unfolding Every
+every-append [] k h i = i
+every-append (u ∷ l) k h i = (h .0, every-append l k (h .1) i)
+
+pub uses-named : (x : Items) (depth : ℕ) → Formed x depth → Every NamedUse (uses x)
+unfolding Formed uses Every
+uses-named none depth h = tt
+uses-named (named k m v name rest) depth h = uses-named rest depth (h .1 .1 .1)
+uses-named (use-of m v segments elements rest) depth h = (h .1 .0 .1, uses-named rest depth (h .1 .1 .1))
+uses-named (module-of m v name inner rest) depth h = every-append (uses inner) (uses rest) (uses-named inner (depth - 1) (h .1 .1 .0 .1)) (uses-named rest depth (h .1 .1 .1))
+uses-named (ignored m v rest) depth h = uses-named rest depth (h .1)
+
+-- of a file of a bundle in form
+pub file-named : (b : Bundle) → WellFormed b → (i : ℕ) (f : File) → i < length (b .files) → getD (b .files) i f ≡ f → Every NamedUse (uses (f .items))
+file-named b w i f h is = uses-named (f .items) depth-limit (subst FormedFile is (every-mem FormedFile (w .form .files) (getD-mem (b .files) i f h)) .1)
+
+-- the i-th is named
+pub named-at-place : (s : List ℕ) (u : Uses) → u .count ≤ length (u .marks) → Every NamedUse (useList s u) → (i : ℕ) → i < u .count → NamedUse (useAt s (getD (u .marks) i 0))
+named-at-place s u fits h i lt =
+    let n = use-list-length s u fits in
+    subst NamedUse (use-at-place s u fits i lt) (every-mem NamedUse h (getD-mem (useList s u) i (useAt s (getD (u .marks) i 0)) (omega arith)))

@@ -4,8 +4,7 @@ ghost use Prim.Native.Nat.{_+_, _<_};
 ghost use Rattle.bundle.specs.Decode.{decode};
 ghost use Rattle.bundle.specs.Read.{verdict};
 ghost use Rattle.bundle.specs.declared.Checked.the-variants.{Ok};
-ghost use Rattle.resolution.specs.Lists.{listsOf};
-ghost use Rattle.resolution.specs.Layouts.{listsAt, Small};
+ghost use Rattle.card.specs.Card.{CardIs};
 ghost use Rattle.discovery.specs.Complete.{Table, Complete};
 ghost use Rattle.discovery.specs.Places.{Fresh, Places};
 ghost use Rattle.discovery.specs.Turns.{Invariant, Discovers};
@@ -20,11 +19,11 @@ use crate::known::file_place;
 use crate::known::put_places;
 use crate::lookups::resolve_imports;
 use crate::readings::load_and_parse_dependencies;
-use resolution::Layout;
+use card::CARD;
 
 // All lookups of a unit, then all its readings.
-fn turn(s: &[u8], at: Layout, g: Graph, unit: usize, known: &mut [usize; KNOWN]) -> Graph
-    requires { ⌜ (verdict (now s) ≡ Ok) × ((listsAt (now s) at ≡ listsOf (decode (now s))) × Small at) × (Invariant (decode (now s)) unit g × (unit < g .units)) × (Table (decode (now s)) unit g (now known) × Places (now s) (now known)) ⌝ }
+fn turn(s: &[u8], card: &[u32; CARD], g: Graph, unit: usize, known: &mut [usize; KNOWN]) -> Graph
+    requires { ⌜ (verdict (now s) ≡ Ok) × CardIs (now s) (now card) × (Invariant (decode (now s)) unit g × (unit < g .units)) × (Table (decode (now s)) unit g (now known) × Places (now s) (now known)) ⌝ }
     ensures { λ r. ⌜ Invariant (decode (now (s .entry))) (unit + 1) r ⌝ }
     ensures { λ r. ⌜ Table (decode (now (s .entry))) (unit + 1) r (now (known .exit)) × Places (now (s .entry)) (now (known .exit)) ⌝ }
 {
@@ -32,28 +31,19 @@ fn turn(s: &[u8], at: Layout, g: Graph, unit: usize, known: &mut [usize; KNOWN])
     let place = file_place(&*known, index);
     let u = uses_of(s, place);
     let first = begin(&mut *known, index, u.count);
-    let w = resolve_imports(
-        s,
-        at,
-        bundle::file_path(s, place),
-        index,
-        u,
-        g,
-        &mut *known,
-        first,
-    );
+    let f = card::folder_count(card) + 1 + index;
+    let w = resolve_imports(s, card, f, u, g, &mut *known, first);
     load_and_parse_dependencies(w, unit)
 }
 
 // The graph of a checked bundle; what every use of a reached file resolves to is kept. Ruled out: a graph of unit 0 alone where it
 // imports another file; a list with an id twice; a use of a reached file without its entry.
-pub fn discover(s: &[u8], known: &mut [usize; KNOWN]) -> Graph
-    requires { ⌜ (verdict (now s) ≡ Ok) × Fresh (now known) ⌝ }
+pub fn discover(s: &[u8], card: &[u32; CARD], known: &mut [usize; KNOWN]) -> Graph
+    requires { ⌜ (verdict (now s) ≡ Ok) × CardIs (now s) (now card) × Fresh (now known) ⌝ }
     ensures { λ r. ⌜ Discovers (decode (now (s .entry))) r ⌝ }
     ensures { λ r. ⌜ Complete (decode (now (s .entry))) (now (known .exit)) × Places (now (s .entry)) (now (known .exit)) ⌝ }
 {
-    put_places(s, &mut *known);
-    let at = resolution::layout_of(s);
+    put_places(card, &mut *known);
     let mut g = Graph {
         files: [0; UNITS],
         start: [0; UNITS],
@@ -72,17 +62,8 @@ pub fn discover(s: &[u8], known: &mut [usize; KNOWN]) -> Graph
     };
     let mut unit = 0;
     while unit < g.units {
-        g = turn(s, at, g, unit, &mut *known);
+        g = turn(s, card, g, unit, &mut *known);
         unit += 1;
     }
     g
-}
-
-// The graph alone.
-pub fn discover_dependencies(s: &[u8]) -> Graph
-    requires { ⌜ verdict (now s) ≡ Ok ⌝ }
-    ensures { λ r. ⌜ Discovers (decode (now (s .entry))) r ⌝ }
-{
-    let mut known = [0usize; KNOWN];
-    discover(s, &mut known)
 }

@@ -1,6 +1,8 @@
 // The uses of a file, in item order, those of inline modules included.
 ghost use Prim.Native.Nat.{_+_, _<_, _≤_, _^_};
-ghost use Rattle.bundle.specs.Limits.{use-limit};
+ghost use mathlib.Core.Path.{_≡_};
+ghost use Rattle.bundle.specs.Limits.{use-limit, module-kind};
+ghost use Rattle.bundle.specs.Scan.{byte};
 ghost use Rattle.bundle.specs.Decode.{fileAt};
 ghost use lib.ListN.{length};
 ghost use Rattle.discovery.specs.Discovery.{uses};
@@ -11,30 +13,20 @@ use bundle::limits::DEPTH;
 use bundle::limits::MODULE;
 use bundle::limits::USE;
 
-// An item: a use is added, a module's items are walked.
-fn process_item(s: &[u8], at: usize, depth: usize, u: Uses) -> Uses
-    requires { ⌜ Small at depth × Room u (itemUses depth (now s) at) ⌝ }
+// The items of the module at `at`, with modules at most `depth` deep.
+fn process_module(s: &[u8], at: usize, depth: usize, u: Uses) -> Uses
+    requires { ⌜ Small at depth × (Room u (itemUses depth (now s) at) × (byte (now s) (at + 2) ≡ module-kind)) ⌝ }
     ensures { λ r. ⌜ Gathered (now (s .entry)) u r (itemUses depth (now (s .entry)) at) ⌝ }
 {
-    let kind = bundle::item_kind(s, at);
-    let mut w = u;
-    if kind == USE {
-        let n = w.count;
-        w.marks[n] = at;
-        w.count = n + 1;
-        return w;
+    if depth == 0 {
+        return u;
     }
-    if kind == MODULE {
-        if depth == 0 {
-            return w;
-        }
-        let inner = bundle::module_items(s, at);
-        return process_items(s, inner.at, inner.end, depth - 1, w);
-    }
-    w
+    let inner = bundle::module_items(s, at);
+    process_items(s, inner.at, inner.end, depth - 1, u)
 }
 
-// The items from `at` to `end`, with modules at most `depth` deep.
+// The items from `at` to `end`, with modules at most `depth` deep: a use is added, a module's items are walked. The record is copied
+// for a module only.
 fn process_items(s: &[u8], at: usize, end: usize, depth: usize, u: Uses) -> Uses
     requires { ⌜ Small end depth × Room u (usesAt depth (now s) end at) ⌝ }
     ensures { λ r. ⌜ Gathered (now (s .entry)) u r (usesAt depth (now (s .entry)) end at) ⌝ }
@@ -42,8 +34,16 @@ fn process_items(s: &[u8], at: usize, end: usize, depth: usize, u: Uses) -> Uses
     let mut w = u;
     let mut a = at;
     while a < end {
-        w = process_item(s, a, depth, w);
-        a = bundle::next_item(s, a);
+        let item = a;
+        let kind = bundle::item_kind(s, item);
+        a = bundle::next_item(s, item);
+        if kind == USE {
+            let n = w.count;
+            w.marks[n] = item;
+            w.count = n + 1;
+        } else if kind == MODULE {
+            w = process_module(s, item, depth, w);
+        }
     }
     w
 }

@@ -7,13 +7,13 @@ ghost use mathlib.Core.List.{List};
 ghost use lib.ListN.{length, getD};
 ghost use Rattle.bundle.specs.Bundle.{File};
 ghost use Rattle.bundle.specs.Decode.{decode, fileAt};
-ghost use Rattle.bundle.specs.Read.{verdict};
-ghost use Rattle.bundle.specs.declared.Checked.the-variants.{Ok};
-ghost use Rattle.discovery.specs.Places.{Fresh, Places};
-ghost use Rattle.bundle.specs.Limits.{file-limit, use-limit};
+ghost use Rattle.card.specs.Layout.{card-size, foldersOf, filesOf};
+ghost use Rattle.discovery.specs.Places.{Places, StartsPut};
+ghost use Rattle.bundle.specs.Limits.{folder-limit, file-limit, use-limit};
 ghost use Rattle.discovery.specs.Known.{known-length, codeIn, fileIn, leftIn, nextOf, begun, Keeps, Held, Finds, FilesPut};
 use crate::IDS;
 use crate::UNITS;
+use card::CARD;
 use resolution::Resolution;
 
 // By a file's index: where its entries begin and end, and where the file stands in the bundle.
@@ -44,18 +44,16 @@ pub const FOLDER: usize = 2;
 
 const NOTHING: usize = 0;
 
-// The position of each file of the bundle is put in its place.
-pub fn put_places(s: &[u8], t: &mut [usize; KNOWN])
-    requires { ⌜ (verdict (now s) ≡ Ok) × Fresh (now t) ⌝ }
-    ensures { λ r. ⌜ Places (now (s .entry)) (now (t .exit)) × (nextOf (now (t .exit)) ≡ 0) ⌝ }
+// The position of each file of the bundle is put in its place: the start of its path.
+pub fn put_places(card: &[u32; CARD], t: &mut [usize; KNOWN])
+    requires { ⌜ (length (now card) ≡ card-size) × ((foldersOf (now card) ≤ folder-limit) × (filesOf (now card) ≤ file-limit)) × (length (now t) ≡ known-length) ⌝ }
+    ensures { λ r. ⌜ StartsPut (now (card .entry)) (now (t .entry)) (now (t .exit)) ⌝ }
 {
-    let files = bundle::files(s);
-    let n = files.count;
-    let mut at = files.first;
+    let folders = card::folder_count(card);
+    let n = card::file_count(card);
     let mut i = 0;
     while i < n {
-        t[PLACES + i] = at;
-        at = bundle::next_file(s, at);
+        t[PLACES + i] = card::start_of(card, folders + 1 + i);
         i += 1;
     }
 }

@@ -3,7 +3,7 @@ pub mod Lists
 pub mod Longest
 pub mod Resolution
 pub mod Call
-pub mod Layouts
+pub mod Indices
 -- THEOREMS to cite: the table of cases; what holds of any lists; the lookup and 20 to 25 exactly when; accepted bundles
 pub mod Cases
 pub mod Theorems
@@ -11,6 +11,8 @@ pub mod LookupTheorems
 pub mod AcceptedTheorems
 -- LAWS, for the code and the proofs
 pub mod LongestLaws
-pub mod SearchLaws
+pub mod CardLaws
+pub mod LookupLaws
+pub mod TakenLaws
 pub mod SegmentLaws
 pub mod UseLaws

@@ -161,3 +161,29 @@ module _ {A : Type 0} (size : A → ℕ) where
             let b = i .most r (to r (h .among)) (h .passes) in
             let e : r ≡ q = one r q (h .among) (back q (i .among)) (h .passes) (i .passes) (omega arith) in
             ap some e
+
+-- THE LONGEST, found in one pass
+pub longer-none : {A : Type 0} (size : A → ℕ) (x : Option A) → longer size x none ≡ x
+longer-none size none = refl
+longer-none size (some a) = refl
+
+pub longer-assoc : {A : Type 0} (size : A → ℕ) (x y z : Option A) → longer size x (longer size y z) ≡ longer size (longer size x y) z
+longer-assoc size none y z = refl
+longer-assoc size (some a) none z = refl
+longer-assoc size (some a) (some b) none = sym (longer-none size (longer size (some a) (some b)))
+longer-assoc size (some a) (some b) (some c) = go (leb (size c) (size b)) refl (leb (size b) (size a)) refl
+  where
+    go : (t : Bool) → leb (size c) (size b) ≡ t → (u : Bool) → leb (size b) (size a) ≡ u
+        → longer size (some a) (cond t (some b) (some c)) ≡ longer size (cond u (some a) (some b)) (some c)
+    go true p true q =
+        let x : size c ≤ size b = leb-true _ _ p in
+        let y : size b ≤ size a = leb-true _ _ q in
+        let z : size c ≤ size a = omega arith in
+        rw (q, le-leb _ _ z)
+    go true p false q = rw (q, p)
+    go false p true q = refl
+    go false p false q =
+        let x : size b < size c = leb-false _ _ p in
+        let y : size a < size b = leb-false _ _ q in
+        let z : size a < size c = omega arith in
+        rw (p, lt-leb _ _ z)

@@ -10,10 +10,15 @@ use Rattle.names.specs.Identifier.{isIdentifier}
 use Rattle.bundle.specs.Limits.{segment-limit}
 use Rattle.bundle.specs.Scan.{byte, text, scanString, scanFormed, scanField, scanList, scanEnd, times}
 use Rattle.bundle.specs.Decode.{after}
-use Rattle.bundle.specs.Steps.{count-cut, count-many, count-passed}
+use Rattle.bundle.specs.Encode.{string}
+use Rattle.bundle.specs.Form.{Every, IsName}
+use Rattle.bundle.specs.Read.{Bytes}
+use Rattle.bundle.specs.Steps.{count-cut, count-many, count-passed, read-then}
+use Rattle.bundle.specs.Sound.{formed-read, count-read}
+use Rattle.bundle.specs.declared.Field.the-variants.{Name}
 use Rattle.bundle.specs.declared.Width.the-variants.{Byte}
 use Rattle.bundle.specs.declared.Scan.the-variants.{Next, Bad}
-use Rattle.resolution.specs.Call.{scanSegment, scanSegments}
+use Rattle.resolution.specs.Call.{scanSegment, scanSegments, segments}
 
 -- A NAME that is handed in
 module _ (u : List ℕ) (at : ℕ) where
@@ -52,3 +57,10 @@ module _ (u : List ℕ) where
       pub left-over : (last : ℕ) → times (byte u 0) (scanSegment u) 1 ≡ Next last → (last ≡ length u → ⊥) → Bad 1 last ≡ scanSegments u
       unfolding scanSegments scanList scanEnd
       left-over last e q = rw (count-passed u (length u) 0 Byte 0 segment-limit (omega arith) (omega arith) k, e, ne-eqb _ _ q)
+
+-- segments that are in form are names
+pub segments-named : (u : List ℕ) → Bytes u → (x : ℕ) → scanSegments u ≡ Next x → Every IsName (segments u)
+unfolding scanSegments scanList scanField
+segments-named u B x h =
+    let m = read-then (scanList Byte Name segment-limit u (length u) 0) h in
+    count-read u B (length u) (omega arith) Byte IsName string (after u) (text u) (scanField Name u (length u)) (formed-read u B (length u) (omega arith) isIdentifier 5) 0 segment-limit 0 (m .mid) (m .first) .every

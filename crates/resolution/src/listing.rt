@@ -1,136 +1,63 @@
-// Lookups in the lists of folders and files: one pass over a list for each segment.
+// The lookup below a folder: a child is looked for, segment by segment.
 ghost use mathlib.Core.Path.{_≡_};
-ghost use Prim.Native.Nat.{_+_, _<_, _≤_, _^_};
-ghost use Rattle.names.specs.Bytes.{same};
+ghost use Prim.Native.Nat.{_<_, _^_};
+ghost use Rattle.names.specs.Prefix.{childFile};
+ghost use Rattle.bundle.specs.Form.{Every, IsName};
 ghost use Rattle.bundle.specs.Scan.{text};
 ghost use Rattle.bundle.specs.Decode.{each, after};
-ghost use Rattle.bundle.specs.Lists.{skip};
+ghost use Rattle.card.specs.Card.{CardIs};
 ghost use Rattle.resolution.specs.Resolution.{buildAndVerifyPath};
-ghost use Rattle.resolution.specs.Layouts.{listsAt, Small, candidate, FoundIs, Tells, located};
-use crate::Found;
-use crate::Layout;
+ghost use Rattle.resolution.specs.Indices.{listsIn, pathIn, IsFolder, isFolder, located, Tells};
 use crate::Lookup;
-use crate::Sought;
+use card::CARD;
 
-// Whether p is what is looked for.
-fn is_sought(p: &[u8], sought: Sought, dir: &[u8], name: &[u8]) -> bool
-    ensures { λ r. ⌜ r ≡ same (now (p .entry)) (candidate sought (now (dir .entry)) (now (name .entry))) ⌝ }
+// Whether index i, where there are so many folders, is that of one.
+fn is_folder(i: usize, folders: usize) -> bool
+    ensures { λ r. ⌜ r ≡ isFolder i folders ⌝ }
 {
-    match sought {
-        Sought::Itself => names::same_bytes(p, dir),
-        Sought::Child => names::is_child(p, dir, name),
-        Sought::ChildFile => names::is_child_file(p, dir, name),
+    if i == 0 {
+        return false;
     }
+    i <= folders
 }
 
-// Past the file, or the folder, at a.
-fn next(s: &[u8], files: bool, a: usize) -> usize
-    requires { ⌜ a < 2 ^ 61 ⌝ }
-    ensures { λ r. ⌜ (r ≡ skip files (now (s .entry)) a) × (r ≤ a + 66000) ⌝ }
+// The file, or the folder, that a name in the folder of index dir stands for; `left` segments are left.
+fn locate(s: &[u8], card: &[u32; CARD], dir: usize, name: &[u8], left: usize) -> Lookup
+    requires { ⌜ CardIs (now s) (now card) × (IsFolder (now s) dir × IsName (now name)) ⌝ }
+    ensures { λ r. ⌜ located (now (s .entry)) (childFile (pathIn (now (s .entry)) dir) (now (name .entry))) left r ⌝ }
 {
-    if files {
-        return bundle::next_file(s, a);
+    let file = card::find_child(s, card, dir, name, b".simf");
+    if file == 0 {
+        return Lookup::Nothing;
     }
-    bundle::next_string(s, a)
+    Lookup::At(file, left)
 }
 
-// What is looked for, among the n paths from first on.
-pub fn find(
-    s: &[u8],
-    files: bool,
-    first: usize,
-    n: usize,
-    sought: Sought,
-    dir: &[u8],
-    name: &[u8],
-) -> Found
-    requires { ⌜ (first < 2 ^ 20) × (n < 256) ⌝ }
-    ensures { λ r. ⌜ FoundIs (now (s .entry)) (candidate sought (now (dir .entry)) (now (name .entry))) (each (skip files (now (s .entry))) (text (now (s .entry))) n first) r ⌝ }
-{
-    let mut a = first;
-    let mut i = 0;
-    while i < n {
-        if is_sought(bundle::string(s, a), sought, dir, name) {
-            return Found::At(i, a);
-        }
-        a = next(s, files, a);
-        i += 1;
-    }
-    Found::Nothing
-}
-
-// The file, or else the folder, that a name below a folder stands for; `left` segments are left.
-fn locate(s: &[u8], at: Layout, dir: &[u8], name: &[u8], left: usize) -> Lookup
-    requires { ⌜ Small at ⌝ }
-    ensures { λ r. ⌜ located (now (s .entry)) (listsAt (now (s .entry)) at) (candidate Sought.ChildFile (now (dir .entry)) (now (name .entry))) left r ⌝ }
-{
-    let file = find(
-        s,
-        true,
-        at.files,
-        at.file_count,
-        Sought::ChildFile,
-        dir,
-        name,
-    );
-    match file {
-        Found::At(i, a) => Lookup::File(i, a, left),
-        Found::Nothing => {
-            let folder = find(
-                s,
-                false,
-                at.folders,
-                at.folder_count,
-                Sought::ChildFile,
-                dir,
-                name,
-            );
-            match folder {
-                Found::At(i, a) => Lookup::Folder(i, a, left),
-                Found::Nothing => Lookup::NoPath,
-            }
-        }
-    }
-}
-
-// From the folder at base, the n segments of u from first on.
+// From the folder of index base, the n segments of u from first on: those that name folders are entered, the next names the file.
 pub fn build_and_verify_path(
     s: &[u8],
-    at: Layout,
+    card: &[u32; CARD],
     base: usize,
     u: &[u8],
     first: usize,
     n: usize,
 ) -> Lookup
-    requires { ⌜ (Small at × (base < 2 ^ 62)) × ((first < 2 ^ 60) × (n < 256)) ⌝ }
-    ensures { λ r. ⌜ Tells (now (s .entry)) (listsAt (now (s .entry)) at) r (buildAndVerifyPath (listsAt (now (s .entry)) at) (text (now (s .entry)) base) (each (after (now (u .entry))) (text (now (u .entry))) n first)) ⌝ }
+    requires { ⌜ CardIs (now s) (now card) × (IsFolder (now s) base × Every IsName (each (after (now u)) (text (now u)) n first)) × ((first < 2 ^ 60) × (n < 256)) ⌝ }
+    ensures { λ r. ⌜ Tells (now (s .entry)) r (buildAndVerifyPath (listsIn (now (s .entry))) (pathIn (now (s .entry)) base) (each (after (now (u .entry))) (text (now (u .entry))) n first)) ⌝ }
 {
-    let folders = at.folders;
-    let count = at.folder_count;
+    let folders = card::folder_count(card);
     let mut dir = base;
     let mut a = first;
     let mut i = 0;
     while i < n {
         let name = bundle::string(u, a);
-        let folder = find(
-            s,
-            false,
-            folders,
-            count,
-            Sought::Child,
-            bundle::string(s, dir),
-            name,
-        );
-        match folder {
-            Found::Nothing => {
-                return locate(s, at, bundle::string(s, dir), name, n - i - 1);
-            }
-            Found::At(_, next) => {
-                dir = next;
-            }
+        let next = card::find_child(s, card, dir, name, b"");
+        if !is_folder(next, folders) {
+            return locate(s, card, dir, name, n - i - 1);
         }
+        dir = next;
         a = bundle::next_string(u, a);
         i += 1;
     }
-    Lookup::InFolder
+    Lookup::Nothing
 }

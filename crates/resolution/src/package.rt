@@ -1,102 +1,76 @@
-// Package roots and remappings. The longest is searched for, so that nothing is sorted.
+// Which remapping a name takes. The longest context is searched for, so that nothing is sorted; of two folders above a file the one
+// below the other is the longer.
+ghost use mathlib.Core.Bool.{cond};
 ghost use mathlib.Core.Path.{_≡_};
-ghost use mathlib.Core.Option.{some};
-ghost use Prim.Native.Nat.{_<_, _^_};
-ghost use Rattle.names.specs.Prefix.{startsWith};
-ghost use Rattle.bundle.specs.Scan.{text};
-ghost use Rattle.bundle.specs.Decode.{remappingAt};
-ghost use Rattle.resolution.specs.Longest.{only};
-ghost use Rattle.resolution.specs.Longest.{longer as Longest·longer};
-ghost use Rattle.resolution.specs.Resolution.{applies, getPackageRoot, remappingFor};
-ghost use Rattle.resolution.specs.Layouts.{listsAt, Small, place, SmallPlace, sizeAt, mapped};
-use crate::Layout;
-use crate::Place;
+ghost use Prim.Native.Nat.{_<_};
+ghost use lib.ListN.{length};
+ghost use Rattle.bundle.specs.Decode.{decode};
+ghost use Rattle.bundle.specs.Limits.{remapping-limit};
+ghost use Rattle.card.specs.Card.{Above, nodesIn};
+ghost use Rattle.resolution.specs.Resolution.{applies, remappingFor};
+ghost use Rattle.resolution.specs.Indices.{listsIn, pathIn, Mapped, remappingIn, chosen, further, Within, CanTake};
+use crate::Choice;
+use card::CARD;
 
-// The position of the package root of the entry.
-const ROOT: usize = 3;
+// Whether a name in the file of index f can take remapping j.
+fn remapping_applies(s: &[u8], card: &[u32; CARD], f: usize, name: &[u8], j: usize) -> bool
+    requires { ⌜ Mapped (now s) (now card) × ((f < length (nodesIn (now s))) × (j < length (decode (now s) .remappings))) ⌝ }
+    ensures { λ r. ⌜ r ≡ applies (pathIn (now (s .entry)) f) (now (name .entry)) (remappingIn (now (s .entry)) j) ⌝ }
+{
+    let place = card::remapping_place(card, j);
+    if !names::same_bytes(bundle::remapping_name(s, place), name) {
+        return false;
+    }
+    card::is_below(card, f, card::remapping_context(card, j))
+}
 
-// The longer of the string at best and the string at t, the first where they are equally long.
-fn longer(s: &[u8], best: Place, t: usize) -> Place
-    requires { ⌜ SmallPlace best × (t < 2 ^ 61) ⌝ }
-    ensures { λ r. ⌜ (place r ≡ Longest·longer (sizeAt (now (s .entry))) (place best) (some t)) × SmallPlace r ⌝ }
+// The one with the longer context, the first where they are equally long.
+fn longer(card: &[u32; CARD], best: Choice, j: usize) -> Choice
+    requires { ⌜ Above (now card) × (Within (now card) best × (j < remapping-limit)) ⌝ }
+    ensures { λ r. ⌜ r ≡ further (now (card .entry)) best j ⌝ }
 {
     match best {
-        Place::Nowhere => Place::At(t),
-        Place::At(a) => {
-            if bundle::string(s, t).len() <= bundle::string(s, a).len() {
-                Place::At(a)
+        Choice::Nothing => Choice::At(j),
+        Choice::At(a) => {
+            let mine = card::remapping_context(card, a);
+            if card::is_below(card, mine, card::remapping_context(card, j)) {
+                Choice::At(a)
             } else {
-                Place::At(t)
+                Choice::At(j)
             }
         }
     }
 }
 
-// One more package root: the string at t.
-fn root_step(s: &[u8], file: &[u8], best: Place, t: usize) -> Place
-    requires { ⌜ SmallPlace best × (t < 2 ^ 61) ⌝ }
-    ensures { λ r. ⌜ (place r ≡ Longest·longer (sizeAt (now (s .entry))) (place best) (only (λ a. startsWith (now (file .entry)) (text (now (s .entry)) a)) t)) × SmallPlace r ⌝ }
+// One more remapping: j.
+fn remapping_step(
+    s: &[u8],
+    card: &[u32; CARD],
+    f: usize,
+    name: &[u8],
+    best: Choice,
+    j: usize,
+) -> Choice
+    requires { ⌜ Mapped (now s) (now card) × ((f < length (nodesIn (now s))) × ((j < length (decode (now s) .remappings)) × Within (now card) best)) ⌝ }
+    ensures { λ r. ⌜ r ≡ cond (applies (pathIn (now (s .entry)) f) (now (name .entry)) (remappingIn (now (s .entry)) j)) (further (now (card .entry)) best j) best ⌝ }
 {
-    if names::starts_with(file, bundle::string(s, t)) {
-        return longer(s, best, t);
+    if remapping_applies(s, card, f, name, j) {
+        return longer(card, best, j);
     }
     best
 }
 
-// The position of a file's package root.
-pub fn get_package_root(s: &[u8], at: Layout, file: &[u8]) -> Place
-    requires { ⌜ Small at ⌝ }
-    ensures { λ r. ⌜ (mapped (text (now (s .entry))) (place r) ≡ getPackageRoot (listsAt (now (s .entry)) at) (now (file .entry))) × SmallPlace r ⌝ }
+// The remapping that a name in the file of index f takes.
+pub fn remapping_for(s: &[u8], card: &[u32; CARD], f: usize, name: &[u8]) -> Choice
+    requires { ⌜ Mapped (now s) (now card) × (f < length (nodesIn (now s))) ⌝ }
+    ensures { λ r. ⌜ (chosen (now (s .entry)) r ≡ remappingFor (listsIn (now (s .entry))) (pathIn (now (s .entry)) f) (now (name .entry))) × CanTake (now (s .entry)) (pathIn (now (s .entry)) f) (now (name .entry)) r ⌝ }
 {
-    let n = at.remapping_count;
-    let mut best = root_step(s, file, Place::Nowhere, ROOT);
-    let mut a = at.remappings;
-    let mut i = 0;
-    while i < n {
-        let name = bundle::next_string(s, a);
-        let target = bundle::next_string(s, name);
-        best = root_step(s, file, best, target);
-        a = bundle::next_remapping(s, a);
-        i += 1;
-    }
-    best
-}
-
-// Whether a name in a file can take the remapping at a.
-fn remapping_applies(s: &[u8], file: &[u8], name: &[u8], a: usize) -> bool
-    requires { ⌜ a < 2 ^ 61 ⌝ }
-    ensures { λ r. ⌜ r ≡ applies (now (file .entry)) (now (name .entry)) (remappingAt (now (s .entry)) a) ⌝ }
-{
-    if !names::starts_with(file, bundle::remapping_context(s, a)) {
-        return false;
-    }
-    names::same_bytes(bundle::remapping_name(s, a), name)
-}
-
-// One more remapping: the one at a.
-fn remapping_step(s: &[u8], file: &[u8], name: &[u8], best: Place, a: usize) -> Place
-    requires { ⌜ SmallPlace best × (a < 2 ^ 61) ⌝ }
-    ensures { λ r. ⌜ (place r ≡ Longest·longer (sizeAt (now (s .entry))) (place best) (only (λ a. applies (now (file .entry)) (now (name .entry)) (remappingAt (now (s .entry)) a)) a)) × SmallPlace r ⌝ }
-{
-    if remapping_applies(s, file, name, a) {
-        return longer(s, best, a);
-    }
-    best
-}
-
-// The position of the remapping that a name in a file takes.
-pub fn remapping_for(s: &[u8], at: Layout, file: &[u8], name: &[u8]) -> Place
-    requires { ⌜ Small at ⌝ }
-    ensures { λ r. ⌜ (mapped (remappingAt (now (s .entry))) (place r) ≡ remappingFor (listsAt (now (s .entry)) at) (now (file .entry)) (now (name .entry))) × SmallPlace r ⌝ }
-{
-    let n = at.remapping_count;
-    let mut best = Place::Nowhere;
-    let mut a = at.remappings;
-    let mut i = 0;
-    while i < n {
-        best = remapping_step(s, file, name, best, a);
-        a = bundle::next_remapping(s, a);
-        i += 1;
+    let n = card::remapping_count(card);
+    let mut best = Choice::Nothing;
+    let mut j = 0;
+    while j < n {
+        best = remapping_step(s, card, f, name, best, j);
+        j += 1;
     }
     best
 }

@@ -1,131 +1,128 @@
 // What a use resolves to.
 ghost use mathlib.Core.Path.{_≡_};
-ghost use mathlib.Core.Bool.{true};
 ghost use Prim.Native.Nat.{_<_, _^_};
-ghost use Rattle.names.specs.Bytes.{member};
+ghost use lib.ListN.{length};
+ghost use Rattle.bundle.specs.Form.{Every, IsName};
 ghost use Rattle.bundle.specs.Scan.{text};
-ghost use Rattle.bundle.specs.Decode.{each, after, decode};
-ghost use Rattle.resolution.specs.Lists.{listsOf};
+ghost use Rattle.bundle.specs.Decode.{each, after};
+ghost use Rattle.card.specs.Layout.{card-size, node-limit, foldersOf};
+ghost use Rattle.card.specs.Card.{CardIs, nodesIn};
 ghost use Rattle.resolution.specs.Resolution.{buildAndVerifyPath, checkLocalFileImportedAsExternal, external, resolveCratePath, resolvePathInternal};
-ghost use Rattle.resolution.specs.Call.{answer, position, resolveIn, segments};
-ghost use Rattle.resolution.specs.Layouts.{listsAt, Small, Importer, itselfIn};
-use crate::Found;
-use crate::Layout;
+ghost use Rattle.resolution.specs.Call.{answer, resolveIn, segments};
+ghost use Rattle.resolution.specs.Indices.{listsIn, pathIn, Mapped, Importer, IsFolder, resolvedAt, itselfIn};
+use crate::Choice;
 use crate::Lookup;
-use crate::Place;
 use crate::Resolution;
-use crate::Sought;
 use crate::listing::build_and_verify_path;
-use crate::listing::find;
-use crate::package::get_package_root;
 use crate::package::remapping_for;
-use crate::positions::layout_of;
+use card::CARD;
+use card::Near;
 
-// Whether the path at p has the package root of the file.
-fn check_local_file_imported_as_external(s: &[u8], at: Layout, file: &[u8], p: usize) -> bool
-    requires { ⌜ Small at × (p < 2 ^ 62) ⌝ }
-    ensures { λ r. ⌜ r ≡ checkLocalFileImportedAsExternal (listsAt (now (s .entry)) at) (now (file .entry)) (text (now (s .entry)) p) ⌝ }
+// What is found at index t, as an answer: the files come after the folders.
+fn resolved(card: &[u32; CARD], t: usize, left: usize) -> Resolution
+    requires { ⌜ (length (now card) ≡ card-size) × (0 < t) ⌝ }
+    ensures { λ r. ⌜ r ≡ resolvedAt (foldersOf (now (card .entry))) t left ⌝ }
 {
-    let curr = get_package_root(s, at, file);
+    let folders = card::folder_count(card);
+    if t > folders {
+        return Resolution::File(t - 1 - folders, left);
+    }
+    Resolution::Folder(t - 1, left)
+}
+
+// Whether index t has the package root of the file of index f.
+fn check_local_file_imported_as_external(s: &[u8], card: &[u32; CARD], f: usize, t: usize) -> bool
+    requires { ⌜ CardIs (now s) (now card) × ((f < length (nodesIn (now s))) × (t < length (nodesIn (now s)))) ⌝ }
+    ensures { λ r. ⌜ r ≡ checkLocalFileImportedAsExternal (listsIn (now (s .entry))) (pathIn (now (s .entry)) f) (pathIn (now (s .entry)) t) ⌝ }
+{
+    let curr = card::nearest_marked(card, f);
     match curr {
-        Place::Nowhere => false,
-        Place::At(a) => {
-            let res = get_package_root(s, at, bundle::string(s, p));
+        Near::Nothing => false,
+        Near::At(a) => {
+            let res = card::nearest_marked(card, t);
             match res {
-                Place::Nowhere => false,
-                Place::At(b) => names::same_bytes(bundle::string(s, a), bundle::string(s, b)),
+                Near::Nothing => false,
+                Near::At(b) => a == b,
             }
         }
     }
 }
 
-// From the target at base, the n segments of u from first on.
+// From the target of index base, the n segments of u from first on.
 fn resolve_external_path(
     s: &[u8],
-    at: Layout,
-    file: &[u8],
+    card: &[u32; CARD],
+    f: usize,
     base: usize,
     u: &[u8],
     first: usize,
     n: usize,
 ) -> Resolution
-    requires { ⌜ (Small at × (base < 2 ^ 62)) × ((first < 2 ^ 60) × (n < 256)) ⌝ }
-    ensures { λ r. ⌜ r ≡ answer (listsAt (now (s .entry)) at) (external (listsAt (now (s .entry)) at) (now (file .entry)) (buildAndVerifyPath (listsAt (now (s .entry)) at) (text (now (s .entry)) base) (each (after (now (u .entry))) (text (now (u .entry))) n first))) ⌝ }
+    requires { ⌜ CardIs (now s) (now card) × ((f < length (nodesIn (now s))) × IsFolder (now s) base) × (Every IsName (each (after (now u)) (text (now u)) n first) × ((first < 2 ^ 60) × (n < 256))) ⌝ }
+    ensures { λ r. ⌜ r ≡ answer (listsIn (now (s .entry))) (external (listsIn (now (s .entry))) (pathIn (now (s .entry)) f) (buildAndVerifyPath (listsIn (now (s .entry))) (pathIn (now (s .entry)) base) (each (after (now (u .entry))) (text (now (u .entry))) n first))) ⌝ }
 {
-    let lookup = build_and_verify_path(s, at, base, u, first, n);
+    let lookup = build_and_verify_path(s, card, base, u, first, n);
     match lookup {
-        Lookup::InFolder => Resolution::Refused(22, 0),
-        Lookup::NoPath => Resolution::Refused(22, 0),
-        Lookup::File(i, p, left) => {
-            if check_local_file_imported_as_external(s, at, file, p) {
+        Lookup::Nothing => Resolution::Refused(22, 0),
+        Lookup::At(t, left) => {
+            if check_local_file_imported_as_external(s, card, f, t) {
                 Resolution::Refused(24, 0)
             } else {
-                Resolution::File(i, left)
-            }
-        }
-        Lookup::Folder(i, p, left) => {
-            if check_local_file_imported_as_external(s, at, file, p) {
-                Resolution::Refused(24, 0)
-            } else {
-                Resolution::Folder(i, left)
+                resolved(card, t, left)
             }
         }
     }
 }
 
-// After a failed lookup: the importer itself, where it stands directly in the root at base.
-fn itself(s: &[u8], file: &[u8], index: usize, base: usize, n: usize) -> Resolution
-    requires { ⌜ base < 2 ^ 62 ⌝ }
-    ensures { λ r. ⌜ r ≡ itselfIn (text (now (s .entry)) base) (now (file .entry)) index n ⌝ }
+// After a failed lookup: the importer itself, where it lies directly in the root of index base.
+fn itself(card: &[u32; CARD], f: usize, base: usize, n: usize) -> Resolution
+    requires { ⌜ (length (now card) ≡ card-size) × ((0 < f) × (f < node-limit)) ⌝ }
+    ensures { λ r. ⌜ r ≡ itselfIn (now (card .entry)) f base n ⌝ }
 {
-    if names::is_directly_in(file, bundle::string(s, base)) {
-        return Resolution::File(index, n);
+    if card::parent_of(card, f) == base {
+        return resolved(card, f, n);
     }
     Resolution::Refused(23, 0)
 }
 
-// Below the file's package root, the n segments of u from first on. The file is the one of this index.
+// Below the file's package root, the n segments of u from first on.
 fn resolve_crate_path(
     s: &[u8],
-    at: Layout,
-    file: &[u8],
-    index: usize,
+    card: &[u32; CARD],
+    f: usize,
     u: &[u8],
     first: usize,
     n: usize,
 ) -> Resolution
-    requires { ⌜ (Small at × Importer (listsAt (now s) at) (now file) index) × ((first < 2 ^ 60) × (n < 256)) ⌝ }
-    ensures { λ r. ⌜ r ≡ answer (listsAt (now (s .entry)) at) (resolveCratePath (listsAt (now (s .entry)) at) (now (file .entry)) (each (after (now (u .entry))) (text (now (u .entry))) n first)) ⌝ }
+    requires { ⌜ CardIs (now s) (now card) × Importer (now s) f × (Every IsName (each (after (now u)) (text (now u)) n first) × ((first < 2 ^ 60) × (n < 256))) ⌝ }
+    ensures { λ r. ⌜ r ≡ answer (listsIn (now (s .entry))) (resolveCratePath (listsIn (now (s .entry))) (pathIn (now (s .entry)) f) (each (after (now (u .entry))) (text (now (u .entry))) n first)) ⌝ }
 {
-    let root = get_package_root(s, at, file);
+    let root = card::nearest_marked(card, f);
     match root {
-        Place::Nowhere => Resolution::Refused(25, 0),
-        Place::At(base) => {
-            let lookup = build_and_verify_path(s, at, base, u, first, n);
+        Near::Nothing => Resolution::Refused(25, 0),
+        Near::At(base) => {
+            let lookup = build_and_verify_path(s, card, base, u, first, n);
             match lookup {
-                Lookup::File(i, _, left) => Resolution::File(i, left),
-                Lookup::Folder(i, _, left) => Resolution::Folder(i, left),
-                Lookup::InFolder => itself(s, file, index, base, n),
-                Lookup::NoPath => itself(s, file, index, base, n),
+                Lookup::At(t, left) => resolved(card, t, left),
+                Lookup::Nothing => itself(card, f, base, n),
             }
         }
     }
 }
 
-// A use in the file of this index: its segments are the n strings of u from first on, which may be the bundle itself. Ruled
-// out: a file below another package root than the importer's for `crate`; 23 for a `crate` path that fails in a file directly
-// in its package root, which resolves to itself.
+// A use in the file of index f: its segments are the n strings of u from first on, which may be the bundle itself. Ruled out: a
+// file below another package root than the importer's for `crate`; 23 for a `crate` path that fails in a file directly in its
+// package root, which resolves to itself.
 pub fn resolve_path_internal(
     s: &[u8],
-    at: Layout,
-    file: &[u8],
-    index: usize,
+    card: &[u32; CARD],
+    f: usize,
     u: &[u8],
     first: usize,
     n: usize,
 ) -> Resolution
-    requires { ⌜ (Small at × Importer (listsAt (now s) at) (now file) index) × ((first < 2 ^ 59) × (n < 256)) ⌝ }
-    ensures { λ r. ⌜ r ≡ answer (listsAt (now (s .entry)) at) (resolvePathInternal (listsAt (now (s .entry)) at) (now (file .entry)) (each (after (now (u .entry))) (text (now (u .entry))) n first)) ⌝ }
+    requires { ⌜ Mapped (now s) (now card) × Importer (now s) f × (Every IsName (each (after (now u)) (text (now u)) n first) × ((first < 2 ^ 59) × (n < 256))) ⌝ }
+    ensures { λ r. ⌜ r ≡ answer (listsIn (now (s .entry))) (resolvePathInternal (listsIn (now (s .entry))) (pathIn (now (s .entry)) f) (each (after (now (u .entry))) (text (now (u .entry))) n first)) ⌝ }
 {
     if n == 0 {
         return Resolution::Refused(20, 0);
@@ -133,32 +130,29 @@ pub fn resolve_path_internal(
     let name = bundle::string(u, first);
     let rest = bundle::next_string(u, first);
     if names::is_crate(name) {
-        return resolve_crate_path(s, at, file, index, u, rest, n - 1);
+        return resolve_crate_path(s, card, f, u, rest, n - 1);
     }
-    let remapping = remapping_for(s, at, file, name);
-    match remapping {
-        Place::Nowhere => Resolution::Refused(21, 0),
-        Place::At(a) => {
-            let b = bundle::next_string(s, a);
-            let target = bundle::next_string(s, b);
-            resolve_external_path(s, at, file, target, u, rest, n - 1)
+    let taken = remapping_for(s, card, f, name);
+    match taken {
+        Choice::Nothing => Resolution::Refused(21, 0),
+        Choice::At(j) => {
+            let target = card::remapping_target(card, j);
+            resolve_external_path(s, card, f, target, u, rest, n - 1)
         }
     }
 }
 
 // 29, then 20 to 25; the segments are those of u.
-pub fn resolve_in(s: &[u8], file: &[u8], u: &[u8]) -> Resolution
-    ensures { λ r. ⌜ r ≡ resolveIn (listsOf (decode (now (s .entry)))) (now (file .entry)) (segments (now (u .entry))) ⌝ }
+pub fn resolve_in(s: &[u8], card: &[u32; CARD], file: &[u8], u: &[u8]) -> Resolution
+    requires { ⌜ Mapped (now s) (now card) × Every IsName (segments (now u)) ⌝ }
+    ensures { λ r. ⌜ r ≡ resolveIn (listsIn (now (s .entry))) (now (file .entry)) (segments (now (u .entry))) ⌝ }
 {
-    let at = layout_of(s);
-    let importer = find(s, true, at.files, at.file_count, Sought::Itself, file, file);
-    match importer {
-        Found::Nothing => Resolution::Refused(29, 0),
-        Found::At(index, _) => {
-            if u.len() == 0 {
-                return resolve_path_internal(s, at, file, index, u, 1, 0);
-            }
-            resolve_path_internal(s, at, file, index, u, 1, crate::segments::wide(u[0]))
-        }
+    let f = card::find_path(s, card, file);
+    if f <= card::folder_count(card) {
+        return Resolution::Refused(29, 0);
     }
+    if u.len() == 0 {
+        return resolve_path_internal(s, card, f, u, 1, 0);
+    }
+    resolve_path_internal(s, card, f, u, 1, crate::segments::wide(u[0]))
 }

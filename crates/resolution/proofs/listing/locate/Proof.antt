@@ -1,46 +1,22 @@
+-- `locate` meets its contract. Assumes nothing.
 use borrow.Author.Needs.{needs}
-use mathlib.Core.Path.{refl}
-use borrow.Author.Needs.{needs}
+use native.Mathlib.Omega.{arith}
 use Rattle.resolution.proofs.listing.locate.Statement.{statement}
 use Rattle.resolution.proofs.listing.locate.Tie as tie
+use Rattle.resolution.specs.CardLaws.{folder-listed}
+use Rattle.resolution.specs.LookupLaws.{file-named, located-none, located-at}
 
-find-requires : tie.Need-find-requires
-find-requires c κs = ((c .before .before .before) .pre .files, (c .before .before .before) .pre .file-count)
+slice-aggregate-find-child : tie.Need-slice-aggregate-find-child
+slice-aggregate-find-child c = search needs
 
-enum-known-file : tie.Need-enum-known-file
-enum-known-file c = search needs
-
-enum-told : tie.Need-enum-told
-enum-told c = search needs
-
-find-requires-2 : tie.Need-find-requires-2
-find-requires-2 c κs = ((c .before .before .before .before .before .before) .pre .folders, (c .before .before .before .before .before .before) .pre .folder-count)
-
-enum-known-folder : tie.Need-enum-known-folder
-enum-known-folder c = search needs
-
-enum-told-2 : tie.Need-enum-told-2
-enum-told-2 c = search needs
+find-child-requires : tie.Need-find-child-requires
+find-child-requires c κs = ((c .before .before .before .pre) .0, (folder-listed ((c .before .before .before .pre) .0) ((c .before .before .before .args) .dir) ((c .before .before .before .pre) .1 .0), file-named ((c .before .before .before .args) .name .now) ((c .before .before .before .pre) .1 .1)))
 
 returns : tie.Need-returns
-returns c = (rw ((c .before .file) .given .1) at ((c .before .before .before .find) .ensures), refl)
+returns c = located-none ((c .before .before .before .before .before .pre) .0) ((c .before .before .before .before .before .args) .dir) ((c .before .before .before .before .before .args) .name .now) _ ((c .before .before .before .before .before .args) .left) ((c .before .find-child) .ensures) ((c .if1) .taken)
 
 returns-2 : tie.Need-returns-2
-returns-2 c = (record { no-file = rw ((c .before .before .before .before .enum-told) .given .1) at ((c .before .before .before .before .before .before .find) .ensures); at-place = rw ((c .before .folder) .given .1) at ((c .before .before .before .find2) .ensures) }, refl)
-
-returns-3 : tie.Need-returns-3
-returns-3 c = record { no-file = rw ((c .before .before .before .enum-told) .given .1) at ((c .before .before .before .before .before .find) .ensures); no-folder = rw ((c .enum-told2) .given .1) at ((c .before .before .find2) .ensures) }
+returns-2 c = located-at ((c .before .before .before .before .before .pre) .0) ((c .before .before .before .before .before .args) .dir) ((c .before .before .before .before .before .args) .name .now) _ ((c .before .before .before .before .before .args) .left) ((c .before .find-child) .ensures) ((c .if1) .left)
 
 pub locate-spec : {M : Type 1} → statement M
-locate-spec =
-    tie.close
-    (tie.spec
-    find-requires
-    enum-known-file
-    enum-told
-    find-requires-2
-    enum-known-folder
-    enum-told-2
-    returns
-    returns-2
-    returns-3)
+locate-spec = tie.close (tie.spec slice-aggregate-find-child find-child-requires returns returns-2)

@@ -1,22 +1,21 @@
+-- `remapping_step` meets its contract. Assumes nothing.
 use borrow.Author.Needs.{needs}
-use mathlib.Core.Path.{sym, _∙_}
-use Rattle.resolution.specs.SearchLaws.{longer-none}
-use borrow.Author.Needs.{needs}
+use native.Mathlib.Omega.{arith}
 use Rattle.resolution.proofs.package.remapping_step.Statement.{statement}
 use Rattle.resolution.proofs.package.remapping_step.Tie as tie
+use mathlib.Core.Path.{_≡_}
 
 remapping-applies-requires : tie.Need-remapping-applies-requires
-remapping-applies-requires c κs = search needs
+remapping-applies-requires c κs = ((c .before .before .pre) .0, ((c .before .before .pre) .1 .0, (c .before .before .pre) .1 .1 .0))
 
 longer-requires : tie.Need-longer-requires
-longer-requires c κs = search needs
+longer-requires c κs = ((c .before .before .before .before .pre) .0 .card .above, ((c .before .before .before .before .pre) .1 .1 .1, omega (arith, (c .before .before .before .before .pre) .1 .1 .0, (c .before .before .before .before .pre) .0 .few)))
 
 returns : tie.Need-returns
-returns c = let e = sym ((c .before .before .remapping-applies) .ensures) ∙ (c .before .if1) .taken in (rw e ((c .longer) .ensures .0), (c .longer) .ensures .1)
+returns c = rw (← (c .before .before .remapping-applies) .ensures, (c .before .if1) .taken) ((c .longer) .ensures)
 
 returns-2 : tie.Need-returns-2
-returns-2 c = let e = sym ((c .before .remapping-applies) .ensures) ∙ (c .if1) .left in (rw e (sym (longer-none _ _)), (c .before .before .before .before .before) .pre .0)
+returns-2 c = rw (← (c .before .remapping-applies) .ensures, (c .if1) .left)
 
 pub remapping-step-spec : {M : Type 1} → statement M
-remapping-step-spec =
-    tie.close (tie.spec remapping-applies-requires longer-requires returns returns-2)
+remapping-step-spec = tie.close (tie.spec remapping-applies-requires longer-requires returns returns-2)

@@ -1,14 +1,12 @@
+-- `check_local_file_imported_as_external` meets its contract. Assumes nothing.
 use borrow.Author.Needs.{needs}
 use native.Mathlib.Omega.{arith}
-use mathlib.Core.Path.{_∙_}
-use borrow.Author.Needs.{needs}
-use Rattle.resolution.proofs.uses.check_local_file_imported_as_external.Statement.{
-  statement,
-}
+use Rattle.resolution.proofs.uses.check_local_file_imported_as_external.Statement.{statement}
 use Rattle.resolution.proofs.uses.check_local_file_imported_as_external.Tie as tie
+use Rattle.resolution.specs.CardLaws.{node-small, own-none, own-other, own-both}
 
-get-package-root-requires : tie.Need-get-package-root-requires
-get-package-root-requires c κs = search needs
+nearest-marked-requires : tie.Need-nearest-marked-requires
+nearest-marked-requires c κs = ((c .before .pre) .0 .above, node-small ((c .before .pre) .0) _ ((c .before .pre) .1 .0))
 
 enum-told : tie.Need-enum-told
 enum-told c = search needs
@@ -16,11 +14,8 @@ enum-told c = search needs
 enum-known-curr : tie.Need-enum-known-curr
 enum-known-curr c = search needs
 
-string-requires : tie.Need-string-requires
-string-requires c κs = search needs
-
-get-package-root-requires-2 : tie.Need-get-package-root-requires-2
-get-package-root-requires-2 c κs = search needs
+nearest-marked-requires-2 : tie.Need-nearest-marked-requires-2
+nearest-marked-requires-2 c κs = ((c .before .before .before .before .before .pre) .0 .above, node-small ((c .before .before .before .before .before .pre) .0) _ ((c .before .before .before .before .before .pre) .1 .1))
 
 enum-told-2 : tie.Need-enum-told-2
 enum-told-2 c = search needs
@@ -28,41 +23,14 @@ enum-told-2 c = search needs
 enum-known-res : tie.Need-enum-known-res
 enum-known-res c = search needs
 
-string-requires-2 : tie.Need-string-requires-2
-string-requires-2 c κs = let z = rw ((c .before .before .before .before .before .before .curr) .given .1) at ((c .before .before .before .before .before .before .before .before .get-package-root) .ensures .1) in omega (arith, z)
-
-string-requires-3 : tie.Need-string-requires-3
-string-requires-3 c κs = let z = rw ((c .before .before .res) .given .1) at ((c .before .before .before .before .get-package-root2) .ensures .1) in omega (arith, z)
-
-same-bytes-requires : tie.Need-same-bytes-requires
-same-bytes-requires c κs = search needs
-
 returns : tie.Need-returns
-unfolding Rattle.resolution.specs.Resolution.checkLocalFileImportedAsExternal
-returns c = let e = rw ((c .enum-told) .given .1) at ((c .before .before .get-package-root) .ensures .0) in rw (← e)
+returns c = own-none ((c .before .before .before .before .pre) .0) _ ((c .before .before .before .before .pre) .1 .0) _ ((c .before .before .nearest-marked) .ensures) _ ((c .before .before .before .before .pre) .1 .1) ((c .enum-told) .given .1)
 
 returns-2 : tie.Need-returns-2
-unfolding Rattle.resolution.specs.Resolution.checkLocalFileImportedAsExternal
-returns-2 c = let e = rw ((c .before .before .before .before .before .curr) .given .1) at ((c .before .before .before .before .before .before .before .get-package-root) .ensures .0) in let f = rw ((c .enum-told2) .given .1, (c .before .before .before .string) .ensures) at ((c .before .before .get-package-root2) .ensures .0) in rw (← e, ← f)
+returns-2 c = own-other ((c .before .before .before .before .before .before .before .before .pre) .0) _ _ ((c .before .before .before .before .before .before .before .before .pre) .1 .0) ((c .before .before .before .before .before .before .before .before .pre) .1 .1) _ _ ((c .before .before .before .before .before .before .nearest-marked) .ensures) ((c .before .before .nearest-marked2) .ensures) _ ((c .before .before .before .before .curr) .given .1) ((c .enum-told2) .given .1)
 
 returns-3 : tie.Need-returns-3
-unfolding Rattle.resolution.specs.Resolution.checkLocalFileImportedAsExternal
-returns-3 c = let e = rw ((c .before .before .before .before .before .before .before .before .before .curr) .given .1) at ((c .before .before .before .before .before .before .before .before .before .before .before .get-package-root) .ensures .0) in let f = rw ((c .before .before .before .before .res) .given .1, (c .before .before .before .before .before .before .before .string) .ensures) at ((c .before .before .before .before .before .before .get-package-root2) .ensures .0) in (c .same-bytes) .ensures ∙ rw ((c .before .before .string2) .ensures, (c .before .string3) .ensures, ← e, ← f)
+returns-3 c = own-both ((c .before .before .before .before .before .before .before .before .before .pre) .0) _ _ ((c .before .before .before .before .before .before .before .before .before .pre) .1 .0) ((c .before .before .before .before .before .before .before .before .before .pre) .1 .1) _ _ ((c .before .before .before .before .before .before .before .nearest-marked) .ensures) ((c .before .before .before .nearest-marked2) .ensures) _ ((c .before .before .before .before .before .curr) .given .1) _ ((c .before .res) .given .1)
 
 pub check-local-file-imported-as-external-spec : {M : Type 1} → statement M
-check-local-file-imported-as-external-spec =
-    tie.close
-    (tie.spec
-    get-package-root-requires
-    enum-told
-    enum-known-curr
-    string-requires
-    get-package-root-requires-2
-    enum-told-2
-    enum-known-res
-    string-requires-2
-    string-requires-3
-    same-bytes-requires
-    returns
-    returns-2
-    returns-3)
+check-local-file-imported-as-external-spec = tie.close (tie.spec nearest-marked-requires enum-told enum-known-curr nearest-marked-requires-2 enum-told-2 enum-known-res returns returns-2 returns-3)
