@@ -28,7 +28,7 @@ pub fn read(s: &[u8], card: &mut [u32; CARD]) -> Checked
     requires { ⌜ length (now card) ≡ card-size ⌝ }
     ensures { λ r. ⌜ (r ≡ verdict (now (s .entry))) × (r ≡ Checked.Ok → CardIs (now (s .entry)) (now (card .exit))) ⌝ }
 {
-    let formed = bundle::check_form(s);
+    let formed = form::check_form(s);
     match formed {
         Checked::Refused(n, p) => Checked::Refused(n, p),
         Checked::Ok => make::card_verdict(s, &mut *card),
