@@ -40,6 +40,7 @@ pub record ToldWithin (end n p : ℕ) : Type 0 where
   pub most : n ≤ 6
   pub within : p ≤ end
   pub inside : (n ≡ 1 → ⊥) → p < end
+  pub spared : n ≡ 2 → ⊥
 
 abbrev Right : ℕ → Scan → Type 0
 Right end (Next at) = at ≤ end
@@ -49,20 +50,37 @@ abbrev RightWalk : ℕ → Walk → Type 0
 RightWalk end (Past at c u) = at ≤ end
 RightWalk end (Fault n p) = ToldWithin end n p
 
-abbrev pub RightForm : ℕ → Checked → Type 0
-RightForm end Ok = Unit {0}
-RightForm end (Refused n p) = ToldWithin end n p
+-- the header is there, and its version is not defined
+pub record Undefined (s : List ℕ) (p : ℕ) : Type 0 where
+  pub headed : header ≤ length s
+  pub undefined : defined (versionOf s) ≡ false
+  pub first : p ≡ 0
+
+pub record ToldForm (s : List ℕ) (n p : ℕ) : Type 0 where
+  pub least : 1 ≤ n
+  pub most : n ≤ 6
+  pub within : p ≤ length s
+  pub inside : (n ≡ 1 → ⊥) → p < length s
+  -- 2 only for a version that is not defined
+  pub version : n ≡ 2 → Undefined s p
+
+abbrev pub RightForm : List ℕ → Checked → Type 0
+RightForm s Ok = Unit {0}
+RightForm s (Refused n p) = ToldForm s n p
+
+told-form : (s : List ℕ) (n p : ℕ) → ToldWithin (length s) n p → ToldForm s n p
+told-form s n p t = record { least = t .least; most = t .most; within = t .within; inside = t .inside; version = λ e. absurd (t .spared e) }
 
 cut : (end p : ℕ) → p ≤ end → ToldWithin end 1 p
-cut end p h = record { least = omega arith; most = omega arith; within = h; inside = λ f. absurd (f refl) }
+cut end p h = record { least = omega arith; most = omega arith; within = h; inside = λ f. absurd (f refl); spared = λ (e : _≡_ {A = ℕ} 1 2). omega arith }
 
-tells : (end n p : ℕ) → 1 ≤ n → n ≤ 6 → p < end → ToldWithin end n p
-tells end n p l m h = record { least = l; most = m; within = omega arith; inside = λ f. h }
+tells : (end n p : ℕ) → 2 < n → n ≤ 6 → p < end → ToldWithin end n p
+tells end n p l m h = record { least = omega arith; most = m; within = omega arith; inside = λ f. h; spared = λ (e : n ≡ 2). omega arith }
 
 told-more : (end last n p : ℕ) → end ≤ last → ToldWithin end n p → ToldWithin last n p
 told-more end last n p h t =
     let w = t .within in
-    record { least = t .least; most = t .most; within = omega arith; inside = λ f. let i = t .inside f in omega arith }
+    record { least = t .least; most = t .most; within = omega arith; inside = λ f. let i = t .inside f in omega arith; spared = t .spared }
 
 walk-more : (end last : ℕ) (X : Walk) → end ≤ last → RightWalk end X → RightWalk last X
 walk-more end last (Past at c u) h p = omega arith
@@ -80,13 +98,13 @@ walk-right : {end : ℕ} (X : Walk) (f : ℕ → ℕ → ℕ → Walk) → Right
 walk-right (Past a c u) f p q = q a c u p
 walk-right (Fault n m) f p q = p
 
-check-right : {end : ℕ} (X : Scan) (f : ℕ → Checked) → Right end X → ((a : ℕ) → a ≤ end → RightForm end (f a)) → RightForm end (thenOk X f)
-check-right (Next a) f p q = q a p
-check-right (Bad n m) f p q = p
+check-right : (s : List ℕ) (X : Scan) (f : ℕ → Checked) → Right (length s) X → ((a : ℕ) → a ≤ length s → RightForm s (f a)) → RightForm s (thenOk X f)
+check-right s (Next a) f p q = q a p
+check-right s (Bad n m) f p q = told-form s n m p
 
-checked-walk : {end : ℕ} (X : Walk) (f : ℕ → Checked) → RightWalk end X → ((a : ℕ) → a ≤ end → RightForm end (f a)) → RightForm end (afterWalk X f)
-checked-walk (Past a c u) f p q = q a p
-checked-walk (Fault n m) f p q = p
+checked-walk : (s : List ℕ) (X : Walk) (f : ℕ → Checked) → RightWalk (length s) X → ((a : ℕ) → a ≤ length s → RightForm s (f a)) → RightForm s (afterWalk X f)
+checked-walk s (Past a c u) f p q = q a p
+checked-walk s (Fault n m) f p q = told-form s n m p
 
 module _ (s : List ℕ) where
   string-right : (end at : ℕ) → at ≤ end → Right end (scanString s end at)
@@ -97,7 +115,7 @@ module _ (s : List ℕ) where
       cond-elim (Right end) (leb (byte s at) (end - (at + 1))) (λ c. let le = leb-true (byte s at) (end - (at + 1)) c in omega arith) (λ c. cut end at h))
       (λ b. cut end at h)
 
-  formed-right : (form : List ℕ → Bool) (k : ℕ) → 1 ≤ k → k ≤ 6 → (end at : ℕ) → at ≤ end → Right end (scanFormed form k s end at)
+  formed-right : (form : List ℕ → Bool) (k : ℕ) → 2 < k → k ≤ 6 → (end at : ℕ) → at ≤ end → Right end (scanFormed form k s end at)
   unfolding scanFormed
   formed-right form k l m end at h =
       then-right (scanString s end at) _ (string-right end at h) (λ next e b.
@@ -227,27 +245,30 @@ module _ (s : List ℕ) where
   files-right zero end at c u h = h
   files-right (suc n) end at c u h = walk-right (scanFile s end at c u) _ (file-right end at c u h) (files-right n end)
 
-  header-right : Right (length s) (scanHeader s)
+  header-right : (f : ℕ → Checked) → ((a : ℕ) → a ≤ length s → RightForm s (f a)) → RightForm s (thenOk (scanHeader s) f)
   unfolding scanHeader
-  header-right =
-      cond-elim (Right (length s)) (ltb (length s) header) (λ a. cut (length s) 0 (omega arith)) (λ a.
+  header-right f q =
+      cond-elim P (ltb (length s) header) (λ a. told-form s 1 0 (cut (length s) 0 (omega arith))) (λ a.
       let l = ltb-false (length s) header a in
-      cond-elim (Right (length s)) (defined (versionOf s))
-      (λ b. cond-elim (Right (length s)) (ltb (length s - header) (word s 1)) (λ c. cut (length s) 1 (omega arith)) (λ c.
-      cond-elim (Right (length s)) (ltb (word s 1) (length s - header)) (λ d. let w = ltb-true (word s 1) (length s - header) d in cut (length s) (header + word s 1) (omega arith)) (λ d. l)))
-      (λ b. tells (length s) 2 0 (omega arith) (omega arith) (omega arith)))
+      cond-elim P (defined (versionOf s))
+      (λ b. cond-elim P (ltb (length s - header) (word s 1)) (λ c. told-form s 1 1 (cut (length s) 1 (omega arith))) (λ c.
+      cond-elim P (ltb (word s 1) (length s - header)) (λ d. let w = ltb-true (word s 1) (length s - header) d in told-form s 1 (header + word s 1) (cut (length s) (header + word s 1) (omega arith))) (λ d. q header l)))
+      (λ b. record { least = omega arith; most = omega arith; within = omega arith; inside = λ g. omega arith; version = λ e. record { headed = l; undefined = b; first = refl } }))
+    where
+      P : Scan → Type 0
+      P X = RightForm s (thenOk X f)
 
-  pub form-right : RightForm (length s) (form s)
+  pub form-right : RightForm s (form s)
   unfolding form lists files
   form-right =
       let v = versionOf s in
-      check-right (scanHeader s) _ header-right (λ root h0.
-      check-right (scanPath s (length s) root) _ (path-right (length s) root h0) (λ f h1.
-      check-right (scanList (folder-width v) Path (most-folders v) s (length s) f) _ (list-right (folder-width v) Path (most-folders v) (length s) f h1) (λ r h2.
-      check-right (scanList Byte Remapping remapping-limit s (length s) r) _ (list-right Byte Remapping remapping-limit (length s) r h2) (λ g h3.
-      check-right (scanCount (file-width v) 1 (most-files v) s (length s) g) _ (count-right (file-width v) 1 (most-files v) (length s) g h3) (λ a h4.
-      checked-walk (scanFiles (count (file-width v) s g) s (length s) a 0 0) _ (files-right (count (file-width v) s g) (length s) a 0 0 h4) (λ last h5.
-      check-right (scanEnd (length s) last) _ (end-right (length s) last h5) (λ _ h6. tt)))))))
+      header-right _ (λ root h0.
+      check-right s (scanPath s (length s) root) _ (path-right (length s) root h0) (λ f h1.
+      check-right s (scanList (folder-width v) Path (most-folders v) s (length s) f) _ (list-right (folder-width v) Path (most-folders v) (length s) f h1) (λ r h2.
+      check-right s (scanList Byte Remapping remapping-limit s (length s) r) _ (list-right Byte Remapping remapping-limit (length s) r h2) (λ g h3.
+      check-right s (scanCount (file-width v) 1 (most-files v) s (length s) g) _ (count-right (file-width v) 1 (most-files v) (length s) g h3) (λ a h4.
+      checked-walk s (scanFiles (count (file-width v) s g) s (length s) a 0 0) _ (files-right (count (file-width v) s g) (length s) a 0 0 h4) (λ last h5.
+      check-right s (scanEnd (length s) last) _ (end-right (length s) last h5) (λ _ h6. tt)))))))
 
 -- THE CONFLICTS
 abbrev pub Late : Checked → Type 0
@@ -298,7 +319,7 @@ pub numbers : (s : List ℕ) (n p : ℕ) → verdict s ≡ Refused n p → (1 �
 unfolding verdict
 numbers s n p e = rw e at (go (form s) (conflicts s) (form-right s) (conflicts-right s))
   where
-    go : (a b : Checked) → RightForm (length s) a → Late b → One (orElse a b)
+    go : (a b : Checked) → RightForm s a → Late b → One (orElse a b)
     go Ok Ok p q = tt
     go Ok (Refused n m) p q = let x = q .0 in (omega arith, q .1)
     go (Refused n m) b p q = let x = p .most in (p .least, omega arith)

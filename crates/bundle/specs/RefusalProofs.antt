@@ -43,7 +43,7 @@ pub formed-value : (s : List ℕ) → BytesInForm s → InForm (decode s)
 formed-value s f = rw (decoded s f) (f .in-form)
 
 pub early : (s : List ℕ) (n p : ℕ) → form s ≡ Refused n p → (1 ≤ n) × (n ≤ 6)
-early s n p e = let t : RightForm (length s) (Refused n p) = subst (RightForm (length s)) e (form-right s) in (t .least, t .most)
+early s n p e = let t : RightForm s (Refused n p) = subst (RightForm s) e (form-right s) in (t .least, t .most)
 
 pub late : (s : List ℕ) (n p : ℕ) → conflicts s ≡ Refused n p → 7 ≤ n
 late s n p e = let t : Late (Refused n p) = subst Late e (conflicts-right s) in t .0

@@ -21,7 +21,7 @@ use Rattle.bundle.specs.Read.{Bytes, form, verdict, refused, read}
 use Rattle.bundle.specs.ListLaws.{texts-each}
 use Rattle.bundle.specs.Free.{paths-each}
 use Rattle.bundle.specs.Answers.{both-ok, refused-told}
-use Rattle.bundle.specs.Numbers.{RightForm, form-right}
+use Rattle.bundle.specs.Numbers.{Undefined, RightForm, form-right}
 use Rattle.bundle.specs.Refusals.{BytesInForm, IsFolder, paths, pathAt, as-root, as-earlier, remappingOf, Refusal, twice, orphan, bad-context, bad-target, reserved, odd-name, same-remapping, bad-root, Twice, Orphan, Faultless}
 use Rattle.bundle.specs.RefusalLaws.{or-told, located-in, located-all, name-in, name-11, name-12}
 use Rattle.bundle.specs.declared.Checked.{Checked}
@@ -47,7 +47,15 @@ unformed s B = record { only = only; all = λ f. go (form s) refl f }
     go Ok e f = absurd (f (in-form-only s B e))
     go (Refused n p) e f = (n, (p, (early s n p e, rw e)))
 
--- 2 TELLS A VERSION THAT IS NOT DEFINED, whatever follows the header; an accepted bundle's is defined
+-- 2 EXACTLY WHERE THE VERSION IS NOT DEFINED, whatever follows the header; an accepted bundle's is defined
+pub version-only : (s : List ℕ) (p : ℕ) → verdict s ≡ Refused 2 p → Undefined s p
+unfolding verdict
+version-only s p e = go (or-told (form s) (conflicts s) e)
+  where
+    go : (form s ≡ Refused 2 p) ⊎ ((form s ≡ Ok) × (conflicts s ≡ Refused 2 p)) → Undefined s p
+    go (inl e) = let t : RightForm s (Refused 2 p) = subst (RightForm s) e (form-right s) in t .version refl
+    go (inr e) = let l = late s 2 p (e .1) in absurd (omega arith)
+
 pub undefined-refused : (s : List ℕ) → header ≤ length s → defined (versionOf s) ≡ false → verdict s ≡ Refused 2 0
 unfolding verdict form scanHeader
 undefined-refused s h e = rw (le-ltb (length s) header h, e)
@@ -86,7 +94,7 @@ unfolding verdict
 place-within s B n p e = go (or-told (form s) (conflicts s) e)
   where
     go : (form s ≡ Refused n p) ⊎ ((form s ≡ Ok) × (conflicts s ≡ Refused n p)) → (p ≤ length s) × ((n ≡ 1 → ⊥) → p < length s)
-    go (inl e) = let t : RightForm (length s) (Refused n p) = subst (RightForm (length s)) e (form-right s) in (t .within, t .inside)
+    go (inl e) = let t : RightForm s (Refused n p) = subst (RightForm s) e (form-right s) in (t .within, t .inside)
     go (inr e) = let l = refusal-inside s (conflict-refused s n p (in-form-only s B (e .0)) (e .1)) in (omega arith, λ f. l)
 
 -- ACCEPTED exactly where there is none of these
