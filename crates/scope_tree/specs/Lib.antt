@@ -5,8 +5,9 @@ pub mod Note
 pub mod Flat
 pub mod Form
 pub mod Trees
--- THEOREMS to cite: the register and the list of entries are one
+-- THEOREMS to cite: the register and the list of entries are one; what bounds a walk through the index
 pub mod Same
+pub mod Routes
 -- LAWS, for the code's proofs and for the theorems of scopes
 pub mod Laws
 pub mod Sim

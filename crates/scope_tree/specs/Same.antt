@@ -170,7 +170,7 @@ known-more ys k = record { entry = k .entry; has = has-more ys (k .has); shows =
 
 origin-map : {h : Head} (P Q : ℕ → Head → Type 0) → ((i : ℕ) (g : Head) → P i g → Q i g) → Origin P h → Origin Q h
 origin-map P Q f (made e) = made e
-origin-map P Q f (taken i g e k m v p) = taken i g e k m v (f i g p)
+origin-map P Q f (taken i g e a v p) = taken i g e a v (f i g p)
 
 home-more : {l : List Entry} {j s : ℕ} (ys : List Entry) → Home l j s → Home (l ++ ys) j s
 home-more ys (at-top e) = at-top e

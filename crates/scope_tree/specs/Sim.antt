@@ -5,12 +5,12 @@ use mathlib.Core.Bool.{Bool, true, false, cond, not, _||_, _&&_}
 use mathlib.Core.List.{List, [], _∷_}
 use lib.Dec.{ltb}
 use Rattle.names.specs.declared.Name.{Name}
-use Rattle.scope_tree.specs.Step.{declared, used, Head, Elem, Call, enter, exit, alias, enum, function, use′, get-alias, get-function, bad, Answer, Found, missing, got, Model, Tried, done, fail, is-got, told-mark, shared, any-main, is-done, number, after, head, bind, held, full, deep, pass, nav, import, attempt, judge, element, stage, use-of, fresh, settle, close, step, run}
+use Rattle.scope_tree.specs.Step.{declared, used, Head, Alike, copy-of, Elem, Call, enter, exit, alias, enum, function, use′, get-alias, get-function, bad, Answer, Found, missing, got, Model, Tried, done, fail, is-got, told-mark, shared, any-main, is-done, number, after, head, bind, held, full, deep, pass, nav, import, attempt, judge, element, stage, use-of, fresh, settle, close, step, run}
 
 -- an entry's origin: a declaration, or a public entry of that kind and mark
 pub data Origin (K : ℕ → Head → Type 0) (h : Head) : Type 0 where
   made : h .came ≡ declared → Origin K h
-  taken : (i : ℕ) (g : Head) → h .came ≡ used i → g .kind ≡ h .kind → g .mark ≡ h .mark → g .vis ≡ true → K i g → Origin K h
+  taken : (i : ℕ) (g : Head) → h .came ≡ used i → Alike g h → g .vis ≡ true → K i g → Origin K h
 
 -- both found nothing, or the same entry with insides that correspond
 pub data SameFound {C D : Type 0} (S : C → D → Type 0) (K : ℕ → Head → Type 0) : Found C → Found D → Type 0 where
@@ -47,8 +47,8 @@ pub record Next {X C Y D : Type 0} (R : X → Y → Type 0) (S : Y → C → D �
   pub rel : R x' y'
   pub stays : (c : C) (d : D) → S y c d → S y' c d
 
-abbrev Alike : {X Y : Type 0} → (X → Y → Type 0) → X × Answer → Y × Answer → Type 0
-Alike R p q = R (p .0) (q .0) × (p .1 ≡ q .1)
+abbrev Agree : {X Y : Type 0} → (X → Y → Type 0) → X × Answer → Y × Answer → Type 0
+Agree R p q = R (p .0) (q .0) × (p .1 ≡ q .1)
 
 module _ {X C Y D : Type 0} {M : Model X C} {N : Model Y D} {R : X → Y → Type 0} {S : Y → C → D → Type 0} {K : Y → ℕ → Head → Type 0} (Z : Simulation M N R S K) where
   same-got : {y : Y} {f : Found C} {g : Found D} → SameFound (S y) (K y) f g → is-got f ≡ is-got g
@@ -83,12 +83,12 @@ module _ {X C Y D : Type 0} {M : Model X C} {N : Model Y D} {R : X → Y → Typ
     where
       go : (b : Bool) → h .vis ≡ b
           → SameTried (Next R S y)
-          (cond b (cond (held N y (h .kind) l) (fail 45) (done (M .add x (head (h .kind) l v (h .mark) (used i)) c))) (fail 44))
-          (cond b (cond (held N y (h .kind) l) (fail 45) (done (N .add y (head (h .kind) l v (h .mark) (used i)) d))) (fail 44))
+          (cond b (cond (held N y (h .kind) l) (fail 45) (done (M .add x (copy-of i h l v) c))) (fail 44))
+          (cond b (cond (held N y (h .kind) l) (fail 45) (done (N .add y (copy-of i h l v) d))) (fail 44))
       go true e =
           cond-known (SameTried (Next R S y)) (held N y (h .kind) l) (λ t. fails)
           (λ t. dones (record {
-            rel = Z .add-ok x y _ c d r t (taken i h refl refl refl e kn) s;
+            rel = Z .add-ok x y _ c d r t (taken i h refl (refl, refl) e kn) s;
             stays = λ c' d' s'. Z .add-stays y _ d c' d' s';
           }))
       go false e = fails
@@ -149,24 +149,24 @@ module _ {X C Y D : Type 0} {M : Model X C} {N : Model Y D} {R : X → Y → Typ
       (bind-ok (nav-ok y (shared (N .names y) p) 0 p _ _ (Z .root-ok x y r)) (λ c d s. cond-both (SameTried R) (any-main es) fails (stage-ok es x y c d v r s)))
       fails)
 
-  settle-ok : (x : X) (y : Y) (a : Tried X) (b : Tried Y) → R x y → SameTried R a b → Alike R (settle M x a) (settle N y b)
+  settle-ok : (x : X) (y : Y) (a : Tried X) (b : Tried Y) → R x y → SameTried R a b → Agree R (settle M x a) (settle N y b)
   settle-ok x y a b r (dones {a = x'} {b = y'} h) =
-      rw (Z .count-ok x' y' h, Z .names-ok x' y' h) (cond-both (Alike R) (full N y' || deep N y') (r, refl) (h, refl))
+      rw (Z .count-ok x' y' h, Z .names-ok x' y' h) (cond-both (Agree R) (full N y' || deep N y') (r, refl) (h, refl))
   settle-ok x y a b r fails = (r, refl)
 
   fresh-ok : (x : X) (y : Y) (k : ℕ) (n : Name) (num : ℕ) (x' : X) (y' : Y) → R x y → (held N y k n ≡ false → R x' y') → SameTried R (fresh M x k n num x') (fresh N y k n num y')
   fresh-ok x y k n num x' y' r r' = rw (same-held x y r k n) (cond-known (SameTried R) (held N y k n) (λ e. fails) (λ e. dones (r' e)))
 
   item-ok : (x : X) (y : Y) (k : ℕ) (n : Name) (num : ℕ) (v : Bool) (m : ℕ) → R x y
-      → Alike R (settle M x (fresh M x k n num (M .add x (head k n v m declared) (M .empty)))) (settle N y (fresh N y k n num (N .add y (head k n v m declared) (N .empty))))
+      → Agree R (settle M x (fresh M x k n num (M .add x (head k n v m declared) (M .empty)))) (settle N y (fresh N y k n num (N .add y (head k n v m declared) (N .empty))))
   item-ok x y k n num v m r =
       settle-ok x y _ _ r (fresh-ok x y k n num _ _ r (λ e. Z .add-ok x y _ _ _ r e (made refl) (Z .empty-ok y)))
 
-  close-both : (x : X) (y : Y) (ns : List Name) → R x y → Alike R (close M x ns) (close N y ns)
+  close-both : (x : X) (y : Y) (ns : List Name) → R x y → Agree R (close M x ns) (close N y ns)
   close-both x y [] r = (r, refl)
   close-both x y (n ∷ ns) r = (Z .close-ok x y r, refl)
 
-  pub step-ok : (x : X) (y : Y) (c : Call) → R x y → Alike R (step M x c) (step N y c)
+  pub step-ok : (x : X) (y : Y) (c : Call) → R x y → Agree R (step M x c) (step N y c)
   unfolding step
   step-ok x y (enter n v m) r = settle-ok x y _ _ r (fresh-ok x y 3 n 47 _ _ r (λ e. Z .open-ok x y _ r refl refl e))
   step-ok x y exit r = rw (Z .names-ok x y r) (close-both x y (N .names y) r)

@@ -115,6 +115,14 @@ first-told a b c = cond (eqb a 43) (cond (eqb b 43) c b) a
 abbrev pub head : ℕ → Name → Bool → ℕ → Came → Head
 head k n v m c = record { kind = k; name = n; vis = v; mark = m; came = c }
 
+-- what a use adds for entry i, under a local name and the use's visibility
+abbrev pub copy-of : ℕ → Head → Name → Bool → Head
+copy-of i h l v = head (h .kind) l v (h .mark) (used i)
+
+-- what an entry and its copies have in common
+abbrev pub Alike : Head → Head → Type 0
+Alike g h = (g .kind ≡ h .kind) × (g .mark ≡ h .mark)
+
 abbrev pub bind : {A B : Type 0} → Tried A → (A → Tried B) → Tried B
 bind (done a) f = f a
 bind (fail n) f = fail n
@@ -145,7 +153,7 @@ module _ {X C : Type 0} (M : Model X C) where
   abbrev pub import : Bool → Name → X → Found C → Tried X
   import v l x missing = fail 43
   import v l x (got i h c) =
-      cond (h .vis) (cond (held x (h .kind) l) (fail 45) (done (M .add x (head (h .kind) l v (h .mark) (used i)) c))) (fail 44)
+      cond (h .vis) (cond (held x (h .kind) l) (fail 45) (done (M .add x (copy-of i h l v) c))) (fail 44)
 
   abbrev pub attempt : C → Bool → Elem → ℕ → X → Tried X
   attempt c v e k x = import v (e .local) x (M .find c k (e .name))

@@ -10,7 +10,7 @@ use lib.Dec.{eqb}
 use lib.ListN.{length, take, drop, getD, length-append, length-take, length-drop, take-append-drop, drop-of-length-le}
 use lib.Seq.{drop-append-le, getD-at, length-take-le}
 use borrow.Author.Tests.{eq-eqb}
-use Rattle.scope_tree.specs.Step.{declared, used, Head, Call}
+use Rattle.scope_tree.specs.Step.{Alike, declared, used, Head, Call}
 use Rattle.scope_tree.specs.Register.{Scope, end, node, registered, tree-of}
 use Rattle.scope_tree.specs.Flat.{Body, own, copy, Entry, none, flattened, build, within, pasts, write}
 use Rattle.scope_tree.specs.Laws.{Has, Times, copied}
@@ -28,7 +28,7 @@ pub data In (i : ℕ) (h : Head) : Scope → Type 0 where
 -- goes from it to its original, not through the module that brought it"
 pub data Chain (T : Scope) : ℕ → Head → Type 0 where
   last : {i : ℕ} {h : Head} → In i h T → h .vis ≡ true → h .came ≡ declared → Chain T i h
-  link : {i j : ℕ} {h g : Head} → In i h T → h .vis ≡ true → h .came ≡ used j → g .kind ≡ h .kind → g .mark ≡ h .mark → Chain T j g → Chain T i h
+  link : {i j : ℕ} {h g : Head} → In i h T → h .vis ≡ true → h .came ≡ used j → Alike g h → Chain T j g → Chain T i h
 
 -- WHAT THE WRITTEN-OUT TREE HOLDS
 module _ (past : ℕ → Scope) (e : Entry) (back : List Entry) (s : ℕ) (q : e .scope ≡ s) where
@@ -129,24 +129,24 @@ module _ (l : List Entry) (sd : Sound l) where
     where
       go : Origin (λ j g. (j < i) × Known l j g) h → ((j : ℕ) (g : Head) → j < n → Known l j g → g .vis ≡ true → Chain (write l 0) j g) → Chain (write l 0) i h
       go (made e) c = last (held l sd k) v e
-      go (taken j g e kd mk v' p) c = link (held l sd k) v e kd mk (c j g (omega (arith, p .0)) (p .1) v')
+      go (taken j g e al v' p) c = link (held l sd k) v e al (c j g (omega (arith, p .0)) (p .1) v')
 
-  chain-of : (i j : ℕ) (h : Head) → Known l i h → h .came ≡ used j → (g : Head) × (g .kind ≡ h .kind) × (g .mark ≡ h .mark) × Chain (write l 0) j g
+  chain-of : (i j : ℕ) (h : Head) → Known l i h → h .came ≡ used j → (g : Head) × Alike g h × Chain (write l 0) j g
   chain-of i j h k u = go (subst (Origin (λ j g. (j < i) × Known l j g)) (k .shows) (sd .origin i (k .entry) (k .has)))
     where
-      go : Origin (λ j g. (j < i) × Known l j g) h → (g : Head) × (g .kind ≡ h .kind) × (g .mark ≡ h .mark) × Chain (write l 0) j g
+      go : Origin (λ j g. (j < i) × Known l j g) h → (g : Head) × Alike g h × Chain (write l 0) j g
       go (made e) = let z : _≡_ {A = ℕ} 0 1 = cc in absurd (omega arith)
-      go (taken j' g e kd mk v p) =
+      go (taken j' g e al v p) =
           let same : j' ≡ j = cc in
-          (g, kd, mk, subst (λ (x : ℕ). Chain (write l 0) x g) same (chain (suc j') j' g (omega arith) (p .1) v))
+          (g, al, subst (λ (x : ℕ). Chain (write l 0) x g) same (chain (suc j') j' g (omega arith) (p .1) v))
 
 -- THE THEOREM: whatever the calls, each imported entry of the register's tree has its chain
 pub chains : (cs : List Call) (i j : ℕ) (h : Head) → In i h (tree-of (registered cs .0)) → h .came ≡ used j
-    → (g : Head) × (g .kind ≡ h .kind) × (g .mark ≡ h .mark) × Chain (tree-of (registered cs .0)) j g
+    → (g : Head) × Alike g h × Chain (tree-of (registered cs .0)) j g
 chains cs i j h m u =
     let l = flattened cs .0 .entries in
     let sd = alike cs .sound in
-    subst (λ (T : Scope). In i h T → (g : Head) × (g .kind ≡ h .kind) × (g .mark ≡ h .mark) × Chain T j g) (same-tree cs)
+    subst (λ (T : Scope). In i h T → (g : Head) × Alike g h × Chain T j g) (same-tree cs)
     (λ m'. chain-of l sd i j h (known (suc (length l)) l (omega arith) (sd .times) i h 0 m') u) m
 
 -- a public entry of the tree has its chain

@@ -3,7 +3,7 @@ use Prim.Native.Nat.{ℕ}
 use mathlib.Core.Path.{_≡_, sym, subst, _∙_}
 use mathlib.Core.Bool.{true}
 use mathlib.Core.List.{List}
-use Rattle.scope_tree.specs.Step.{Head, used, Call, Answer}
+use Rattle.scope_tree.specs.Step.{Alike, Head, used, Call, Answer}
 use Rattle.scope_tree.specs.Register.{Scope, Register, registered, tree-of}
 use Rattle.scope_tree.specs.Flat.{Flat, flattened, write}
 use Rattle.scope_tree.specs.Same.{same-answers, same-tree}
@@ -24,7 +24,7 @@ pub record Demand (cs : List Call) (f : Flat) (as′ : List Answer) : Type 0 whe
   pub names : Once (write (f .entries) 0)
   -- what a use imported has its chain
   pub chain : (i j : ℕ) (h : Head) → In i h (write (f .entries) 0) → h .came ≡ used j
-      → (g : Head) × (g .kind ≡ h .kind) × (g .mark ≡ h .mark) × Chain (write (f .entries) 0) j g
+      → (g : Head) × Alike g h × Chain (write (f .entries) 0) j g
   -- "from the one its element names": whatever an accepted use of the list added, at its place, is a public entry that an element of it
   -- names in the module of its path, under the local name, with its mark and the use's visibility; the tree holds it, and a chain starts
   -- at the entry named
@@ -39,7 +39,7 @@ demand cs =
       entry = λ i h g a b. one-entry cs i h g (subst (In i h) (same-tree cs) a) (subst (In i g) (same-tree cs) b);
       names = subst Once e (once cs);
       chain = λ i j h a u.
-          subst (λ (T : Scope). (g : Head) × (g .kind ≡ h .kind) × (g .mark ≡ h .mark) × Chain T j g) e (chains cs i j h (subst (In i h) (same-tree cs) a) u);
+          subst (λ (T : Scope). (g : Head) × Alike g h × Chain T j g) e (chains cs i j h (subst (In i h) (same-tree cs) a) u);
       imports = λ u.
           let as′ = flattened cs .1 in
           let w : tree-of (register-of cs as′) ≡ write (flattened cs .0 .entries) 0 = sym (written cs) in

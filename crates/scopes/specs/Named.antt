@@ -3,7 +3,7 @@ use Prim.Native.Nat.{ℕ}
 use mathlib.Core.Path.{_≡_, refl, sym, _∙_}
 use mathlib.Core.Bool.{Bool, true, false, cond, not, _&&_}
 use mathlib.Core.List.{List, [], _∷_, List·Memᴰ, List·Memᴰ·head, List·Memᴰ·tail}
-use Rattle.scope_tree.specs.Step.{used, Head, head, Elem, Found, missing, got, held}
+use Rattle.scope_tree.specs.Step.{copy-of, used, Head, head, Elem, Found, missing, got, held}
 use Rattle.scope_tree.specs.Register.{Scope, end, node, append, find, Register, register}
 use Rattle.scope_tree.specs.Laws.{append-end}
 use Rattle.scope_tree.specs.Note.{bring, bring-all}
@@ -17,7 +17,7 @@ pub record Named (c : Scope) (v : Bool) (es : List Elem) (h : Head) (b : Scope) 
   pub shows : Head
   pub found : find c kind (elem .name) ≡ got number shows b
   pub visible : shows .vis ≡ true
-  pub is : h ≡ head (shows .kind) (elem .local) v (shows .mark) (used number)
+  pub is : h ≡ copy-of number shows (elem .local) v
 
 -- P of each entry of a module: its number, what it shows, what is inside it
 abbrev pub Each : (ℕ → Head → Scope → Type 0) → Scope → Type 0
@@ -65,11 +65,11 @@ module _ (c : Scope) (v : Bool) where
       go missing q = nothing
       go (got i h b) q = pick (h .vis) (held register r (h .kind) (e .local)) refl
         where
-          pick : (t u : Bool) → h .vis ≡ t → Added (λ i. Named c v es) r (cond (t && not u) (register .add r (head (h .kind) (e .local) v (h .mark) (used i)) b) r)
+          pick : (t u : Bool) → h .vis ≡ t → Added (λ i. Named c v es) r (cond (t && not u) (register .add r (copy-of i h (e .local) v) b) r)
           pick true true p = nothing
           pick true false p =
               record {
-                added = node (r .total) (head (h .kind) (e .local) v (h .mark) (used i)) b end;
+                added = node (r .total) (copy-of i h (e .local) v) b end;
                 inner = refl;
                 outer = refl;
                 each = (record { elem = e; listed = m; kind = k; number = i; shows = h; found = q; visible = p; is = refl }, tt);

@@ -9,7 +9,7 @@ use lib.Dec.{eqb, ltb, leb}
 use lib.ListN.{length, getD, length-append}
 use Rattle.names.specs.declared.Name.{Name}
 use Rattle.names.specs.Packed.{packed}
-use Rattle.scope_tree.specs.Step.{used, Head, Elem, Call, enter, alias, enum, function, use′, get-alias, get-function, bad, Answer, ok, refused, Found, missing, got, Model, Tried, done, fail, shared, any-main, after, head, bind, held, full, deep, nav, element, stage, use-of, settle, step}
+use Rattle.scope_tree.specs.Step.{copy-of, used, Head, Elem, Call, enter, alias, enum, function, use′, get-alias, get-function, bad, Answer, ok, refused, Found, missing, got, Model, Tried, done, fail, shared, any-main, after, head, bind, held, full, deep, nav, element, stage, use-of, settle, step}
 use Rattle.scope_tree.specs.Note.{bring, bring-all, noted, use-bring}
 use Rattle.names.specs.Identifier.{isIdentifier}
 use Rattle.scope_tree.specs.Register.{Scope, Register, register}
@@ -165,7 +165,7 @@ module _ {X C : Type 0} (M : Model X C) (counts : (x : X) (h : Head) (c : C) →
   bring-counts v l missing x = inl refl
   bring-counts v l (got i h c) x = go (h .vis && not (held M x (h .kind) l))
     where
-      go : (t : Bool) → (cond t (M .add x (head (h .kind) l v (h .mark) (used i)) c) x ≡ x) ⊎ (M .count (cond t (M .add x (head (h .kind) l v (h .mark) (used i)) c) x) ≡ suc (M .count x))
+      go : (t : Bool) → (cond t (M .add x (copy-of i h l v) c) x ≡ x) ⊎ (M .count (cond t (M .add x (copy-of i h l v) c) x) ≡ suc (M .count x))
       go true = inr (counts x _ c)
       go false = inl refl
 
