@@ -27,10 +27,16 @@ trap 'rm -rf "$work"' EXIT
 "$bin/differ" assemble "$seed" "$count"
 "$bin/scopes-diff" "$seed" "$count"
 
-# The whole run: every printed line, and the image.
-"$bin/generate" "$seed" "$count" >"$work/bundles"
-"$bin/oracle" --stream --image <"$work/bundles" >"$work/expected"
-target/bin/link_vectors <"$work/bundles" >"$work/found"
-cmp "$work/expected" "$work/found"
+# The whole run: every printed line, and the image; then the same of bundles that reach to the limits.
+whole() {
+  "$bin/generate" "$@" >"$work/bundles"
+  "$bin/oracle" --stream --image <"$work/bundles" >"$work/expected"
+  target/bin/link_vectors <"$work/bundles" >"$work/found"
+  cmp "$work/expected" "$work/found"
+}
+whole "$seed" "$count"
 echo "link: $count bundles, printed lines and images the same"
+far=$((count / 5 + 1))
+whole --far "$seed" "$far"
+echo "link: $far bundles that reach to the limits, printed lines and images the same"
 echo "no differences"

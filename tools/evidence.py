@@ -1,6 +1,7 @@
 #!/usr/bin/env python3
 """Holds docs/EVIDENCE.md to the tree: every linked file is there, every name after a link to a file of specs is declared in it, every
-must-fail edit is linked, every function that is named has a body, every crate of a command is listed.
+must-fail edit is linked, every function that is named has a body, every crate of a command is listed, every row belongs to a section of
+docs/SPECIFICATION.md and every section has rows.
 
 usage: tools/evidence.py [ROOT]          status 1 and a line for each thing that is not there
 """
@@ -23,6 +24,26 @@ def declared(path):
         if m:
             words.add(m.group(1))
     return words
+
+
+def sections(root, text):
+    """What is wrong with the table of sections: ROW, or ROW to ROW, in a line for each section."""
+    spec = open(os.path.join(root, "docs", "SPECIFICATION.md"), encoding="utf-8").read()
+    headings = set(re.findall(r"^## (\d+\. .+)$", spec, re.M))
+    rows = re.findall(r"^\| ([A-Z]\d+) \|", text, re.M)
+    named, wrong = set(), []
+    for title, cells in re.findall(r"^\| (\d+\. [^|]+|of none: [^|]+) \| ([^|]+) \|$", text, re.M):
+        headings.discard(title)
+        for part in cells.split(", "):
+            ends = part.strip().split(" to ")
+            there = [rows.index(end) for end in ends if end in rows]
+            if len(there) != len(ends):
+                wrong.append("section %s names no row %s" % (title, part))
+                continue
+            named.update(rows[there[0]:there[-1] + 1])
+    wrong.extend("no row for section %s" % title for title in sorted(headings))
+    wrong.extend("row %s belongs to no section" % row for row in rows if row not in named)
+    return wrong
 
 
 def main(argv):
@@ -56,6 +77,7 @@ def main(argv):
     listed = {line.split(":")[0].strip() for line in open(os.path.join(root, "crates.txt"), encoding="utf-8") if ":" in line}
     for crates in COMMAND.findall(text):
         wrong.extend("no crate %s in a command" % c for c in crates.split() if c not in listed)
+    wrong.extend(sections(root, text))
     for line in wrong:
         print("EVIDENCE: " + line)
     print("EVIDENCE: %d names, %d edits, %d rows" % (names, len(edits), len(re.findall(r"^\| [A-Z]\d+ \|", text, re.M))))

@@ -6,5 +6,6 @@ pub mod LinkTold
 pub mod TreeTold
 -- THEOREMS to cite
 pub mod Theorems
+pub mod TreeTheorems
 -- LAWS for the code
 pub mod LinkLaws

@@ -54,8 +54,11 @@ fn generated_bundles() {
         .unwrap_or(3_000);
     let mut buffers = Box::new(Buffers::new());
     let mut linked = 0;
-    for index in 0..count {
-        let bundle = bundle_generate::bundle(5, index, None);
+    let all = (0..count).flat_map(|index| {
+        let near = bundle_generate::bundle(5, index, None);
+        [near, bundle_generate::far_bundle(5, index)]
+    });
+    for bundle in all {
         let expected = run(&bundle, 100_000);
         if expected.too_large {
             continue;
@@ -65,5 +68,5 @@ fn generated_bundles() {
         assert_eq!(image, expected.image);
         linked += u64::from(image.is_some());
     }
-    assert!(linked > count / 4);
+    assert!(linked > count / 2);
 }

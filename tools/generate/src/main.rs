@@ -3,17 +3,19 @@
 use std::io::{BufWriter, Read, Write};
 use std::process::ExitCode;
 
-use bundle_generate::{bundle, case, link, shape, stats, Family, FAMILIES};
+use bundle_generate::{bundle, case, far_bundle, link, shape, stats, Family, Reach, FAMILIES, FAR};
 
 const USAGE: &str = "\
 usage: generate SEED COUNT [--family NAME]   a stream of bundles on standard output
+       generate --far SEED COUNT             the same of families that reach to the limits
        generate --list-families              their names
        generate --shape NAME UNITS           one bundle whose imports are a chain, ring, star,
                                              diamonds or next-four
        generate --case NAME                  one bundle of those that `bench` measures
        generate --answers [--image]          a stream of bundles in, the model's answers out
        generate --discover                   the same, of discovery and order alone
-       generate --stats                      answers in, a table of their numbers out";
+       generate --stats                      answers in, a table of their numbers out
+       generate --reach                      a stream of bundles in, a table of their sizes out";
 
 fn main() -> ExitCode {
     let arguments: Vec<String> = std::env::args_os()
@@ -23,15 +25,22 @@ fn main() -> ExitCode {
     let arguments: Vec<&str> = arguments.iter().map(String::as_str).collect();
     let result = match arguments[..] {
         ["--list-families"] => list(),
+        ["--reach"] => reach(),
         ["--stats"] => stats(std::io::stdin().lock()).and_then(|table| print(&table)),
         ["--shape", name, units] => one_shape(name, units),
         ["--case", name] => one_case(name),
         ["--answers"] => answers(|bytes| answer(bytes, false)),
         ["--answers", "--image"] => answers(|bytes| answer(bytes, true)),
         ["--discover"] => answers(|bytes| link::discover(bytes).print()),
-        [seed, count] => stream(seed, count, None),
+        [seed, count] => stream(seed, count, |seed, index| bundle(seed, index, None)),
+        ["--far", seed, count] => stream(seed, count, far_bundle),
         [seed, count, "--family", name] | ["--family", name, seed, count] => {
-            stream(seed, count, Some(name))
+            match families().find(|family| family.name == name) {
+                Some(family) => {
+                    stream(seed, count, |seed, index| bundle(seed, index, Some(family)))
+                }
+                None => usage("family"),
+            }
         }
         _ => usage("arguments"),
     };
@@ -56,28 +65,24 @@ fn print(text: &str) -> std::io::Result<()> {
     out.flush()
 }
 
+fn families() -> impl Iterator<Item = &'static Family> {
+    FAMILIES.iter().chain(FAR)
+}
+
 fn list() -> std::io::Result<()> {
-    let lines: String = FAMILIES
-        .iter()
+    let lines: String = families()
         .map(|family| format!("{:<16} {}\n", family.name, family.about))
         .collect();
     print(&lines)
 }
 
-fn stream(seed: &str, count: &str, name: Option<&str>) -> std::io::Result<()> {
+fn stream(seed: &str, count: &str, make: impl Fn(u64, u64) -> Vec<u8>) -> std::io::Result<()> {
     let (Ok(seed), Ok(count)) = (seed.parse::<u64>(), count.parse::<u64>()) else {
         return usage("seed or count");
     };
-    let family: Option<&Family> = match name {
-        None => None,
-        Some(name) => match FAMILIES.iter().find(|family| family.name == name) {
-            None => return usage("family"),
-            family => family,
-        },
-    };
     let mut out = BufWriter::with_capacity(1 << 18, std::io::stdout().lock());
     for index in 0..count {
-        let bytes = bundle(seed, index, family);
+        let bytes = make(seed, index);
         let length = u32::try_from(bytes.len()).expect("a bundle of a few thousand bytes");
         out.write_all(&length.to_be_bytes())?;
         out.write_all(&bytes)?;
@@ -116,15 +121,33 @@ fn answer(bytes: &[u8], with_image: bool) -> String {
 
 /// What the model says of each bundle of a stream, each answer followed by a line `--`.
 fn answers(answer: impl Fn(&[u8]) -> String) -> std::io::Result<()> {
-    let mut input = std::io::BufReader::with_capacity(1 << 18, std::io::stdin().lock());
     let mut out = BufWriter::with_capacity(1 << 18, std::io::stdout().lock());
+    each_bundle(|bytes| {
+        out.write_all(answer(bytes).as_bytes())?;
+        out.write_all(b"--\n")
+    })?;
+    out.flush()
+}
+
+fn reach() -> std::io::Result<()> {
+    let mut reach = Reach::default();
+    each_bundle(|bytes| {
+        reach.note(bytes);
+        Ok(())
+    })?;
+    print(&reach.table())
+}
+
+/// Each bundle of the stream on standard input.
+fn each_bundle(mut visit: impl FnMut(&[u8]) -> std::io::Result<()>) -> std::io::Result<()> {
+    let mut input = std::io::BufReader::with_capacity(1 << 18, std::io::stdin().lock());
     let mut bytes = Vec::new();
     loop {
         let mut length = [0; 4];
         bytes.clear();
         input.by_ref().take(4).read_to_end(&mut bytes)?;
         if bytes.is_empty() {
-            return out.flush();
+            return Ok(());
         }
         if bytes.len() < length.len() {
             return Err(std::io::ErrorKind::UnexpectedEof.into());
@@ -132,7 +155,6 @@ fn answers(answer: impl Fn(&[u8]) -> String) -> std::io::Result<()> {
         length.copy_from_slice(&bytes);
         bytes.resize(u32::from_be_bytes(length) as usize, 0);
         input.read_exact(&mut bytes)?;
-        out.write_all(answer(&bytes).as_bytes())?;
-        out.write_all(b"--\n")?;
+        visit(&bytes)?;
     }
 }

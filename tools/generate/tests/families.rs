@@ -4,7 +4,7 @@
 use std::collections::BTreeMap;
 
 use bundle_format::{limits, Body, Bundle, Item};
-use bundle_generate::{bundle, link, stats, Family, FAMILIES, LARGEST};
+use bundle_generate::{bundle, far_bundle, link, stats, Family, Reach, FAMILIES, FAR, LARGEST};
 
 fn family(name: &str) -> &'static Family {
     FAMILIES.iter().find(|family| family.name == name).unwrap()
@@ -37,10 +37,27 @@ fn every_number_often() {
 
 #[test]
 fn no_tree_too_large() {
-    for family in FAMILIES {
+    for family in FAMILIES.iter().chain(FAR) {
         for index in 0..400 {
             let run = link::run(&bundle(3, index, Some(family)), LARGEST);
             assert!(!run.too_large, "{} {index}", family.name);
+        }
+    }
+}
+
+/// Rings of up to 64 files, over 900 entries, 32 elements, many folders named `x.simf`, and copies of copies: every range of sizes.
+#[test]
+fn far_reaches() {
+    let mut reach = Reach::default();
+    for index in 0..3_000 {
+        reach.note(&far_bundle(2, index));
+    }
+    let table = reach.table();
+    for row in table.lines().skip(4) {
+        let ranges = row.split('|').skip(2).take(4);
+        for range in ranges {
+            let count: u64 = range.split(": ").nth(1).unwrap().trim().parse().unwrap();
+            assert!(count >= 15, "{row}");
         }
     }
 }

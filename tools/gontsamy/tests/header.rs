@@ -83,6 +83,8 @@ fn constants(text: &str, outside: &BTreeMap<String, usize>) -> BTreeMap<String, 
 /// The constants of the proved crates by their paths, `bundle::limits::FILES`; a plain number each.
 fn limits() -> BTreeMap<String, usize> {
     let mut limits = BTreeMap::new();
+    // A constant by the path of the crate that passes it on, and by its own.
+    let mut passed = Vec::new();
     for folder in std::fs::read_dir(root().join("crates")).unwrap() {
         let folder = folder.unwrap().path();
         let Ok(files) = std::fs::read_dir(folder.join("src")) else {
@@ -93,6 +95,15 @@ fn limits() -> BTreeMap<String, usize> {
             let file = file.unwrap().path();
             let module = file.file_stem().unwrap().to_str().unwrap();
             let text = std::fs::read_to_string(&file).unwrap();
+            for line in text.lines() {
+                let path = line
+                    .strip_prefix("pub use ")
+                    .and_then(|rest| rest.strip_suffix(';'));
+                if let Some(path) = path {
+                    let name = path.rsplit("::").next().unwrap_or_default();
+                    passed.push((format!("{krate}::{name}"), path.to_string()));
+                }
+            }
             for (name, value) in constants(&text, &BTreeMap::new()) {
                 let path = match module {
                     "lib" | "main" => format!("{krate}::{name}"),
@@ -100,6 +111,11 @@ fn limits() -> BTreeMap<String, usize> {
                 };
                 limits.insert(path, value);
             }
+        }
+    }
+    for (path, own) in passed {
+        if let Some(&value) = limits.get(&own) {
+            limits.insert(path, value);
         }
     }
     limits

@@ -1,6 +1,7 @@
 //! The families of bundles.
 
 mod damage;
+mod far;
 mod faults;
 mod limits;
 mod valid;
@@ -20,8 +21,8 @@ pub struct Family {
 }
 
 macro_rules! families {
-    ($($name:literal $weight:literal $measured:literal $make:path, $about:literal;)*) => {
-        pub const FAMILIES: &[Family] = &[$(Family {
+    ($list:ident: $($name:literal $weight:literal $measured:literal $make:path, $about:literal;)*) => {
+        pub const $list: &[Family] = &[$(Family {
             name: $name,
             about: $about,
             weight: $weight,
@@ -31,7 +32,7 @@ macro_rules! families {
     };
 }
 
-families! {
+families! { FAMILIES:
     "projects" 900 false valid::projects, "several files, some libraries and inline modules";
     "packages" 500 false valid::packages, "nested contexts, equal names, libraries inside packages";
     "contexts" 500 false valid::contexts, "many remappings over nested folders";
@@ -68,6 +69,13 @@ families! {
     "resized" 200 false damage::resized, "an item's end moved, the lengths around it mended";
     "spliced" 400 true damage::spliced, "pieces of two bundles";
     "noise" 100 false damage::noise, "any bytes";
+}
+
+families! { FAR:
+    "far-rings" 1 false far::rings, "rings of 2 to 64 files";
+    "far-entries" 1 false far::entries, "trees of up to 1,024 entries, uses of 1 to 32 elements";
+    "simf-folders" 1 true far::simf_folders, "folders of which half are named *.simf";
+    "far-doubling" 1 false valid::doubling, "a module that imports itself up to ten times";
 }
 
 fn encode(bundle: Bundle) -> Vec<u8> {
