@@ -12,7 +12,7 @@ use mathlib.Core.Logic.{_⊎_, inl, inr, ⊎-elim}
 use borrow.Author.Tests.{lt-ltb, le-ltb, ltb-true, ltb-false}
 use Rattle.names.specs.Decimal.{unitName}
 use Rattle.bundle.specs.Bundle.{Text, Items, File, Bundle}
-use Rattle.bundle.specs.Limits.{depth-limit, segment-limit, use-kind, module-kind, ignored-kind}
+use Rattle.bundle.specs.Limits.{file-size, depth-limit, segment-limit, use-kind, module-kind, ignored-kind}
 use Rattle.bundle.specs.Scan.{byte, text}
 use Rattle.bundle.specs.Stand.{Bytes}
 use Rattle.bundle.specs.Decode.{after, afterLength, fileAt, itemsAt, decode}
@@ -270,7 +270,7 @@ module _ (s files ids : List ℕ) (units : ℕ) (x : OrderGiven s files ids unit
 
     -- the next one is
     pub yields-unit : (place : ℕ) → ((d : File) → getD files u 0 < length (decode s .files) → getD (decode s .files) (getD files u 0) d ≡ fileAt s place) → place < 2 ^ 26
-        → (end at : ℕ) → itemsAt depth-limit s end at ≡ fileAt s place .items → end ≤ place + 66000
+        → (end at : ℕ) → itemsAt depth-limit s end at ≡ fileAt s place .items → end ≤ place + file-size
         → Yields s ids units c (record {
           step = step.Enter true 0;
           cursor = record { unit = c .unit + 1; id = u; file = place; at = at; end = end; depth = 1; marks = set (c .marks) 0 0; ends = c .ends };
@@ -407,7 +407,7 @@ module _ (s ids : List ℕ) (units : ℕ) (c : Cursor) (st : Stands s units c) (
 
     -- a module
     module _ (q : kind ≡ module-kind) (end' at' : ℕ)
-        (inner : (d e : ℕ) → at < e → kindOf (itemsAt (suc d) s e at) ≡ module-kind → itemsAt d s end' at' ≡ innerOf (itemsAt (suc d) s e at)) (few : end' ≤ at + 66000) where
+        (inner : (d e : ℕ) → at < e → kindOf (itemsAt (suc d) s e at) ≡ module-kind → itemsAt d s end' at' ≡ innerOf (itemsAt (suc d) s e at)) (few : end' ≤ at + file-size) where
       mark-small : at < 65536
       mark-small = plain-mark us s at kind of (depth-limit - k) one-here not-ignored
 
