@@ -1,5 +1,5 @@
 -- What a card means: numbers by which the listed paths of a bundle are a tree with an index. Assumes nothing.
-use Prim.Native.Nat.{ℕ, zero, suc, _+_, _-_, _*_, _%_, _≤_, _<_, _^_}
+use Prim.Native.Nat.{ℕ, zero, suc, _+_, _-_, _*_, _%_, _/_, _≤_, _<_, _^_}
 use native.Mathlib.Omega.{arith}
 use native.Mathlib.Decide.{decLt}
 use mathlib.Core.Bool.{Bool, true, false, cond, _&&_, not}
@@ -43,7 +43,7 @@ hashOf m p = cond (eqb (length p) 1) seed (hashed m seed p)
 
 -- the chain that an index is in
 abbrev pub bucketAt : List ℕ → ℕ → ℕ
-bucketAt c i = hashAt c i % bucket-limit
+bucketAt c i = hashAt c i / 16777216 % bucket-limit
 
 -- THE INDEX over a list of paths that stand in s, the first of which is `/`
 pub record IndexOf (s : List ℕ) (ps : List Text) (c : List ℕ) : Type 0 where
@@ -219,16 +219,16 @@ module _ {s : List ℕ} {ps : List Text} {c : List ℕ} (I : IndexOf s ps c) (T 
         go true e = sym (hit-is T i d n o l z p)
         go false e = sym (not-true (sought ps d n i) (λ q. eqb-false (hashAt c i) h e (hash-sought i o q)))
 
-    bucket-sought : (i : ℕ) → i < length ps → sought ps d n i ≡ true → bucketAt c i ≡ h % bucket-limit
-    bucket-sought i o q = ap (λ (x : ℕ). x % bucket-limit) (hash-sought i o q)
+    bucket-sought : (i : ℕ) → i < length ps → sought ps d n i ≡ true → bucketAt c i ≡ h / 16777216 % bucket-limit
+    bucket-sought i o q = ap (λ (x : ℕ). x / 16777216 % bucket-limit) (hash-sought i o q)
 
     -- AS THE CODE HAS IT
     abbrev pub Child : ℕ → Type 0
-    Child i = Walking (sought ps d n) (bucketAt c) (h % bucket-limit) (length ps) i
+    Child i = Walking (sought ps d n) (bucketAt c) (h / 16777216 % bucket-limit) (length ps) i
 
-    pub find-start : (i : ℕ) → i ≡ headAt c (h % bucket-limit) → Child i
+    pub find-start : (i : ℕ) → i ≡ headAt c (h / 16777216 % bucket-limit) → Child i
     find-start i e =
-        walking-start (I .chains .links) bucket-sought (λ z. omega (arith, I .some)) i (e ∙ I .chains .heads (h % bucket-limit) (omega arith))
+        walking-start (I .chains .links) bucket-sought (λ z. omega (arith, I .some)) i (e ∙ I .chains .heads (h / 16777216 % bucket-limit) (omega arith))
 
     module _ (cut : ℕ) (cq : cut ≡ cutOf s (startAt c d) d) (i : ℕ) (w : Child i) where
       pub find-end : i ≡ 0 → Looked (sought ps d n) (length ps) i
@@ -283,7 +283,7 @@ module _ (s : List ℕ) (i last hash h start : ℕ) (t : Text) where
 pub record Chain (ps : List Text) (c : List ℕ) (h : ℕ) (t : Text) (from : ℕ) : Type 0 where
   pub hashes : h ≡ hashOf (keyOf c) t
   pub within : from < length ps
-  pub keyed : (from ≡ 0 → ⊥) → bucketAt c from ≡ h % bucket-limit
+  pub keyed : (from ≡ 0 → ⊥) → bucketAt c from ≡ h / 16777216 % bucket-limit
 
 module _ {s : List ℕ} {ps : List Text} {c : List ℕ} (I : IndexOf s ps c) (t : Text) (h from : ℕ) (W : Chain ps c h t from) (last : ℕ) where
   hash-at : (i : ℕ) → i < length ps → isAt ps t i ≡ true → hashAt c i ≡ h
@@ -297,14 +297,14 @@ module _ {s : List ℕ} {ps : List Text} {c : List ℕ} (I : IndexOf s ps c) (t 
       go true e = refl
       go false e = sym (not-true (isAt ps t i) (λ q. eqb-false (hashAt c i) h e (hash-at i o q)))
 
-  bucket-at : (i : ℕ) → i < suc from → isUpTo ps t last i ≡ true → bucketAt c i ≡ h % bucket-limit
-  bucket-at i o q = ap (λ (x : ℕ). x % bucket-limit) (hash-at i (omega (arith, W .within)) (and-right (leb i last) (isAt ps t i) q))
+  bucket-at : (i : ℕ) → i < suc from → isUpTo ps t last i ≡ true → bucketAt c i ≡ h / 16777216 % bucket-limit
+  bucket-at i o q = ap (λ (x : ℕ). x / 16777216 % bucket-limit) (hash-at i (omega (arith, W .within)) (and-right (leb i last) (isAt ps t i) q))
 
   links : (i : ℕ) → i < suc from → nextAt c i ≡ lastIn (bucketAt c) (bucketAt c i) i
   links i o = I .chains .links i (omega (arith, W .within))
 
   abbrev pub Searching : ℕ → Type 0
-  Searching i = Walking (isUpTo ps t last) (bucketAt c) (h % bucket-limit) (suc from) i
+  Searching i = Walking (isUpTo ps t last) (bucketAt c) (h / 16777216 % bucket-limit) (suc from) i
 
   pub path-start : Searching from
   path-start = record { within = omega arith; keyed = W .keyed; passed = λ j a b. absurd (omega arith) }
@@ -328,22 +328,22 @@ module _ {s : List ℕ} {ps : List Text} {c : List ℕ} (I : IndexOf s ps c) (t 
 
 -- from the head of its chain, and from the index before one of its paths
 module _ {s : List ℕ} {ps : List Text} {c : List ℕ} (I : IndexOf s ps c) (t : Text) (h : ℕ) (hq : h ≡ hashOf (keyOf c) t) where
-  module _ (from : ℕ) (e : from ≡ headAt c (h % bucket-limit)) where
-    is-last : from ≡ lastIn (bucketAt c) (h % bucket-limit) (length ps)
-    is-last = e ∙ I .chains .heads (h % bucket-limit) (omega arith)
+  module _ (from : ℕ) (e : from ≡ headAt c (h / 16777216 % bucket-limit)) where
+    is-last : from ≡ lastIn (bucketAt c) (h / 16777216 % bucket-limit) (length ps)
+    is-last = e ∙ I .chains .heads (h / 16777216 % bucket-limit) (omega arith)
 
     pub from-head : Chain ps c h t from
     from-head = record {
       hashes = hq;
-      within = rw is-last (last-below (bucketAt c) (h % bucket-limit) (length ps) (λ z. omega (arith, I .some)));
-      keyed = λ z. rw is-last (last-key (bucketAt c) (h % bucket-limit) (length ps) (λ x. z (is-last ∙ x)));
+      within = rw is-last (last-below (bucketAt c) (h / 16777216 % bucket-limit) (length ps) (λ z. omega (arith, I .some)));
+      keyed = λ z. rw is-last (last-key (bucketAt c) (h / 16777216 % bucket-limit) (length ps) (λ x. z (is-last ∙ x)));
     }
 
     -- nothing after the head
     pub past-head : (j : ℕ) → from < j → j < length ps → isAt ps t j ≡ false
     past-head j l o =
-        not-true (isAt ps t j) (λ q. last-above (bucketAt c) (h % bucket-limit) (length ps) j (rw is-last at l) o
-        (ap (λ (x : ℕ). x % bucket-limit) (I .hash j o ∙ ap (hashOf (keyOf c)) (same-eq _ _ q) ∙ sym hq)))
+        not-true (isAt ps t j) (λ q. last-above (bucketAt c) (h / 16777216 % bucket-limit) (length ps) j (rw is-last at l) o
+        (ap (λ (x : ℕ). x / 16777216 % bucket-limit) (I .hash j o ∙ ap (hashOf (keyOf c)) (same-eq _ _ q) ∙ sym hq)))
 
     -- what a walk from the head finds
     pub whole-chain : (last r : ℕ) → Looked (isUpTo ps t last) (suc from) r → Looked (isUpTo ps t last) (length ps) r

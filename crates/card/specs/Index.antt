@@ -140,9 +140,9 @@ module _ (key hs ls hs' ls' : ℕ → ℕ) (n : ℕ) (C : Chained key hs ls n) w
       link i h (yes z) = rw z (end ∙ C .heads (key n) l)
       link i h (no z) = let o : i < n = omega arith in kept i o ∙ C .links i o
 
--- THE HASH of bytes that follow others, by a multiplier m: modulo 2^31 - 1 up to the last carry
+-- THE HASH of bytes that follow others, by a multiplier m
 abbrev pub folded : ℕ → ℕ
-folded y = y % 2147483648 + y / 2147483648
+folded y = y % 4294967296
 
 unfoldable pub hashed : ℕ → ℕ → List ℕ → ℕ
 hashed m h [] = h

@@ -4,7 +4,7 @@ use mathlib.Core.List.{List}
 use lib.ListN.{getD}
 use Rattle.bundle.specs.Limits.{folder-limit, file-limit, remapping-limit}
 
--- `/`, the folders and the files; the hashes' last bits
+-- `/`, the folders and the files; the chains, by a hash's highest bits
 abbrev pub node-limit : ℕ
 node-limit = folder-limit + file-limit + 1
 

@@ -1,5 +1,5 @@
 -- 7 and 8, index by index, and the parents. Assumes nothing.
-use Prim.Native.Nat.{ℕ, zero, suc, _+_, _-_, _%_, _≤_, _<_}
+use Prim.Native.Nat.{ℕ, zero, suc, _+_, _-_, _%_, _/_, _≤_, _<_}
 use native.Mathlib.Omega.{arith}
 use native.Mathlib.Numerals.{add-one}
 use native.Mathlib.Decide.{decLt}
@@ -77,7 +77,7 @@ index-agree {s} {ps} {c} I d z e = record {
 }
   where
     keys : (i : ℕ) → i < length ps → bucketAt c i ≡ bucketAt d i
-    keys i o = ap (λ (x : ℕ). x % bucket-limit) (sym (e (hashes-at + i) (omega arith) (omega (arith, I .count))))
+    keys i o = ap (λ (x : ℕ). x / 16777216 % bucket-limit) (sym (e (hashes-at + i) (omega arith) (omega (arith, I .count))))
 
 -- 7: WHETHER A PATH IS LISTED BEFORE
 module _ {s : List ℕ} {ps : List Text} {c : List ℕ} (I : IndexOf s ps c) (i : ℕ) (o : i < length ps) (n : i ≡ 0 → ⊥) (p : Text) (pq : p ≡ getD ps i []) (rooted : getD ps 0 [] ≡ root) where
@@ -119,7 +119,7 @@ module _ {s : List ℕ} {ps : List Text} {c : List ℕ} (I : IndexOf s ps c) (i 
           not-same j l (yes y) d = rw (y, rooted) (sym uq ∙ uf)
           not-same j l (no y) (yes k) =
               different p (getD ps j []) (λ e. last-above (bucketAt c) (bucketAt c i) i j (rw is-last at k) l
-              (ap (λ (x : ℕ). x % bucket-limit) (I .hash j (omega arith) ∙ ap (hashOf (keyOf c)) (sym e ∙ pq) ∙ sym (I .hash i o))))
+              (ap (λ (x : ℕ). x / 16777216 % bucket-limit) (I .hash j (omega arith) ∙ ap (hashOf (keyOf c)) (sym e ∙ pq) ∙ sym (I .hash i o))))
           not-same j l (no y) (no k) =
               let m = L .nothing z j y (omega arith) in
               different p (getD ps j []) (λ e. false-true (sym m ∙ rw (le-leb j i (omega arith)) (equal-same _ _ (sym e))))

@@ -36,7 +36,7 @@ use Rattle.card.specs.Card.{nodesOf, nodesIn, rootsOf, IndexOf, Above, F
 use Rattle.card.specs.Laws.{node-file}
 use Rattle.card.specs.Build.{itself, nodesAt, Holds, Kept, Keyed, Filled, Cleared, begun, begun-keyed, begun-low, begun-high, begun-holds}
 use Rattle.card.specs.Linking.{spots, each-map, nodes-at, placed-spots, index-agree, Indexed, Parents, Linked, allTold}
-use Rattle.card.specs.Mapping.{foldersIn, filesIn, Located, is-located, Mapped-all, MapsOf, Unmapped}
+use Rattle.card.specs.Mapping.{foldersIn, filesIn, Located, is-located, MappedAll, MapsOf, Unmapped}
 use Rattle.card.specs.declared.maps.Place.{Place}
 use Rattle.card.specs.declared.maps.Place.the-variants.{At, Bad}
 
@@ -387,7 +387,7 @@ module _ (s : List ℕ) (B : Bytes s) (formed : form s ≡ Ok) where
                   ap (fileAt s) (start-same (suc (length (decode s .folders) + j)) (omega (arith, G .holds .full, folder-count, nq, to-end .count, length-append (decode s .folders) (filesIn s), length-map (decode s .files) (λ (g : File). g .path))) ∙ x ∙ y)
                   ∙ sym (each-at (afterFile s) (fileAt s) (fileCount s) j (fileFirst s) d o)
 
-              maps3 : Mapped-all s c3 f k
+              maps3 : MappedAll s c3 f k
               maps3 = M .maps ok2
 
               all-maps : k ≡ length (decode s .remappings)

@@ -14,8 +14,7 @@ use Rattle.bundle.specs.Limits.{remapping-limit}
 use Rattle.bundle.specs.Scan.{text}
 use Rattle.bundle.specs.Decode.{each, far, after, afterRemapping, decode}
 use Rattle.bundle.specs.Conflicts.{Placed, PlacedRemapping, placedAt, placedRemappingAt, orElse, any, located, named, sameRemapping, remapped}
-use Rattle.bundle.specs.Lists.{remappingTold}
-use Rattle.bundle.specs.ListLaws.{far-more, remapping-told, remapping-again, remapping-more, remapping-done}
+use Rattle.bundle.specs.ListLaws.{each-more, far-more}
 use Rattle.bundle.specs.Form.{withSlash}
 use Rattle.bundle.specs.declared.Checked.{Checked}
 use Rattle.bundle.specs.declared.Checked.the-variants.{Ok, Refused}
@@ -37,6 +36,59 @@ foldersIn s = withSlash (decode s)
 
 abbrev pub filesIn : List ℕ → List Text
 filesIn s = map (λ (f : File). f .path) (decode s .files)
+
+-- context, target, name
+abbrev pub remappingTold : List Text → List Text → PlacedRemapping → Checked
+remappingTold folders files r =
+    orElse (located folders files (r .context)) (orElse (located folders files (r .target)) (named (r .name)))
+
+-- A SEARCH through n values, i of which are done
+module _ {A : Type 0} (f : A → Bool) (next : ℕ → ℕ) (get : ℕ → A) (n i a : ℕ) where
+  pub search-more : i < n → f (get a) ≡ false → any f (each next get (n - i) a) ≡ any f (each next get (n - (i + 1)) (next a))
+  unfolding any each
+  search-more h e = let z : n - i ≡ suc (n - (i + 1)) = omega arith in rw (z, e)
+
+  pub search-found : i < n → f (get a) ≡ true → any f (each next get (n - i) a) ≡ true
+  unfolding any each
+  search-found h e = let z : n - i ≡ suc (n - (i + 1)) = omega arith in rw (z, e)
+
+  pub search-done : n ≤ i → any f (each next get (n - i) a) ≡ false
+  unfolding any each
+  search-done h = let z : n - i ≡ 0 = omega arith in rw z
+
+-- 9 TO 13 of n remappings, i of which are done
+told-then : (a b c d : Checked) → orElse (orElse a (orElse b c)) d ≡ orElse a (orElse b (orElse c d))
+told-then Ok Ok c d = refl
+told-then Ok (Refused n p) c d = refl
+told-then (Refused n p) b c d = refl
+
+module _ (s : List ℕ) (folders files : List Text) (n i at a : ℕ) (placed : a ≡ far (afterRemapping s) i at) where
+  abbrev before-it : List PlacedRemapping
+  before-it = each (afterRemapping s) (placedRemappingAt s) i at
+
+  here : i < n → remapped folders files before-it (each (afterRemapping s) (placedRemappingAt s) (n - i) a)
+      ≡ orElse (remappingTold folders files (placedRemappingAt s a))
+      (cond (any (sameRemapping (placedRemappingAt s a)) before-it) (Refused 13 a)
+      (remapped folders files (before-it ++ (placedRemappingAt s a ∷ [])) (each (afterRemapping s) (placedRemappingAt s) (n - (i + 1)) (afterRemapping s a))))
+  unfolding remapped each placedRemappingAt placedAt
+  here h =
+      let z : n - i ≡ suc (n - (i + 1)) = omega arith in
+      rw z (sym (told-then (located folders files (placedAt s a)) (located folders files (placedAt s (after s (after s a)))) (named (placedAt s (after s a))) _))
+
+  pub remapping-told : (k p : ℕ) → i < n → remappingTold folders files (placedRemappingAt s a) ≡ Refused k p → remapped folders files before-it (each (afterRemapping s) (placedRemappingAt s) (n - i) a) ≡ Refused k p
+  remapping-told k p h e = here h ∙ rw e
+
+  pub remapping-again : i < n → remappingTold folders files (placedRemappingAt s a) ≡ Ok → any (sameRemapping (placedRemappingAt s a)) before-it ≡ true → remapped folders files before-it (each (afterRemapping s) (placedRemappingAt s) (n - i) a) ≡ Refused 13 a
+  remapping-again h e g = here h ∙ rw (e, g)
+
+  pub remapping-more : i < n → remappingTold folders files (placedRemappingAt s a) ≡ Ok → any (sameRemapping (placedRemappingAt s a)) before-it ≡ false
+      → remapped folders files before-it (each (afterRemapping s) (placedRemappingAt s) (n - i) a)
+      ≡ remapped folders files (each (afterRemapping s) (placedRemappingAt s) (i + 1) at) (each (afterRemapping s) (placedRemappingAt s) (n - (i + 1)) (afterRemapping s a))
+  remapping-more h e g = here h ∙ rw (e, g, placed, ← each-more (afterRemapping s) (placedRemappingAt s) i at)
+
+  pub remapping-done : n ≤ i → remapped folders files before-it (each (afterRemapping s) (placedRemappingAt s) (n - i) a) ≡ Ok
+  unfolding remapped each
+  remapping-done h = let z : n - i ≡ 0 = omega arith in rw z
 
 -- WHERE A PATH IS: a folder's index, or the number that is told
 abbrev pub Located : List ℕ → Text → Place → Type 0
@@ -224,7 +276,7 @@ module _ (c : List ℕ) (j x t a : ℕ) (size : length c ≡ card-size) (jl : j 
   put-low k l = put-other k (λ e. omega arith) (λ e. omega arith) (λ e. omega arith) (λ e. omega arith)
 
 -- what a card has of the first n remappings
-pub record Mapped-all (s c : List ℕ) (first n : ℕ) : Type 0 where
+pub record MappedAll (s c : List ℕ) (first n : ℕ) : Type 0 where
   pub places : (k : ℕ) → k < n → placeAt c k ≡ far (afterRemapping s) k first
   pub low : (k : ℕ) → k < n → placeAt c k < 67108864
   pub contexts : (k : ℕ) → k < n → FolderAt (decode s) (text s (placeAt c k)) (contextAt c k)
@@ -237,7 +289,7 @@ pub record MapsOf (s c₀ c : List ℕ) (first n : ℕ) (r : Checked) : Type 0 w
   pub size : length c ≡ card-size
   pub kept : (k : ℕ) → k < marks-at → getD c k 0 ≡ getD c₀ k 0
   pub tells : r ≡ remapped (foldersIn s) (filesIn s) [] (each (afterRemapping s) (placedRemappingAt s) n first)
-  pub maps : r ≡ Ok → Mapped-all s c first n
+  pub maps : r ≡ Ok → MappedAll s c first n
 
 -- before: the index is there, and no mark
 pub record Unmapped (s c : List ℕ) (folders first n : ℕ) : Type 0 where
@@ -254,7 +306,7 @@ pub record Mapping (s c₀ c : List ℕ) (folders first n a j : ℕ) : Type 0 wh
   pub done : j ≤ n
   pub place : a ≡ far (afterRemapping s) j first
   pub low : a ≤ first + j * 768
-  pub maps : Mapped-all s c first j
+  pub maps : MappedAll s c first j
   pub tells : remapped (foldersIn s) (filesIn s) [] (each (afterRemapping s) (placedRemappingAt s) n first)
       ≡ remapped (foldersIn s) (filesIn s) (each (afterRemapping s) (placedRemappingAt s) j first) (each (afterRemapping s) (placedRemappingAt s) (n - j) a)
 

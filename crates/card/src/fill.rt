@@ -5,6 +5,7 @@ ghost use lib.ListN.{length};
 ghost use Rattle.bundle.specs.Lists.{skip};
 ghost use Rattle.card.specs.Layout.{node-limit, card-size, key-limit};
 ghost use Rattle.card.specs.Build.{filed, Keyed, Filled, Cleared};
+use crate::hash::HIGH;
 use crate::hash::hash_of;
 use crate::layout::BUCKETS;
 use crate::layout::CARD;
@@ -69,7 +70,7 @@ fn file_path(card: &mut [u32; CARD], k: usize, a: usize, h: usize)
     requires { ⌜ (length (now card) ≡ card-size) × ((k < node-limit) × ((a < 2 ^ 26) × (h < 2 ^ 32))) ⌝ }
     ensures { λ r. ⌜ now (card .exit) ≡ filed (now (card .entry)) k a h ⌝ }
 {
-    let b = h % BUCKETS;
+    let b = h / HIGH % BUCKETS;
     let last = card[HEADS + b];
     card[STARTS + k] = a as u32;
     card[HASHES + k] = h as u32;

@@ -7,8 +7,11 @@ ghost use Rattle.card.specs.Card.{hashOf};
 
 pub const SEED: usize = 5381;
 
-// Hashes are modulo this, less one, up to the last carry.
-const FOLD: usize = 2147483648;
+// Hashes stay below this.
+const HASH: usize = 4294967296;
+
+// The chain of a hash is in its highest bits: the lowest of a product come from the lowest of the multiplier alone.
+pub const HIGH: usize = 16777216;
 
 fn wide(b: u8) -> usize
     ensures { λ r. ⌜ (r ≡ b) × (r < 256) ⌝ }
@@ -24,8 +27,7 @@ pub fn mix(m: usize, h: usize, t: &[u8]) -> usize
     let mut x = h;
     let mut i = 0;
     while i < t.len() {
-        let y = x * m + wide(t[i]);
-        x = y % FOLD + y / FOLD;
+        x = (x * m + wide(t[i])) % HASH;
         i += 1;
     }
     x

@@ -12,6 +12,7 @@ ghost use Rattle.card.specs.Tree.{ascends};
 ghost use Rattle.card.specs.Laws.{nearest, near};
 ghost use Rattle.card.specs.Index.{Looked};
 ghost use Rattle.card.specs.Card.{IndexOf, CardIs, Above, nodesIn, isAt, isUpTo, hit, met, Chain, cutOf, sought, InFolder};
+use crate::hash::HIGH;
 use crate::hash::hash_of;
 use crate::hash::mix;
 use crate::layout::BUCKETS;
@@ -140,7 +141,7 @@ pub fn find_child<'a>(
     let b = mix(m, a, name);
     let h = mix(m, b, ending);
     let cut = cut_of(s, card[STARTS + d], d);
-    let mut i = far(card[HEADS + h % BUCKETS]);
+    let mut i = far(card[HEADS + h / HIGH % BUCKETS]);
     while i != 0 {
         if is_hit(
             s,
@@ -201,7 +202,7 @@ fn find_up_to<'a>(s: &'a [u8], card: &'a [u32; CARD], t: &'a [u8], last: usize) 
     ensures { λ r. ⌜ Looked (isUpTo (nodesIn (now (s .entry))) (now (t .entry)) last) (length (nodesIn (now (s .entry)))) r ⌝ }
 {
     let h = hash_of(far(card[KEY]), t);
-    walk(s, card, h, t, far(card[HEADS + h % BUCKETS]), last)
+    walk(s, card, h, t, far(card[HEADS + h / HIGH % BUCKETS]), last)
 }
 
 // The index of a path; 0 where it is not listed, or is `/`.

@@ -3,13 +3,13 @@ use native.Mathlib.Omega.{arith}
 use Rattle.card.proofs.look.walk.Statement.{statement}
 use Rattle.card.proofs.look.walk.Tie as tie
 use lib.ListN.{length}
-use Prim.Native.Nat.{ℕ, suc, _%_}
+use Prim.Native.Nat.{ℕ, suc, _%_, _/_}
 use Rattle.card.specs.Card.{nodesIn, isUpTo, bucketAt, path-start, path-within, path-end, path-found, path-on}
 use Rattle.card.specs.Index.{Walking}
 use Rattle.card.specs.Layout.{bucket-limit}
 
 abbrev Inv-loop : tie.InvT-loop
-Inv-loop s card h t from last i₀ i = Walking (isUpTo (nodesIn s) t last) (bucketAt card) (h % bucket-limit) (suc from) i
+Inv-loop s card h t from last i₀ i = Walking (isUpTo (nodesIn s) t last) (bucketAt card) (h / 16777216 % bucket-limit) (suc from) i
 
 abbrev μ-loop : tie.MeasureT-loop
 μ-loop s card h t from last i₀ i = i

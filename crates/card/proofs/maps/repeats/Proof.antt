@@ -5,7 +5,7 @@ use native.Mathlib.Omega.{arith}
 use Prim.Native.Nat.{_+_, _-_, _*_, _≤_}
 use Rattle.bundle.specs.Decode.{each, afterRemapping}
 use Rattle.bundle.specs.Conflicts.{any, sameRemapping, placedRemappingAt}
-use Rattle.bundle.specs.ListLaws.{search-more, search-found, search-done}
+use Rattle.card.specs.Mapping.{search-more, search-found, search-done}
 use Rattle.card.proofs.maps.repeats.Statement.{statement}
 use Rattle.card.proofs.maps.repeats.Tie as tie
 
