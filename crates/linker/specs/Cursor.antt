@@ -441,7 +441,7 @@ module _ (s ids : List ℕ) (units : ℕ) (c : Cursor) (st : Stands s units c) (
 
     -- a module
     module _ (q : kind ≡ module-kind) (end' at' : ℕ)
-        (inner : (d e : ℕ) → at < e → kindOf (itemsAt (suc d) s e at) ≡ module-kind → itemsAt d s end' at' ≡ innerOf (itemsAt (suc d) s e at)) (few : end' ≤ at + 66000) where
+        (inner : (d e : ℕ) → at < e → kindOf (itemsAt (suc d) s e at) ≡ module-kind → itemsAt d s end' at' ≡ innerOf (itemsAt (suc d) s e at)) (few : end' ≤ at + file-size) where
       mark-small : at < 65536
       mark-small = plain-mark us s at kind of (depth-limit - k) one-here not-ignored
 
