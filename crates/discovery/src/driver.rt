@@ -67,3 +67,14 @@ pub fn discover(s: &[u8], card: &[u32; CARD], known: &mut [usize; KNOWN]) -> Gra
     }
     g
 }
+
+// The graph alone.
+pub fn discover_dependencies(s: &[u8]) -> Graph
+    requires { ⌜ verdict (now s) ≡ Ok ⌝ }
+    ensures { λ r. ⌜ Discovers (decode (now (s .entry))) r ⌝ }
+{
+    let mut card = [0u32; CARD];
+    let checked = card::read(s, &mut card);
+    let mut known = [0usize; KNOWN];
+    discover(s, &card, &mut known)
+}

@@ -6,6 +6,7 @@ mod lookups;
 mod readings;
 
 pub use driver::discover;
+pub use driver::discover_dependencies;
 pub use readings::index_of;
 
 // The most files and folders of a bundle, and the most uses, so the most ids in all lists and the most faults: the limits of the

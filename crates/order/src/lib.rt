@@ -9,6 +9,7 @@ ghost use mathlib.Core.Path.{_≡_};
 ghost use Rattle.discovery.specs.Complete.{Carries};
 ghost use Rattle.discovery.specs.Places.{Fresh};
 ghost use Rattle.order.specs.Call.{orderAnswer, orderReport};
+use card::CARD;
 use discovery::known::KNOWN;
 
 // The most units of a bundle: the limit of the reader.
@@ -44,11 +45,12 @@ pub fn order_known(s: &[u8], out: &mut [u8], known: &mut [usize; KNOWN]) -> Answ
     ensures { λ r. ⌜ now (out .exit) ≡ orderReport (now (s .entry)) (now (out .entry)) ⌝ }
     ensures { λ r. ⌜ Carries (now (s .entry)) (now (known .exit)) ⌝ }
 {
-    let checked = bundle::check(s);
+    let mut card = [0u32; CARD];
+    let checked = card::read(s, &mut card);
     match checked {
         bundle::Checked::Refused(n, p) => steps::refuse(n, p),
         bundle::Checked::Ok => {
-            let g = discovery::discover(s, &mut *known);
+            let g = discovery::discover(s, &card, &mut *known);
             steps::order_of(g, out)
         }
     }

@@ -134,7 +134,7 @@ fn tell_order(s: &[u8], report: &mut [u8; 1024])
 
 fn tell(s: &[u8]) {
     let mut report = [0u8; 1024];
-    let checked = bundle::check(s);
+    let checked = card::check(s);
     match checked {
         Checked::Ok => {
             tell_order(s, &mut report);

@@ -33,7 +33,8 @@ fn longer(card: &[u32; CARD], best: Choice, j: usize) -> Choice
         Choice::Nothing => Choice::At(j),
         Choice::At(a) => {
             let mine = card::remapping_context(card, a);
-            if card::is_below(card, mine, card::remapping_context(card, j)) {
+            let other = card::remapping_context(card, j);
+            if card::is_below(card, mine, other) {
                 Choice::At(a)
             } else {
                 Choice::At(j)
