@@ -28,6 +28,7 @@ use Rattle.order.specs.Report.{fault, reportLength}
 use Rattle.order.specs.Theorems.{faultsOf, first-half}
 use Rattle.assembly.specs.Assemble.{enum-kind, itemsOf, enumDeclarations, foreignEnum, hasMain, noMain, assemblyFaults}
 use Rattle.assembly.specs.Faults.{enumsOf, mainFault}
+use Rattle.assembly.specs.EnumRoom.{enums-few}
 use Rattle.assembly.specs.Theorems.{assembly, FaultsFrom, of-discovery, of-step5}
 use Rattle.linker.specs.Link.{faulty, linkBundle}
 use Rattle.linker.specs.Theorems.{faults-only}
@@ -91,19 +92,7 @@ discovery-few b r =
     let e = ap length (faults-in-turn b) in
     omega (arith, turn-few b [] (discoverDependencies b .sources), units-weigh b)
 
--- STEP 5: an enum is an item
-enums-few : (x : Items) → length (enumDeclarations x) ≤ itemCount x
-unfolding enumDeclarations itemCount
-enums-few none = omega arith
-enums-few (named k m v name rest) = go (eqb k enum-kind) (enums-few rest)
-  where
-    go : (c : Bool) → length (enumDeclarations rest) ≤ itemCount rest → length (cond c (m ∷ enumDeclarations rest) (enumDeclarations rest)) ≤ 1 + itemCount rest
-    go true h = omega arith
-    go false h = omega arith
-enums-few (use-of m v segments elements rest) = let h = enums-few rest in omega arith
-enums-few (module-of m v name inner rest) = let h = enums-few rest in let k = enums-few inner in omega (arith, length-append (enumDeclarations inner) (enumDeclarations rest))
-enums-few (ignored m v rest) = let h = enums-few rest in omega arith
-
+-- STEP 5: an enum is an item (`enums-few` of assembly)
 items-total : (fs : List File) → totalOf itemCount fs ≡ fileItems fs
 unfolding totalOf fileItems
 items-total [] = refl
