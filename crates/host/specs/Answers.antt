@@ -14,7 +14,7 @@ use Rattle.bundle.specs.Decode.{decode}
 use Rattle.discovery.specs.declared.Graph.{Graph}
 use Rattle.discovery.specs.Turns.{Discovers}
 use Rattle.order.specs.declared.Answer.{Answer}
-use Rattle.assembly.specs.declared.Answer as assembled
+use Rattle.order.specs.declared.Answer as assembled
 use Rattle.bundle.specs.declared.Checked.{Checked}
 use Rattle.bundle.specs.declared.Checked.the-variants.{Ok, Refused}
 use Rattle.resolution.specs.declared.Resolution.{Resolution}

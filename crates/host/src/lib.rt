@@ -12,7 +12,7 @@ ghost use lib.ListN.{set, take, length};
 ghost use lib.Seq.{sets};
 ghost use Rattle.names.specs.Keywords.{isKeyword};
 ghost use Rattle.names.specs.Prefix.{startsWith};
-use assembly::Answer;
+use order::Answer;
 
 // The most units, and the most entries of a tree.
 pub const FILES: usize = bundle::limits::FILES;

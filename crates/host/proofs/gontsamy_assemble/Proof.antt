@@ -1,6 +1,6 @@
 -- `gontsamy_assemble` meets its contract. Assumes nothing.
 use Rattle.host.specs.Answers.{assembleTold, assemble-refused, assemble-told}
-use Rattle.assembly.specs.declared.Answer.{Answer}
+use Rattle.order.specs.declared.Answer.{Answer}
 use mathlib.Core.Path.{ap, _∙_}
 use borrow.Author.Needs.{needs}
 use Rattle.host.proofs.gontsamy_assemble.Statement.{statement}
