@@ -9,8 +9,8 @@ use denote.Ref.{now}
 use borrow.Author.Needs.{needs}
 use Rattle.bundle.specs.Encode.{string}
 use Rattle.order.specs.Writing.{started}
-use Rattle.assembly.proofs.writing.put_unit_start.Statement.{statement}
-use Rattle.assembly.proofs.writing.put_unit_start.Tie as tie
+use Rattle.encoder.proofs.heads.put_unit_start.Statement.{statement}
+use Rattle.encoder.proofs.heads.put_unit_start.Tie as tie
 
 unit-name-requires : tie.Need-unit-name-requires
 unit-name-requires c κs = search needs

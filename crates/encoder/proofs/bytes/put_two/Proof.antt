@@ -1,7 +1,7 @@
 -- `put_two` meets its contract. Assumes nothing.
 use borrow.Author.Needs.{needs}
-use Rattle.assembly.proofs.bytes.put_two.Statement.{statement}
-use Rattle.assembly.proofs.bytes.put_two.Tie as tie
+use Rattle.encoder.proofs.bytes.put_two.Statement.{statement}
+use Rattle.encoder.proofs.bytes.put_two.Tie as tie
 
 put-requires : tie.Need-put-requires
 put-requires c κs = search needs

@@ -9,9 +9,9 @@ use borrow.Author.Needs.{needs}
 use Rattle.names.specs.Bytes.{ascii}
 use Rattle.bundle.specs.Encode.{string}
 use Rattle.order.specs.Writing.{started}
-use Rattle.assembly.specs.Uses.{crate-length}
-use Rattle.assembly.proofs.writing.put_crate.Statement.{statement}
-use Rattle.assembly.proofs.writing.put_crate.Tie as tie
+use Rattle.encoder.specs.Strings.{crate-length}
+use Rattle.encoder.proofs.segments.put_crate.Statement.{statement}
+use Rattle.encoder.proofs.segments.put_crate.Tie as tie
 
 crate-is : {r : ℕ} {a : List ℕ} (b : List ℕ) → (r ≡ length (string (99 ∷ 114 ∷ 97 ∷ 116 ∷ 101 ∷ []))) × (a ≡ started (string (99 ∷ 114 ∷ 97 ∷ 116 ∷ 101 ∷ [])) b) → (r ≡ length (string (ascii "crate"))) × (a ≡ started (string (ascii "crate")) b)
 unfolding ascii

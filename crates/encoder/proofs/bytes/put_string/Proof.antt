@@ -3,9 +3,9 @@ use Prim.Native.Nat.{_-_}
 use lib.ListN.{length}
 use denote.Ref.{now}
 use borrow.Author.Needs.{needs}
-use Rattle.assembly.specs.Strings.{CopiedTo, copied-none, copied-one, copied-all}
-use Rattle.assembly.proofs.bytes.put_string.Statement.{statement}
-use Rattle.assembly.proofs.bytes.put_string.Tie as tie
+use Rattle.encoder.specs.Strings.{CopiedTo, copied-none, copied-one, copied-all}
+use Rattle.encoder.proofs.bytes.put_string.Statement.{statement}
+use Rattle.encoder.proofs.bytes.put_string.Tie as tie
 
 abbrev Inv-loop : tie.InvT-loop
 Inv-loop out₀ t n i₀ out i = CopiedTo t out₀ out i

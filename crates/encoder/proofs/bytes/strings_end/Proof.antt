@@ -7,8 +7,8 @@ use denote.Ref.{now}
 use borrow.Author.Needs.{needs}
 use Rattle.bundle.specs.Decode.{after, far}
 use Rattle.bundle.specs.ListLaws.{far-more}
-use Rattle.assembly.proofs.bytes.strings_end.Statement.{statement}
-use Rattle.assembly.proofs.bytes.strings_end.Tie as tie
+use Rattle.encoder.proofs.bytes.strings_end.Statement.{statement}
+use Rattle.encoder.proofs.bytes.strings_end.Tie as tie
 
 from-start : (s : List ℕ) (first : ℕ) → first ≡ far (after s) 0 first
 unfolding far

@@ -11,10 +11,10 @@ use Rattle.bundle.specs.Decode.{after}
 use Rattle.bundle.specs.Scan.{text}
 use Rattle.bundle.specs.Encode.{string}
 use Rattle.order.specs.Writing.{started}
-use Rattle.assembly.specs.Strings.{stringBytes, strings-step, strings-done, string-length, text-short}
-use Rattle.assembly.specs.Parts.{Filled, lent-length, filled-none, filled-length, filled-start, filled-room, filled-more, filled-all}
-use Rattle.assembly.proofs.bytes.put_strings.Statement.{statement}
-use Rattle.assembly.proofs.bytes.put_strings.Tie as tie
+use Rattle.encoder.specs.Strings.{stringBytes, strings-step, strings-done, string-length, text-short}
+use Rattle.encoder.specs.Parts.{Filled, lent-length, filled-none, filled-length, filled-start, filled-room, filled-more, filled-all}
+use Rattle.encoder.proofs.bytes.put_strings.Statement.{statement}
+use Rattle.encoder.proofs.bytes.put_strings.Tie as tie
 
 abbrev Inv-loop : tie.InvT-loop
 Inv-loop s first n out₀ at₀ a₀ i₀ out at a i = (i ≤ n) × ((at ≤ first + 256 * i) × (Filled (stringBytes s n first) (stringBytes s (n - i) at) out₀ out a × (length (stringBytes s n first) ≤ length out₀)))

@@ -6,6 +6,8 @@ use mathlib.Core.Path.{_≡_, refl, sym, ap, _∙_}
 use mathlib.Core.List.{List, [], _∷_, _++_, append-assoc}
 use lib.ListN.{length, take, drop, set, getD, length-take, length-set}
 use lib.Seq.{take-suc, take-length, drop-set-lt, length-take-le}
+use Rattle.names.specs.Bytes.{ascii}
+use Rattle.names.specs.Decimal.{unitName}
 use Rattle.bundle.specs.Bundle.{Text}
 use Rattle.bundle.specs.Encode.{string, joined, element}
 use Rattle.bundle.specs.Scan.{byte, text}
@@ -111,3 +113,12 @@ unfolding each far
 last-strings s zero n first h = let z : n - 0 ≡ n = omega arith in rw z
 last-strings s (suc k) zero first h = absurd (omega arith)
 last-strings s (suc k) (suc n) first h = let z : suc n - suc k ≡ n - k = omega arith in rw z (last-strings s k n (after s first) (omega arith))
+
+-- NAMES
+pub crate-length : length (string (ascii "crate")) ≡ 6
+unfolding string ascii
+crate-length = refl
+
+-- a unit's name as it is handed over
+pub name-length : (bytes : List ℕ) (n id : ℕ) → take n bytes ≡ unitName id → n ≤ length bytes → length (string (unitName id)) ≡ 1 + n
+name-length bytes n id e h = let l = ap length (sym e) ∙ length-take-le n bytes h in omega (arith, string-length (unitName id))

@@ -8,10 +8,10 @@ use denote.Ref.{now}
 use borrow.Author.Needs.{needs}
 use Rattle.bundle.specs.Encode.{string}
 use Rattle.order.specs.Writing.{started}
-use Rattle.assembly.specs.Parts.{Front, front-room, front-done, start-four, put-kind}
-use Rattle.assembly.specs.Strings.{string-length}
-use Rattle.assembly.proofs.writing.put_start.Statement.{statement}
-use Rattle.assembly.proofs.writing.put_start.Tie as tie
+use Rattle.encoder.specs.Parts.{Front, front-room, front-done, start-four, put-kind}
+use Rattle.encoder.specs.Strings.{string-length}
+use Rattle.encoder.proofs.heads.put_start.Statement.{statement}
+use Rattle.encoder.proofs.heads.put_start.Tie as tie
 
 long : (p : tie.After-put2) → 4 ≤ length (now (p .before .before .before .before .before .before .before .before .args .out))
 long p = let r = p .before .before .before .before .before .before .before .before .pre .1 .1 in omega arith

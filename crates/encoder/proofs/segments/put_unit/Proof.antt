@@ -9,9 +9,9 @@ use denote.Ref.{now}
 use borrow.Author.Needs.{needs}
 use Rattle.bundle.specs.Encode.{string}
 use Rattle.order.specs.Writing.{started}
-use Rattle.assembly.specs.Uses.{name-length}
-use Rattle.assembly.proofs.writing.put_unit.Statement.{statement}
-use Rattle.assembly.proofs.writing.put_unit.Tie as tie
+use Rattle.encoder.specs.Strings.{name-length}
+use Rattle.encoder.proofs.segments.put_unit.Statement.{statement}
+use Rattle.encoder.proofs.segments.put_unit.Tie as tie
 
 unit-name-requires : tie.Need-unit-name-requires
 unit-name-requires c κs = search needs

@@ -6,10 +6,10 @@ use denote.Ref.{now}
 use borrow.Author.Needs.{needs}
 use Rattle.names.specs.Decimal.{unitName}
 use Rattle.bundle.specs.Encode.{string}
-use Rattle.assembly.specs.Parts.{Front, front-start, front-room, front-fits, front-done}
-use Rattle.assembly.specs.Strings.{stringBytes}
-use Rattle.assembly.proofs.writing.put_rest.Statement.{statement}
-use Rattle.assembly.proofs.writing.put_rest.Tie as tie
+use Rattle.encoder.specs.Parts.{Front, front-start, front-room, front-fits, front-done}
+use Rattle.encoder.specs.Strings.{stringBytes}
+use Rattle.encoder.proofs.segments.put_rest.Statement.{statement}
+use Rattle.encoder.proofs.segments.put_rest.Tie as tie
 
 -- the name stands at the start
 front : (p : tie.After-put-unit) → Front (string (unitName (p .before .before .before .before .args .id))) (stringBytes (p .before .before .before .before .args .s .now) (p .before .before .before .before .args .left) (p .before .before .before .before .args .rest)) (now (p .before .before .before .before .args .out)) (p .put-unit .last .0) (p .put-unit .result)

@@ -1,9 +1,9 @@
 -- `put_head` meets its contract. Assumes nothing.
 use denote.Ref.{now}
 use borrow.Author.Needs.{needs}
-use Rattle.assembly.specs.Parts.{set-four}
-use Rattle.assembly.proofs.bytes.put_head.Statement.{statement}
-use Rattle.assembly.proofs.bytes.put_head.Tie as tie
+use Rattle.encoder.specs.Parts.{set-four}
+use Rattle.encoder.proofs.bytes.put_head.Statement.{statement}
+use Rattle.encoder.proofs.bytes.put_head.Tie as tie
 
 put-two-requires : tie.Need-put-two-requires
 put-two-requires c κs = search needs

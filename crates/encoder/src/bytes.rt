@@ -6,8 +6,8 @@ ghost use lib.ListN.{length, set, drop};
 ghost use Rattle.bundle.specs.Encode.{string};
 ghost use Rattle.bundle.specs.Decode.{after, far};
 ghost use Rattle.order.specs.Writing.{started};
-ghost use Rattle.assembly.specs.Parts.{headBytes};
-ghost use Rattle.assembly.specs.Strings.{stringBytes};
+ghost use Rattle.encoder.specs.Parts.{headBytes};
+ghost use Rattle.encoder.specs.Strings.{stringBytes};
 
 pub fn put(out: &mut [u8], at: usize, v: usize)
     requires { ⌜ (at < length (now out)) × (v < 256) ⌝ }

@@ -8,9 +8,9 @@ use borrow.Author.Needs.{needs}
 use Rattle.bundle.specs.Decode.{after}
 use Rattle.bundle.specs.Scan.{text}
 use Rattle.bundle.specs.Encode.{string}
-use Rattle.assembly.specs.Strings.{stringBytes, strings-step, strings-done, string-length, text-short}
-use Rattle.assembly.proofs.bytes.strings_length.Statement.{statement}
-use Rattle.assembly.proofs.bytes.strings_length.Tie as tie
+use Rattle.encoder.specs.Strings.{stringBytes, strings-step, strings-done, string-length, text-short}
+use Rattle.encoder.proofs.bytes.strings_length.Statement.{statement}
+use Rattle.encoder.proofs.bytes.strings_length.Tie as tie
 
 abbrev Inv-loop : tie.InvT-loop
 Inv-loop s first n at₀ a₀ i₀ at a i = (i ≤ n) × ((at ≤ first + 256 * i) × ((a ≤ 256 * i) × (length (stringBytes s n first) ≡ a + length (stringBytes s (n - i) at))))
