@@ -5,10 +5,9 @@ use native.Mathlib.Omega.{arith}
 use mathlib.Core.Bool.{Bool, true, false, cond}
 use mathlib.Core.Path.{_≡_, refl, ap, subst}
 use mathlib.Core.List.{List, [], _∷_, _++_, map}
-use lib.Dec.{eqb}
 use lib.ListN.{length, length-append, length-map}
 use Rattle.names.specs.Bytes.{member}
-use Rattle.bundle.specs.Bundle.{Text, Items, none, named, use-of, module-of, ignored, File, Bundle}
+use Rattle.bundle.specs.Bundle.{Text, File, Bundle}
 use Rattle.bundle.specs.Answers.{value-ok}
 use Rattle.bundle.specs.Form.{itemCount, fileItems, WellFormed}
 use Rattle.bundle.specs.Limits.{use-limit, item-limit}
@@ -26,7 +25,7 @@ use Rattle.discovery.specs.Weight.{sumUses, units-weigh, reached-file, sumOf, t
 use Rattle.order.specs.Run.{linked, ordered, filesOf}
 use Rattle.order.specs.Report.{fault, reportLength}
 use Rattle.order.specs.Theorems.{faultsOf, first-half}
-use Rattle.assembly.specs.Assemble.{enum-kind, itemsOf, enumDeclarations, foreignEnum, hasMain, noMain, assemblyFaults}
+use Rattle.assembly.specs.Assemble.{itemsOf, enumDeclarations, foreignEnum, hasMain, noMain, assemblyFaults}
 use Rattle.assembly.specs.Faults.{enumsOf, mainFault}
 use Rattle.assembly.specs.EnumRoom.{enums-few}
 use Rattle.assembly.specs.Theorems.{assembly, FaultsFrom, of-discovery, of-step5}

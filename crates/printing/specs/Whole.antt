@@ -6,7 +6,7 @@ use mathlib.Core.Logic.{⊎-elim}
 use mathlib.Core.Path.{_≡_, refl, sym, ap, subst, _∙_}
 use mathlib.Core.List.{List, [], _∷_, _++_, map, List·Memᴰ, List·Memᴰ·head, List·Memᴰ·not-nil, List·Memᴰ·cases-cons, List·Memᴰ·append-cases, Memᴰ·append-right, Memᴰ·of-map}
 use lib.Dec.{eqb, leb}
-use lib.ListN.{length, getD, take, replicate, length-map, length-replicate, List·getD-map}
+use lib.ListN.{length, getD, take, replicate, length-map, length-replicate}
 use lib.Seq.{getD-take, length-take-le}
 use borrow.Author.Tests.{leb-true, leb-false}
 use Rattle.bundle.specs.Bundle.{Items, none, named, use-of, module-of, ignored, Bundle}
@@ -21,7 +21,7 @@ use Rattle.names.specs.Bytes.{ascii}
 use Rattle.names.specs.Decimal.{decimal}
 use Rattle.resolution.specs.Call.{position}
 use Rattle.discovery.specs.Discovery.{Fault, Use, uses, pathsOf}
-use Rattle.discovery.specs.Facts.{getD-any, getD-mem}
+use Rattle.discovery.specs.Facts.{getD-mem}
 use Rattle.discovery.specs.Room.{checked-roomy}
 use Rattle.order.specs.Run.{ordered, unitsOf}
 use Rattle.order.specs.Run as order
@@ -41,7 +41,7 @@ use Rattle.assembly.specs.Image as image
 use Rattle.assembly.specs.Call.{refusing, reportedTo, imagedTo}
 use Rattle.assembly.specs.Faults.{zero-last, enumsOf, mainFault, enum-found}
 use Rattle.assembly.specs.Given.{FilesGiven, OrderedFilesGiven, OneUnit}
-use Rattle.assembly.specs.GivenLaws.{counted-units, unit-there}
+use Rattle.assembly.specs.GivenLaws.{unit-there}
 use Rattle.assembly.specs.Join.{units-linked}
 use Rattle.assembly.specs.Theorems.{assembly, program-only, ring-first, FaultsFrom, of-discovery, of-step5}
 use Rattle.order.specs.declared.Answer.{Answer}
