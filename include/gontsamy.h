@@ -93,7 +93,7 @@ uint8_t gontsamy_linearize(const uint16_t *start, const uint16_t *length, const 
 /* A module tree that the caller holds. Zeros are a tree with no entry and no open module; what the arrays hold else is the library's
  * business, and gontsamy_tree_rows tells it. */
 #define GONTSAMY_TREE_OPENED 11
-#define GONTSAMY_TREE_CELLS 6144
+#define GONTSAMY_TREE_CELLS 7168
 typedef struct gontsamy_tree {
     uint16_t opened[GONTSAMY_TREE_OPENED];
     uint16_t cells[GONTSAMY_TREE_CELLS];

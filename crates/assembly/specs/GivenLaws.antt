@@ -34,7 +34,7 @@ use Rattle.order.specs.Run.{unitsOf}
 use Rattle.order.specs.Call.{unitFiles}
 use Rattle.order.specs.Theorems.{LinkedIds, first-half}
 use Rattle.assembly.specs.Assemble.{fileOf, itemsOf, localItems, assembled}
-use Rattle.assembly.specs.Parts.{headBytes}
+use Rattle.encoder.specs.Parts.{headBytes}
 use Rattle.assembly.specs.Paths.{program-formed}
 use Rattle.assembly.specs.Targets.{UnitOf, fileUses}
 use Rattle.assembly.specs.Walk.{itemsBytes, item-form, Brief, formed-brief}

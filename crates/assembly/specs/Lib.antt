@@ -14,8 +14,6 @@ pub mod Unique
 pub mod Demand
 pub mod Cases
 -- LAWS for code and proofs
-pub mod Parts
-pub mod Strings
 pub mod Targets
 pub mod Walk
 pub mod Uses

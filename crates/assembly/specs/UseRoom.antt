@@ -20,9 +20,10 @@ use Rattle.bundle.specs.Decode.{decode}
 use Rattle.bundle.specs.Access.{insideOf, item-use}
 use Rattle.assembly.specs.Assemble.{fileOf}
 use Rattle.assembly.specs.Paths.{FormedPath, small-width}
-use Rattle.assembly.specs.Strings.{string-length}
+use Rattle.encoder.specs.Strings.{string-length}
 use Rattle.assembly.specs.Targets.{pathBy, Within, UnitOf, some-target}
-use Rattle.assembly.specs.Uses.{crate-length, use-form}
+use Rattle.encoder.specs.Strings.{crate-length}
+use Rattle.assembly.specs.Uses.{use-form}
 use Rattle.assembly.specs.Walk.{oneAt, segmentsAt, elementsAt, useBytes}
 use Rattle.assembly.specs.declared.Target.{Target}
 use Rattle.assembly.specs.declared.Target.the-variants.{Unit, Nothing}

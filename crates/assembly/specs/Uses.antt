@@ -13,19 +13,11 @@ use Rattle.bundle.specs.Scan.{text}
 use Rattle.bundle.specs.Decode.{each, far, after, afterElement, elementAt, decode}
 use Rattle.bundle.specs.ListLaws.{each-length}
 use Rattle.assembly.specs.Assemble.{rewriteUse}
-use Rattle.assembly.specs.Strings.{stringsAt, stringBytes, element-bytes, last-strings, string-length}
+use Rattle.encoder.specs.Strings.{stringsAt, stringBytes, element-bytes, last-strings, string-length}
 use Rattle.assembly.specs.Targets.{pathBy}
 use Rattle.assembly.specs.Walk.{segmentsAt, elementsAt, useBytes}
 use Rattle.assembly.specs.declared.Target.{Target}
 use Rattle.assembly.specs.declared.Target.the-variants.{Unit, Nothing}
-
-pub crate-length : length (string (ascii "crate")) ≡ 6
-unfolding string ascii
-crate-length = refl
-
--- a unit's name as it is handed over
-pub name-length : (bytes : List ℕ) (n id : ℕ) → take n bytes ≡ unitName id → n ≤ length bytes → length (string (unitName id)) ≡ 1 + n
-name-length bytes n id e h = let l = ap length (sym e) ∙ length-take-le n bytes h in omega (arith, string-length (unitName id))
 
 module _ (s : List ℕ) (mark : ℕ) where
   pub elements-form : (first n : ℕ) → each (afterElement s) (elementAt s) n first ≡ elementsAt s mark → counted element (elementsAt s mark) ≡ n ∷ stringBytes s (2 * n) first

@@ -21,7 +21,7 @@ use Rattle.bundle.specs.Access.{insideOf, items-end, items-step, item-module, i
 use Rattle.discovery.specs.Discovery.{Use, uses}
 use Rattle.discovery.specs.Walk.{useAt}
 use Rattle.assembly.specs.Assemble.{rewriteUse, rewriteItems, function-kind, enum-kind, enumDeclarations, hasMain}
-use Rattle.assembly.specs.Parts.{headBytes}
+use Rattle.encoder.specs.Parts.{headBytes}
 
 abbrev pub segmentsAt : List ℕ → ℕ → List Text
 segmentsAt s at = decoded.counted (after s) (text s) s (at + 4)

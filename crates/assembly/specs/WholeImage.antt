@@ -12,7 +12,7 @@ use Rattle.bundle.specs.Encode.{two, sized, items}
 use Rattle.order.specs.Writing.{started}
 use Rattle.assembly.specs.Assemble.{assembled}
 use Rattle.assembly.specs.Image.{image-limit, small-buffer, long-image, imageBytes, itemsLength, imageLength, imaging, lentImage, items-length, small, long}
-use Rattle.assembly.specs.Parts.{started-length, then-filled, kept-start, headed, set-three}
+use Rattle.encoder.specs.Parts.{started-length, then-filled, kept-start, headed, set-three}
 use Rattle.assembly.specs.Given.{programBytes}
 use Rattle.assembly.specs.declared.Imaged.the-variants as imaged
 

@@ -9,7 +9,7 @@ use lib.Seq.{length-take-le}
 use borrow.Rule.Slice.PartMut.{midOf, putMid}
 use Rattle.bundle.specs.Encode.{string}
 use Rattle.order.specs.Writing.{started}
-use Rattle.assembly.specs.Parts.{headBytes, put-length, started-length, Front, front-long, front-start, front-room, front-all}
+use Rattle.encoder.specs.Parts.{headBytes, put-length, started-length, Front, front-long, front-start, front-room, front-all}
 
 pub by-name : (item name t : List ℕ) (k v b : ℕ) → name ≡ t → v ≡ b → item ≡ headBytes (2 + length (string t)) k b ++ string t → item ≡ headBytes (2 + length (string name)) k v ++ string name
 by-name item name t k v b e f h = rw (e, f) h

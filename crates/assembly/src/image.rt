@@ -6,13 +6,13 @@ ghost use Rattle.assembly.specs.Assemble.{assembled};
 ghost use Rattle.assembly.specs.Image.{imaging, lentImage};
 ghost use Rattle.assembly.specs.Given.{OrderGiven};
 use crate::Imaged;
-use crate::bytes::put;
-use crate::bytes::put_two;
 use crate::lengths::LIMIT;
 use crate::lengths::program_length;
 use crate::writing::write_program;
 use bundle::limits::HEADER;
 use bundle::limits::VERSION;
+use encoder::put;
+use encoder::put_two;
 
 // Document 01's numbers.
 const SMALL_BUFFER: u8 = 14;

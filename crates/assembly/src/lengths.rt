@@ -11,14 +11,14 @@ ghost use Rattle.assembly.specs.Given.{UnitsGiven, OrderGiven, unitBytes
 ghost use Rattle.assembly.specs.Targets.{UnitOf, fileUses, pathBy, Within};
 ghost use Rattle.assembly.specs.Walk.{segmentsAt, elementsAt, oneAt, itemBytes, itemsBytes, Brief};
 use crate::Target;
-use crate::bytes::strings_end;
-use crate::bytes::strings_length;
 use crate::targets::target_of;
 use crate::units::unit_items;
 use bundle::limits::DEPTH;
 use bundle::limits::IGNORED;
 use bundle::limits::MODULE;
 use bundle::limits::USE;
+use encoder::strings_end;
+use encoder::strings_length;
 
 pub const LIMIT: usize = 65536;
 

@@ -1,6 +1,5 @@
 // Step 5 of document 01, `assemble_program`, and the image. The functions have the names of resolve_order.rs.
 mod answers;
-mod bytes;
 mod checks;
 mod enums;
 mod image;
@@ -13,7 +12,6 @@ pub use answers::with_image;
 pub use checks::assembly_faults;
 pub use image::write_image;
 pub use units::unit_items;
-pub use writing::put_unit;
 pub use writing::rewrite_use;
 ghost use mathlib.Core.Path.{_≡_};
 ghost use Rattle.assembly.specs.Call.{assembleAnswer, assembleReport, assembleImage};

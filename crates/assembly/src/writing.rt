@@ -13,64 +13,29 @@ ghost use Rattle.discovery.specs.Walk.{UseMark, Small};
 ghost use Rattle.order.specs.Writing.{started};
 ghost use Rattle.assembly.specs.Assemble.{fileOf};
 ghost use Rattle.assembly.specs.Given.{UnitsGiven, OrderGiven, unitBytes, programBytes};
-ghost use Rattle.assembly.specs.Parts.{headBytes};
-ghost use Rattle.assembly.specs.Strings.{stringBytes};
+ghost use Rattle.encoder.specs.Parts.{headBytes};
 ghost use Rattle.assembly.specs.Targets.{UnitOf, InFile, fileUses, pathBy, Within};
 ghost use Rattle.assembly.specs.Walk.{segmentsAt, elementsAt, useBytes, oneAt, itemBytes, itemsBytes, Brief};
 use crate::Target;
-use crate::bytes::put;
-use crate::bytes::put_head;
-use crate::bytes::put_string;
-use crate::bytes::put_strings;
-use crate::bytes::put_two;
-use crate::bytes::strings_end;
 use crate::targets::target_of;
 use crate::units::unit_items;
 use bundle::limits::DEPTH;
 use bundle::limits::IGNORED;
 use bundle::limits::MODULE;
 use bundle::limits::USE;
+use encoder::put;
+use encoder::put_head;
+use encoder::put_segments;
+use encoder::put_start;
+use encoder::put_strings;
+use encoder::put_two;
+use encoder::put_unit_start;
+use encoder::strings_end;
 
 fn wide(x: u16) -> usize
     ensures { λ r. ⌜ r ≡ x ⌝ }
 {
     x as usize
-}
-
-fn put_crate(out: &mut [u8]) -> usize
-    requires { ⌜ length (string (ascii "crate")) ≤ length (now out) ⌝ }
-    ensures { λ r. ⌜ (r ≡ length (string (ascii "crate"))) × (now (out .exit) ≡ started (string (ascii "crate")) (now (out .entry))) ⌝ }
-{
-    put_string(out, b"crate")
-}
-
-// The name of the unit, as a string.
-pub fn put_unit(out: &mut [u8], id: usize) -> usize
-    requires { ⌜ length (string (unitName id)) ≤ length (now out) ⌝ }
-    ensures { λ r. ⌜ (r ≡ length (string (unitName id))) × (now (out .exit) ≡ started (string (unitName id)) (now (out .entry))) ⌝ }
-{
-    let unit = names::unit_name(id as u64);
-    let bytes = unit.bytes;
-    let n = unit.len;
-    put_string(out, &bytes[..n])
-}
-
-// The name of the unit, and the `left` strings of s from `rest` on.
-fn put_rest(s: &[u8], id: usize, rest: usize, left: usize, out: &mut [u8]) -> usize
-    requires { ⌜ ((rest < 2 ^ 60) × (left < 1024)) × (length (string (unitName id) ++ stringBytes (now s) left rest) ≤ length (now out)) ⌝ }
-    ensures { λ r. ⌜ (r ≡ length (string (unitName id) ++ stringBytes (now (s .entry)) left rest)) × (now (out .exit) ≡ started (string (unitName id) ++ stringBytes (now (s .entry)) left rest) (now (out .entry))) ⌝ }
-{
-    let a = put_unit(out, id);
-    a + put_strings(s, rest, left, &mut out[a..])
-}
-
-// The same after `crate`.
-fn put_segments(s: &[u8], id: usize, rest: usize, left: usize, out: &mut [u8]) -> usize
-    requires { ⌜ ((rest < 2 ^ 60) × (left < 1024)) × (length (string (ascii "crate") ++ (string (unitName id) ++ stringBytes (now s) left rest)) ≤ length (now out)) ⌝ }
-    ensures { λ r. ⌜ (r ≡ length (string (ascii "crate") ++ (string (unitName id) ++ stringBytes (now (s .entry)) left rest))) × (now (out .exit) ≡ started (string (ascii "crate") ++ (string (unitName id) ++ stringBytes (now (s .entry)) left rest)) (now (out .entry))) ⌝ }
-{
-    let a = put_crate(out);
-    a + put_rest(s, id, rest, left, &mut out[a..])
 }
 
 // A use's new path: its count, and its segments.
@@ -118,16 +83,6 @@ pub fn rewrite_use(
     let target = target_of(s, files, units, u, mark);
     let a = put_path(s, mark, target, out);
     a + put_elements(s, mark, &mut out[a..])
-}
-
-// The start of an item but for its length: the kind, the visibility and the name.
-fn put_start(out: &mut [u8], kind: usize, visibility: usize, name: &[u8]) -> usize
-    requires { ⌜ ((kind < 256) × (visibility < 256)) × ((length (now name) < 256) × (4 + length (string (now name)) ≤ length (now out))) ⌝ }
-    ensures { λ r. ⌜ (r ≡ 4 + length (string (now (name .entry)))) × (now (out .exit) ≡ started (take 2 (now (out .entry)) ++ (kind ∷ visibility ∷ string (now (name .entry)))) (now (out .entry))) ⌝ }
-{
-    put(out, 2, kind);
-    put(out, 3, visibility);
-    4 + put_string(&mut out[4..], name)
 }
 
 // A use: its rewritten form, then its head.
@@ -214,17 +169,6 @@ fn write_items(
         a = bundle::next_item(s, a);
     }
     sum
-}
-
-// The start of a unit's item but for its length.
-fn put_unit_start(out: &mut [u8], u: usize) -> usize
-    requires { ⌜ 4 + length (string (unitName u)) ≤ length (now out) ⌝ }
-    ensures { λ r. ⌜ (r ≡ 4 + length (string (unitName u))) × (now (out .exit) ≡ started (take 2 (now (out .entry)) ++ (module-kind ∷ 0 ∷ string (unitName u))) (now (out .entry))) ⌝ }
-{
-    let unit = names::unit_name(u as u64);
-    let bytes = unit.bytes;
-    let n = unit.len;
-    put_start(out, MODULE, 0, &bytes[..n])
 }
 
 // The unit u: a private module.

@@ -13,7 +13,7 @@ use Rattle.bundle.specs.Read.{Reading, value, refused, read}
 use Rattle.assembly.specs.Image.{imaging}
 use Rattle.assembly.specs.declared.Imaged.{Imaged}
 use Rattle.assembly.specs.declared.Imaged.the-variants as imaged
-use Rattle.assembly.specs.declared.Answer.{Answer}
+use Rattle.order.specs.declared.Answer.{Answer}
 use Rattle.scope_tree.specs.declared.Tree.{Tree}
 use Rattle.scope_tree.specs.Flat.{Flat, Entry}
 use Rattle.scope_tree.specs.Rows.{length-tab}
@@ -22,7 +22,7 @@ use Rattle.scope_tree.specs.Trees.{view, cleared, flat-of}
 use Rattle.scopes.specs.Runs.{first-is, first-good}
 use Rattle.scopes_c.specs.Lists.{put-at, written}
 use Rattle.scopes_c.specs.TreeRows.{numbers, all-numbers, Listed}
-use Rattle.linker.specs.Link.{Outcome, faulty, closed, ended, linked, linkBundle}
+use Rattle.linker.specs.Link.{Outcome, faulty, closed, ended, result, linkBundle}
 use Rattle.linker.specs.Call.{linkAnswer, linkReport, linkImage, TreeWith, TreeAfter, TreeTo, LinkTree}
 use Rattle.host.specs.LinkTold.{answer-length, rows-length, roomy, entriesWith, entriesAfter, entriesTo, linkEntries, answerOf, rowsOf, numberTold, reportTold, imageTold, answerTold, rowsTold}
 
@@ -69,7 +69,7 @@ module _ (u : Tree) where
   comes-after m (faulty l) h = kept h
   comes-after m (closed r) h = kept h
   comes-after m (ended n p) h = kept h
-  comes-after m (linked o p x) h = comes-with (imaging p m) x h
+  comes-after m (result q) h = comes-with (imaging (q .items) m) (q .tree) h
 
   comes-to : (r : Reading) (m : ℕ) → TreeTo r m cleared u → Comes (entriesTo r m) u
   comes-to (refused k p) m h = kept h

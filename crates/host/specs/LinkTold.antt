@@ -11,10 +11,10 @@ use Rattle.order.specs.Report.{small-buffer}
 use Rattle.assembly.specs.Image.{imaging}
 use Rattle.assembly.specs.declared.Imaged.{Imaged}
 use Rattle.assembly.specs.declared.Imaged.the-variants as imaged
-use Rattle.assembly.specs.declared.Answer.{Answer}
+use Rattle.order.specs.declared.Answer.{Answer}
 use Rattle.scope_tree.specs.Flat.{Flat, Entry}
 use Rattle.scopes_c.specs.TreeRows.{all-numbers}
-use Rattle.linker.specs.Link.{Outcome, faulty, closed, ended, linked, linkBundle}
+use Rattle.linker.specs.Link.{Outcome, faulty, closed, ended, result, linkBundle}
 use Rattle.linker.specs.Call.{linkAnswer, linkReport, linkImage}
 
 -- THE LAYOUT of the lent answer: a refusal's place, the report's length, how many units, the image's length, how many entries; then
@@ -54,7 +54,7 @@ abbrev pub entriesAfter : ℕ → Outcome → List Entry
 entriesAfter m (faulty l) = []
 entriesAfter m (closed r) = []
 entriesAfter m (ended n p) = []
-entriesAfter m (linked o p x) = entriesWith (imaging p m) x
+entriesAfter m (result q) = entriesWith (imaging (q .items) m) (q .tree)
 
 abbrev pub entriesTo : Reading → ℕ → List Entry
 entriesTo (refused k p) m = []

@@ -9,13 +9,7 @@ use borrow.Author.Tests.{le-leb, lt-leb}
 use Rattle.order.specs.Report.{small-buffer}
 use Rattle.order.specs.Call.{orderAnswer, orderReport}
 use Rattle.order.specs.declared.Answer.{Answer}
-use Rattle.assembly.specs.declared.Answer as assembled
 use Rattle.host.specs.LinkTold.{answer-length, answerOf}
-
--- an answer without an image, to be laid out as a link's
-abbrev pub imageless : Answer → assembled.Answer
-imageless a =
-    record { number = a .number; place = a .place; report = a .report; units = a .units; files = a .files; ids = a .ids; image = 0 }
 
 -- WHAT IS TOLD. Of bytes and the two that are lent: the number, and what each holds afterwards. Where the answer is too short: 14, and
 -- all as it was
@@ -26,7 +20,7 @@ unfoldable pub orderReportTold : List ℕ → List ℕ → List ℕ → List ℕ
 orderReportTold s report answer = cond (leb answer-length (length answer)) (orderReport s report) report
 
 unfoldable pub orderTold : List ℕ → List ℕ → List ℕ → List ℕ
-orderTold s report answer = cond (leb answer-length (length answer)) (answerOf (imageless (orderAnswer s report)) 0 answer) answer
+orderTold s report answer = cond (leb answer-length (length answer)) (answerOf (orderAnswer s report) 0 answer) answer
 
 -- AS THE CODE HAS IT
 module _ (s report answer : List ℕ) where
@@ -39,8 +33,8 @@ module _ (s report answer : List ℕ) where
   order-short h = rw (lt-leb answer-length (length answer) h) (refl, (refl, refl))
 
   pub order-told : answer-length ≤ length answer → (a : Answer) → a ≡ orderAnswer s report → (report′ answer′ : List ℕ) → report′ ≡ orderReport s report
-      → answer′ ≡ answerOf (imageless a) 0 answer → Told (a .number) report′ answer′
+      → answer′ ≡ answerOf a 0 answer → Told (a .number) report′ answer′
   unfolding orderNumberTold orderReportTold orderTold
   order-told h a e report′ answer′ f g =
       rw (le-leb answer-length (length answer) h)
-      (ap (λ (x : Answer). x .number) e, (f, g ∙ ap (λ (x : Answer). answerOf (imageless x) 0 answer) e))
+      (ap (λ (x : Answer). x .number) e, (f, g ∙ ap (λ (x : Answer). answerOf x 0 answer) e))

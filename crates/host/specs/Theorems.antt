@@ -24,8 +24,8 @@ use Rattle.assembly.specs.Call.{telling, reportedTo, imagedTo}
 use Rattle.assembly.specs.Theorems.{few-units}
 use Rattle.assembly.specs.declared.Imaged.{Imaged}
 use Rattle.assembly.specs.declared.Imaged.the-variants as imaged
-use Rattle.assembly.specs.declared.Answer.{Answer}
-use Rattle.linker.specs.Link.{Outcome, faulty, closed, ended, linked, linkBundle}
+use Rattle.order.specs.declared.Answer.{Answer}
+use Rattle.linker.specs.Link.{Outcome, faulty, closed, ended, result, linkBundle}
 use Rattle.linker.specs.Call.{answering, answerTo, linkAnswer}
 use Rattle.linker.specs.Theorems.{linked-bundle}
 use Rattle.host.specs.LinkTold.{answer-files, answer-ids, answer-length, rows-length, linkEntries, answerOf, answerTold}
@@ -133,12 +133,12 @@ module _ (s : List ℕ) (B : Bytes s) (n m : ℕ) where
   outcome-sized b v (faulty l) e = reported-sized (reporting (map fault l) n)
   outcome-sized b v (closed r) e = reported-sized (reporting (ring r ∷ []) n)
   outcome-sized b v (ended j p) e = telling-sized j p 0
-  outcome-sized b v (linked o p x) e =
-      let L = linked-bundle s B b v o p x e in
-      let c = order-count b o (L .files) in
-      let t = few-units b (sound s B b v .1) o (L .program .order) in
+  outcome-sized b v (result w) e =
+      let L = linked-bundle s B b v (w .ids) (w .items) (w .tree) e in
+      let c = order-count b (w .ids) (L .files) in
+      let t = few-units b (sound s B b v .1) (w .ids) (L .program .order) in
       let u = length-map (unitsOf b) (λ (q : Text). position q (pathsOf b)) in
-      imaged-sized (unitFiles b) o (omega arith) (omega arith) (imaging p m)
+      imaged-sized (unitFiles b) (w .ids) (omega arith) (omega arith) (imaging (w .items) m)
 
   read-sized : (r : Reading) → read s ≡ r → Sized (answerTo r n m)
   read-sized (refused k p) e = telling-sized k p 0

@@ -9,8 +9,8 @@ ghost use Rattle.host.specs.GraphTold.{graphOf, orderedTold, countTold};
 ghost use Rattle.host.specs.LinkTold.{answerOf, numberTold, reportTold, imageTold, answerTold, rowsTold};
 ghost use Rattle.graph.specs.Given.{linearizeGiven};
 ghost use Rattle.resolution.specs.Call.{resolve};
-use assembly::Answer;
 use graph::Graph;
+use order::Answer;
 
 mod tree;
 
@@ -105,19 +105,8 @@ pub extern "C" fn gontsamy_order(s: &[u8], report: &mut [u8], answer: &mut [usiz
     if answer.len() < ANSWER {
         return 14;
     }
-    let o = order::order(s, report);
-    let number = o.number;
-    let files = o.files;
-    let ids = o.ids;
-    let a = Answer {
-        number: number,
-        place: o.place,
-        report: o.report,
-        units: o.units,
-        files: files,
-        ids: ids,
-        image: 0,
-    };
+    let a = order::order(s, report);
+    let number = a.number;
     tell_link(answer, a, 0);
     number
 }

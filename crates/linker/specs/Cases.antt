@@ -35,10 +35,10 @@ use Rattle.scope_tree.specs.Form.{after-strings, names-from, local-name, elemen
 use Rattle.scope_tree.specs.Form as request
 use Rattle.assembly.specs.Assemble.{rewriteUse, rewriteItems, localItems, assembled, enumDeclarations, forbidEnumDecInDeps, hasMain, mainFaults, assemblyFaults, linearizeAndAssemble}
 use Rattle.assembly.specs.Image.{imageBytes, itemsLength, segmentsLength, elementsLength, imaging}
-use Rattle.assembly.specs.declared.Answer.{Answer}
+use Rattle.order.specs.declared.Answer.{Answer}
 use Rattle.linker.specs.Scopes.{scopeCalls, walkFrom, scopeWalk}
 use Rattle.linker.specs.Call.{linkAnswer}
-use Rattle.linker.specs.Link.{Outcome, faulty, closed, ended, linked, linkBundle}
+use Rattle.linker.specs.Link.{Outcome, faulty, closed, ended, result, linkBundle}
 
 -- an entry: its scope, kind, name and mark. The root is scope 0, the module at entry i is scope i + 1
 pub record Shown : Type 0 where
@@ -62,7 +62,7 @@ unfoldable pub telling : Outcome → LinkCase
 telling (faulty l) = faults l
 telling (closed r) = ring r
 telling (ended n p) = refusal n p
-telling (linked o p x) = links o (map showing (x .entries)) (imageBytes p)
+telling (result q) = links (q .ids) (map showing (q .tree .entries)) (imageBytes (q .items))
 
 unfoldable pub linking : Reading → LinkCase
 linking (value b) = telling (linkBundle b)

@@ -18,7 +18,7 @@ use Rattle.order.specs.Report.{Record, fault, ring, reportBytes, reportLength, 
 use Rattle.order.specs.Report as report
 use Rattle.order.specs.Exact.{fault-numbers}
 use Rattle.order.specs.Call.{padded, unitFiles, pathsOfIds, Wrote}
-use Rattle.order.specs.Demand.{ReportEnds, too-small, whole, report-ends, wrote, fault-some, ring-some, files-linked}
+use Rattle.order.specs.Demand.{ReportEnds, too-small, whole, report-ends, report-told, wrote, fault-some, ring-some, files-linked}
 use Rattle.order.specs.declared.Reported.{Reported}
 use Rattle.order.specs.declared.Reported.the-variants as reported
 use Rattle.scope_tree.specs.Flat.{Flat, flat, first-flat}
@@ -30,12 +30,12 @@ use Rattle.assembly.specs.Image.{small-buffer, imageLength, imaging, lentImage}
 use Rattle.assembly.specs.Call.{telling, refusing, reportedTo, imagedTo, ImageWritten, NoImage}
 use Rattle.assembly.specs.Demand.{ImageEnds, none, some, image-ends, image-written}
 use Rattle.assembly.specs.Faults.{step5-numbers}
-use Rattle.assembly.specs.Theorems.{Program, program-only, FaultsFrom, of-discovery, of-step5, FaultsMet}
-use Rattle.assembly.specs.declared.Answer.{Answer}
+use Rattle.assembly.specs.Theorems.{Program, program-only, FaultsFrom, of-discovery, of-step5, FaultsMet, never-refused}
+use Rattle.order.specs.declared.Answer.{Answer}
 use Rattle.assembly.specs.declared.Imaged.{Imaged}
 use Rattle.assembly.specs.declared.Imaged.the-variants as imaged
 use Rattle.linker.specs.Scopes.{Walked, done, stopped, scopeCalls, scopeWalk}
-use Rattle.linker.specs.Link.{Outcome, faulty, closed, ended, linked, step6, linkAfter, linkBundle}
+use Rattle.linker.specs.Link.{Outcome, faulty, closed, ended, result, linked, step6, linkAfter, linkBundle}
 use Rattle.linker.specs.Call.{recordsOf, answering, imageAfter, TreeOf, TreeWith, TreeAfter, answerTo, reportTo, imageTo, TreeTo, linkAnswer, linkReport, linkImage, LinkTree}
 use Rattle.linker.specs.InForm.{walk-number}
 use Rattle.linker.specs.Theorems.{Ends, walk-stopped, LinkedBundle, linked-bundle, faults-only, ring-only, ring-always}
@@ -88,21 +88,19 @@ ends-at s B b v n m e = go (linearizeAndAssemble b) refl e
         record { ids = o; items = p; program = w; ends = x; numbers = walk-number s B b v o p w n m x }
 
     go : (y : assembly.Outcome) → linearizeAndAssemble b ≡ y → linkAfter y ≡ ended n m → EndsAt b n m
-    go (assembly.faulty l) q h = let z : _≡_ {A = ℕ} 0 1 = cc in absurd (omega arith)
-    go (assembly.closed r) q h = let z : _≡_ {A = ℕ} 0 1 = cc in absurd (omega arith)
-    go (assembly.program o p) q h = by-walk o p (scopeWalk p) q refl h
+    go (faulty l) q h = let z : _≡_ {A = ℕ} 0 1 = cc in absurd (omega arith)
+    go (closed r) q h = let z : _≡_ {A = ℕ} 0 1 = cc in absurd (omega arith)
+    go (ended k j) q h = absurd (never-refused b k j q)
+    go (result w) q h = by-walk (w .ids) (w .items) (scopeWalk (w .items)) q refl h
 
 -- THE THEOREM
 module _ (s : List ℕ) (B : Bytes s) (rep img : List ℕ) (t u : Tree) where
   module _ (b : Bundle) (v : read s ≡ value b) where
-    report-told : (rs : List Record) → recordsOf (linkBundle b) ≡ rs → Untouched img img t u
-        → (Wrote rs rep (lentReport rs rep) 0 (reportLength rs) → LinkTold s rep img t u (lentReport rs rep) img (reportedTo (reported.Report (reportLength rs))))
-        → 0 < reportLength rs → LinkTold s rep img t u (lentReport rs rep) img (reportedTo (reporting rs (length rep)))
-    report-told rs e k told more = go (report-ends rs rep)
-      where
-        go : ReportEnds rs rep → LinkTold s rep img t u (lentReport rs rep) img (reportedTo (reporting rs (length rep)))
-        go (too-small l x) = small-report b v (subst (λ (y : List Record). length rep < reportLength y) (sym e) l) (ap reportedTo (x .answered)) (x .untouched) k
-        go (whole f) = subst (λ (y : Reported). LinkTold s rep img t u (lentReport rs rep) img (reportedTo y)) (sym (f .answered)) (told (wrote f more))
+    abbrev Told : List ℕ → Answer → Type 0
+    Told final a = LinkTold s rep img t u final img a
+
+    too-little : {y : Outcome} → linkBundle b ≡ y → Untouched img img t u → length rep < reportLength (recordsOf y) → Told rep (refusing small-buffer 0)
+    too-little e k l = small-report b v (subst (λ (y : Outcome). length rep < reportLength (recordsOf y)) (sym e) l) refl refl k
 
     abbrev withImage : List ℕ → Imaged → Answer
     withImage o y = imagedTo (length (unitFiles b)) (padded (unitFiles b)) (padded o) y
@@ -124,12 +122,12 @@ module _ (s : List ℕ) (B : Bytes s) (rep img : List ℕ) (t u : Tree) where
     by-outcome (faulty []) e k = absurd (faults-only s b v [] e .some refl)
     by-outcome (faulty (f ∷ fs)) e k =
         let n : Untouched img img t u = record { image = refl; tree = k } in
-        report-told (map fault (f ∷ fs)) (ap recordsOf e) n (λ w. faults b (f ∷ fs) v (faults-only s b v (f ∷ fs) e) refl w n) (fault-some f fs)
+        report-told Told (map fault (f ∷ fs)) rep (too-little e n) (λ w. faults b (f ∷ fs) v (faults-only s b v (f ∷ fs) e) refl w n) (fault-some f fs)
     by-outcome (closed r) e k =
         let n : Untouched img img t u = record { image = refl; tree = k } in
-        report-told (ring r ∷ []) (ap recordsOf e) n (λ w. ring-met b r v (ring-only s b v r e) refl w n) (ring-some r)
+        report-told Told (ring r ∷ []) rep (too-little e n) (λ w. ring-met b r v (ring-only s b v r e) refl w n) (ring-some r)
     by-outcome (ended n m) e k = ends b n m v (ends-at s B b v n m e) refl (nothing-lent rep) (record { image = refl; tree = k })
-    by-outcome (linked o p x) e k = image-told o p x e k (image-ends p img)
+    by-outcome (result q) e k = image-told (q .ids) (q .items) (q .tree) e k (image-ends (q .items) img)
 
   by-reading : (x : Reading) → read s ≡ x → TreeTo x (length img) t u → LinkTold s rep img t u (reportTo x rep) (imageTo x img) (answerTo x (length rep) (length img))
   by-reading (refused n p) e k = turned-back n p e refl refl (record { image = refl; tree = k })
@@ -179,7 +177,7 @@ module _ (s rep img : List ℕ) (b : Bundle) (v : read s ≡ value b) where
       go (faulty l) e k = by-faults l e (report-ends (map fault l) rep) k
       go (closed r) e k = (r, (e, ring-only s b v r e))
       go (ended n p) e k = absurd (omega (arith, k .0))
-      go (linked o p x) e k = absurd (silent o (imaging p (length img)) (k .0))
+      go (result q) e k = absurd (silent (q .ids) (imaging (q .items) (length img)) (k .0))
 
   -- and always then, where discovery has no fault and the buffer holds the report: it is the one record of a ring of them
   pub ring-answered : faultsOf b ≡ [] → ImportEachOther b

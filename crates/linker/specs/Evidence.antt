@@ -38,7 +38,7 @@ use Rattle.assembly.specs.Image.{small-buffer, image-limit, itemsLength, imageL
 use Rattle.assembly.specs.Image as image
 use Rattle.assembly.specs.Call.{refusing, imagedTo, NoImage, too-long, too-small}
 use Rattle.assembly.specs.Theorems.{Program}
-use Rattle.assembly.specs.declared.Answer as answers
+use Rattle.order.specs.declared.Answer as answers
 use Rattle.assembly.specs.declared.Imaged.the-variants as imaged
 use Rattle.linker.specs.Scopes.{Asked, scopeCalls, walkFrom, done}
 use Rattle.linker.specs.Link.{linked, linkBundle}

@@ -2,41 +2,37 @@
 use Prim.Native.Nat.{ℕ, _≤_, _<_}
 use native.Mathlib.Omega.{arith}
 use mathlib.Core.Path.{_≡_, refl, sym, ap, subst, _∙_}
-use mathlib.Core.List.{List, [], _∷_, map}
-use lib.ListN.{length, take, length-map}
+use mathlib.Core.List.{List, [], _∷_}
+use lib.ListN.{length, take}
 use borrow.Author.Tests.{eq-eqb, ne-eqb}
 use Rattle.bundle.specs.Bundle.{Bundle}
 use Rattle.bundle.specs.Decode.{decode}
 use Rattle.bundle.specs.Read.{verdict}
-use Rattle.bundle.specs.Theorems.{accepted, told}
-use Rattle.bundle.specs.declared.Checked.{Checked}
-use Rattle.bundle.specs.declared.Checked.the-variants.{Ok, Refused}
-use Rattle.resolution.specs.Call.{position}
-use Rattle.discovery.specs.Discovery.{Fault, pathsOf}
+use Rattle.bundle.specs.Theorems.{accepted}
+use Rattle.bundle.specs.declared.Checked.the-variants.{Ok}
+use Rattle.discovery.specs.Discovery.{Fault}
 use Rattle.discovery.specs.Meaning.{faultsIn}
-use Rattle.discovery.specs.Room.{checked-roomy}
-use Rattle.order.specs.Run.{ordered, unitsOf}
+use Rattle.order.specs.Run.{ordered}
 use Rattle.order.specs.Run as order
 use Rattle.order.specs.Call.{padded, unitFiles, orderAnswer, orderReport}
 use Rattle.order.specs.Call as call
-use Rattle.order.specs.Report.{Record, fault, ring, lentReport, reporting, nothing-lent}
-use Rattle.order.specs.Report as report
+use Rattle.order.specs.Report.{lentReport, reporting, nothing-lent}
 use Rattle.order.specs.Writing.{faultRecords}
-use Rattle.order.specs.declared.Answer as ordering
+use Rattle.order.specs.declared.Answer.{Answer}
 use Rattle.order.specs.declared.Reported.{Reported}
-use Rattle.order.specs.declared.Reported.the-variants as reported
+use Rattle.order.specs.Outcome.{andThen}
+use Rattle.order.specs.Carried.{order-read, carried}
 use Rattle.scope_tree.specs.Trees.{flat-of}
 use Rattle.scope_tree.specs.declared.Tree.{Tree}
 use Rattle.assembly.specs.Assemble.{assembled, assemblyFaults, step5, assembleAfter, linearizeAndAssemble}
 use Rattle.assembly.specs.Image.{imaging, lentImage}
-use Rattle.assembly.specs.Call.{telling, reportedTo, imagedTo}
-use Rattle.assembly.specs.Join.{some-unit, faults-counted, order-refused, order-read}
+use Rattle.assembly.specs.Call.{telling, reportedTo, imagedTo, withImage}
+use Rattle.assembly.specs.Join.{faults-counted}
 use Rattle.assembly.specs.Given as units
-use Rattle.assembly.specs.declared.Answer.{Answer}
 use Rattle.assembly.specs.declared.Imaged.{Imaged}
 use Rattle.assembly.specs.declared.Imaged.the-variants as imaged
-use Rattle.linker.specs.Link.{Outcome, faulty, closed, ended, linked, step6, linkAfter, linkBundle}
-use Rattle.linker.specs.Call.{recordsOf, answering, imageAfter, TreeWith, TreeAfter, linkAnswer, linkReport, linkImage, LinkTree}
+use Rattle.linker.specs.Link.{Outcome, faulty, closed, ended, result, linked, step6, linkAfter, linkBundle}
+use Rattle.linker.specs.Call.{recordsOf, builtOf, answering, imageAfter, TreeWith, TreeOfMade, TreeAfter, linkAnswer, linkReport, linkImage, LinkTree}
 use Rattle.linker.specs.Steps.{reached}
 use Rattle.linker.specs.Units.{ScopedAs}
 use Rattle.linker.specs.declared.Linked.{Linked}
@@ -65,52 +61,24 @@ module _ (s out img : List ℕ) (t : Tree) where
         let r = accepted s v in
         rw (r, e) (f, (g, (h, k)))
 
-  refused-due : (n p : ℕ) → verdict s ≡ Refused n p → Due s out img t out img (record { answer = telling n p 0; tree = t })
-  unfolding linkAnswer linkReport linkImage LinkTree
-  refused-due n p v = let r = told s n p v in rw r (refl, (refl, (refl, refl)))
+  in-turn : (c : Bundle) (x : order.Outcome) → linkAfter (assembleAfter c x) ≡ andThen x (λ o. linkAfter (step5 (assemblyFaults c o) o (assembled c o)))
+  in-turn c (faulty l) = refl
+  in-turn c (closed r) = refl
+  in-turn c (ended n p) = refl
+  in-turn c (result o) = refl
 
   after-order : (x : order.Outcome) → ordered b ≡ x → linkBundle b ≡ linkAfter (assembleAfter b x)
   unfolding linkBundle linearizeAndAssemble
   after-order x e = ap (λ (y : order.Outcome). linkAfter (assembleAfter b y)) e
 
-  same-report : (x : Reported) → telling (call.reportedTo x .number) (call.reportedTo x .place) (call.reportedTo x .report) ≡ reportedTo x
-  same-report (reported.Report n) = refl
-  same-report (reported.Refused n p) = refl
-
-  abbrev told-of : ordering.Answer → Answer
-  told-of z = telling (z .number) (z .place) (z .report)
-
-  module _ (a : ordering.Answer) (rep : List ℕ) (is : a ≡ orderAnswer s out) (lent : rep ≡ orderReport s out) where
+  module _ (a : Answer) (rep : List ℕ) (is : a ≡ orderAnswer s out) (lent : rep ≡ orderReport s out) where
     -- WHERE THERE ARE NO UNITS the answer of steps 3 and 4 is the answer
-    module _ (v : verdict s ≡ Ok) where
-      reported-due : (x : order.Outcome) (y : Outcome) (r : Reported) → ordered b ≡ x → linkBundle b ≡ y → call.answering (unitFiles b) (length out) x ≡ call.reportedTo r
-          → answering (unitFiles b) (length out) (length img) y ≡ reportedTo r → report.recordsOf x ≡ recordsOf y → img ≡ imageAfter y img → TreeAfter (length img) y t t
-          → Due s out img t rep img (record { answer = told-of a; tree = t })
-      reported-due x y r e l f g h k m =
-          let o = order-read s out img v in
-          let q : a ≡ call.reportedTo r = is ∙ (o .0 ∙ (ap (call.answering (unitFiles b) (length out)) e ∙ f)) in
-          due-by v y l rep img (record { answer = told-of a; tree = t })
-          (ap told-of q ∙ (same-report r ∙ sym g))
-          (lent ∙ (o .1 ∙ (ap (λ (z : order.Outcome). lentReport (report.recordsOf z) out) e ∙ ap (λ (z : List Record). lentReport z out) h))) k m
-
-      read-due : (x : order.Outcome) → ordered b ≡ x → a .units ≡ 0 → Due s out img t rep img (record { answer = told-of a; tree = t })
-      read-due (order.faulty l) e h = reported-due (order.faulty l) (faulty l) (reporting (map fault l) (length out)) e (after-order (order.faulty l) e) refl refl refl refl refl
-      read-due (order.closed r) e h = reported-due (order.closed r) (closed r) (reporting (ring r ∷ []) (length out)) e (after-order (order.closed r) e) refl refl refl refl refl
-      read-due (order.linked o) e h =
-          let n = some-unit b (checked-roomy s v .some) o e in
-          let l = length-map (unitsOf b) (λ p. position p (pathsOf b)) in
-          let q = ap (λ (z : ordering.Answer). z .units) (is ∙ (order-read s out img v .0 ∙ ap (call.answering (unitFiles b) (length out)) e)) in
-          absurd (omega arith)
-
-    pub no-units : a .units ≡ 0 → (x : Linked) → x ≡ record { answer = told-of a; tree = t } → Due s out img t rep img x
-    no-units h x q = subst (Due s out img t rep img) (sym q) (go (verdict s) refl)
-      where
-        go : (c : Checked) → verdict s ≡ c → Due s out img t rep img (record { answer = told-of a; tree = t })
-        go (Refused n p) v =
-            let y = order-refused s out img n p v in
-            subst (λ (z : List ℕ). Due s out img t z img (record { answer = told-of a; tree = t })) (sym (lent ∙ y .1))
-            (subst (λ (z : Answer). Due s out img t out img (record { answer = z; tree = t })) (sym (ap told-of (is ∙ y .0))) (refused-due n p v))
-        go Ok v = read-due v (ordered b) refl h
+    pub no-units : a .units ≡ 0 → (x : Linked) → x ≡ record { answer = a; tree = t } → Due s out img t rep img x
+    unfolding linkAnswer linkReport linkImage LinkTree linkBundle linearizeAndAssemble
+    no-units h x q =
+        let y = carried s out a rep is lent linkBundle (λ c o. linkAfter (step5 (assemblyFaults c o) o (assembled c o))) (λ c. in-turn c (ordered c))
+        (λ c q. withImage (unitFiles c) (length img) (builtOf q)) (λ q i. lentImage (q .items) i) img (TreeOfMade (length img) t t) (t ≡ t) h in
+        subst (Due s out img t rep img) (sym q) (y .answer, (y .report, (y .held, y .kept refl)))
 
     -- LINKED UNITS
     module _ (u : units.OrderedFilesGiven s (a .files) (a .ids) (a .units)) (kept : rep ≡ out) where
@@ -157,11 +125,11 @@ module _ (s out img : List ℕ) (t : Tree) where
           pub image-due : w .number ≡ 0 → (image₂ : List ℕ) (r : Imaged) (x : Linked) → r ≡ imaging (assembled b o) (length img)
               → x ≡ record { answer = imagedTo (a .units) (a .files) (a .ids) r; tree = treeBy r (w .tree) t } → image₂ ≡ lentImage (assembled b o) img → Due s out img t rep image₂ x
           image-due n image₂ r x e q k =
-              let l : a ≡ call.linking (unitFiles b) (padded o) = is ∙ (order-read s out img ok .0 ∙ ap (call.answering (unitFiles b) (length out)) (u .order)) in
+              let l : a ≡ call.linking (unitFiles b) (padded o) = is ∙ (order-read s out ok .0 ∙ ap (call.answering (unitFiles b) (length out)) (u .order)) in
               due-by ok (linked o (assembled b o) (flat-of (w .tree))) (program-is ∙ rw (eq-eqb (w .number) 0 n)) rep image₂ x
               (ap (λ (y : Linked). y .answer) q
               ∙ (ap (imagedTo (a .units) (a .files) (a .ids)) e
-              ∙ ap (λ (y : ordering.Answer). imagedTo (y .units) (y .files) (y .ids) (imaging (assembled b o) (length img))) l))
+              ∙ ap (λ (y : Answer). imagedTo (y .units) (y .files) (y .ids) (imaging (assembled b o) (length img))) l))
               (kept ∙ sym (nothing-lent out)) k
               (subst (λ (i : Imaged). TreeWith i (flat-of (w .tree)) t (x .tree)) e (subst (λ (u' : Tree). TreeWith r (flat-of (w .tree)) t u') (sym (ap (λ (y : Linked). y .tree) q)) (by-image r)))
             where

@@ -4,13 +4,13 @@ use native.Mathlib.Omega.{arith}
 use mathlib.Core.Path.{_≡_, refl, sym, ap, subst, _∙_}
 use mathlib.Core.Bool.{true}
 use mathlib.Core.List.{List, [], _∷_, _++_, map}
-use Rattle.bundle.specs.Bundle.{Items, Bundle}
+use Rattle.bundle.specs.Bundle.{Items, none, Bundle}
 use Rattle.bundle.specs.Form.{Every}
 use Rattle.bundle.specs.Stand.{Bytes}
 use Rattle.bundle.specs.Read.{value, read}
 use Rattle.discovery.specs.Discovery.{Fault}
 use Rattle.order.specs.Run.{filesOf}
-use Rattle.order.specs.Run as order
+use Rattle.order.specs.Outcome.{resultOr}
 use Rattle.order.specs.Files.{LinkedFiles, ImportEachOther}
 use Rattle.order.specs.Theorems.{faultsOf, RingMet, first-half-read}
 use Rattle.scope_tree.specs.Step.{Answer, ok, marked, refused, Model, step, run}
@@ -23,7 +23,7 @@ use Rattle.assembly.specs.Assemble as assembly
 use Rattle.assembly.specs.Theorems.{Assembled, assembly-read, Program, program-only, FaultsMet}
 use Rattle.assembly.specs.Theorems.{faults-only as assembly-faults-only, faults-always as assembly-faults-always, ring-only as assembly-ring-only, ring-always as assembly-ring-always}
 use Rattle.linker.specs.Scopes.{Asked, scopeCalls, Walked, done, stopped, onwards, walkFrom, scopeWalk}
-use Rattle.linker.specs.Link.{Outcome, faulty, closed, ended, linked, step6, linkAfter, linkBundle}
+use Rattle.linker.specs.Link.{Made, Outcome, faulty, closed, ended, result, linked, step6, linkAfter, linkBundle}
 
 -- the calls alone
 abbrev pub requests : List Asked → List Request
@@ -99,16 +99,17 @@ linked-steps b o p x e = go (linearizeAndAssemble b) refl e
   where
     by-walk : (o' : List ℕ) (p' : Items) (w : Walked Flat) → linearizeAndAssemble b ≡ assembly.program o' p' → scopeWalk p' ≡ w → step6 o' p' w ≡ linked o p x → Steps b o p (done x)
     by-walk o' p' (done y) q r h =
-        let e1 : o' ≡ o = cc in
-        let e2 : p' ≡ p = cc in
-        let e3 : y ≡ x = cc in
+        let e1 : o' ≡ o = ap (resultOr (λ (z : Made). z .ids) []) h in
+        let e2 : p' ≡ p = ap (resultOr (λ (z : Made). z .items) none) h in
+        let e3 : y ≡ x = ap (resultOr (λ (z : Made). z .tree) y) h in
         record { assembled = q ∙ (ap (λ (l : List ℕ). assembly.program l p') e1 ∙ ap (assembly.program o) e2); walked = ap scopeWalk (sym e2) ∙ (r ∙ ap done e3) }
     by-walk o' p' (stopped n m) q r h = let z : _≡_ {A = ℕ} 0 1 = cc in absurd (omega arith)
 
     go : (y : assembly.Outcome) → linearizeAndAssemble b ≡ y → linkAfter y ≡ linked o p x → Steps b o p (done x)
-    go (assembly.faulty l) q h = let z : _≡_ {A = ℕ} 0 1 = cc in absurd (omega arith)
-    go (assembly.closed r) q h = let z : _≡_ {A = ℕ} 0 1 = cc in absurd (omega arith)
-    go (assembly.program o' p') q h = by-walk o' p' (scopeWalk p') q refl h
+    go (faulty l) q h = let z : _≡_ {A = ℕ} 0 1 = cc in absurd (omega arith)
+    go (closed r) q h = let z : _≡_ {A = ℕ} 0 1 = cc in absurd (omega arith)
+    go (ended n m) q h = let z : _≡_ {A = ℕ} 0 1 = cc in absurd (omega arith)
+    go (result w) q h = by-walk (w .ids) (w .items) (scopeWalk (w .items)) q refl h
 
 pub linked-always : (b : Bundle) (o : List ℕ) (p : Items) (x : Flat) → linearizeAndAssemble b ≡ assembly.program o p → scopeWalk p ≡ done x → linkBundle b ≡ linked o p x
 unfolding linkBundle
@@ -122,19 +123,21 @@ after-report x o p (done y) e f l r = (
   λ h. let q : linked o p y ≡ closed r = ap (step6 o p) (sym f) ∙ (ap linkAfter (sym e) ∙ h) in let z : _≡_ {A = ℕ} 0 1 = cc in omega arith,
 )
 after-report x o p (stopped n m) e f l r = (
-  λ h. let q : ended n m ≡ faulty l = ap (step6 o p) (sym f) ∙ (ap linkAfter (sym e) ∙ h) in let z : _≡_ {A = ℕ} 0 1 = cc in omega arith,
-  λ h. let q : ended n m ≡ closed r = ap (step6 o p) (sym f) ∙ (ap linkAfter (sym e) ∙ h) in let z : _≡_ {A = ℕ} 0 1 = cc in omega arith,
+  λ h. let q : _≡_ {A = Outcome} (ended n m) (faulty l) = ap (step6 o p) (sym f) ∙ (ap linkAfter (sym e) ∙ h) in let z : _≡_ {A = ℕ} 0 1 = cc in omega arith,
+  λ h. let q : _≡_ {A = Outcome} (ended n m) (closed r) = ap (step6 o p) (sym f) ∙ (ap linkAfter (sym e) ∙ h) in let z : _≡_ {A = ℕ} 0 1 = cc in omega arith,
 )
 
-faulty-before : (x : assembly.Outcome) (l : List Fault) → linkAfter x ≡ faulty l → x ≡ assembly.faulty l
-faulty-before (assembly.faulty k) l h = let z : k ≡ l = cc in ap assembly.faulty z
-faulty-before (assembly.closed r) l h = let z : _≡_ {A = ℕ} 0 1 = cc in absurd (omega arith)
-faulty-before (assembly.program o p) l h = absurd (after-report (assembly.program o p) o p (scopeWalk p) refl refl l [] .0 h)
+faulty-before : (x : assembly.Outcome) (l : List Fault) → linkAfter x ≡ faulty l → x ≡ faulty l
+faulty-before (faulty k) l h = let z : k ≡ l = cc in ap faulty z
+faulty-before (closed r) l h = let z : _≡_ {A = ℕ} 0 1 = cc in absurd (omega arith)
+faulty-before (ended n m) l h = let z : _≡_ {A = ℕ} 0 1 = cc in absurd (omega arith)
+faulty-before (result q) l h = absurd (after-report (result q) (q .ids) (q .items) (scopeWalk (q .items)) refl refl l [] .0 h)
 
-closed-before : (x : assembly.Outcome) (r : List ℕ) → linkAfter x ≡ closed r → x ≡ assembly.closed r
-closed-before (assembly.faulty k) r h = let z : _≡_ {A = ℕ} 0 1 = cc in absurd (omega arith)
-closed-before (assembly.closed k) r h = let z : k ≡ r = cc in ap assembly.closed z
-closed-before (assembly.program o p) r h = absurd (after-report (assembly.program o p) o p (scopeWalk p) refl refl [] r .1 h)
+closed-before : (x : assembly.Outcome) (r : List ℕ) → linkAfter x ≡ closed r → x ≡ closed r
+closed-before (faulty k) r h = let z : _≡_ {A = ℕ} 0 1 = cc in absurd (omega arith)
+closed-before (closed k) r h = let z : k ≡ r = cc in ap closed z
+closed-before (ended n m) r h = let z : _≡_ {A = ℕ} 0 1 = cc in absurd (omega arith)
+closed-before (result q) r h = absurd (after-report (result q) (q .ids) (q .items) (scopeWalk (q .items)) refl refl [] r .1 h)
 
 module _ (s : List ℕ) (b : Bundle) (v : read s ≡ value b) where
   -- faults are told exactly when discovery has some, or an order is linked and step 5 has some

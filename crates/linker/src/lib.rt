@@ -5,9 +5,9 @@ mod walk;
 
 ghost use mathlib.Core.Path.{_≡_};
 ghost use Rattle.linker.specs.Call.{linkAnswer, linkReport, linkImage, LinkTree};
-use assembly::Answer;
 use discovery::known::KNOWN;
 use discovery::known::put_files;
+use order::Answer;
 use scopes::Tree;
 
 // What step 6 comes to: 0 and the tree, or a number from 40 to 51 and a place.
@@ -36,7 +36,7 @@ pub fn link(s: &[u8], report: &mut [u8], image: &mut [u8], tree: Tree) -> Linked
     let a = order::order_known(s, report, &mut known);
     let count = a.units;
     if count == 0 {
-        return answers::told(a.number, a.place, a.report, tree);
+        return answers::told(a, tree);
     }
     let files = a.files;
     let ids = a.ids;
@@ -44,16 +44,16 @@ pub fn link(s: &[u8], report: &mut [u8], image: &mut [u8], tree: Tree) -> Linked
     let f = assembly::assembly_faults(s, &known, &ids, count);
     let faults = f.count;
     if faults > 0 {
-        return answers::reported(
-            order::write_faults(&f.numbers, &f.places, faults, report),
+        return answers::told(
+            order::report_told(order::write_faults(&f.numbers, &f.places, faults, report)),
             tree,
         );
     }
     let w = walk::walk_program(s, &known, &ids, count);
     if w.number != 0 {
-        return answers::told(w.number, w.place, 0, tree);
+        return answers::told(order::refuse(w.number, w.place), tree);
     }
     let made = w.tree;
     let written = assembly::write_image(s, &known, &ids, count, image);
-    answers::imaged(written, files, ids, count, made, tree)
+    answers::imaged(a, written, made, tree)
 }

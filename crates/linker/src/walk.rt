@@ -94,7 +94,7 @@ fn put_call(
         return assembly::rewrite_use(s, files, units, id, place, out);
     }
     if kind == UNIT {
-        return assembly::put_unit(out, id);
+        return encoder::put_unit(out, id);
     }
     0
 }

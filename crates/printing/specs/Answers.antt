@@ -10,7 +10,7 @@ use Rattle.text.specs.Writing.{Put, shown, reach, put-then, put-as, put-whole}
 use Rattle.bundle.specs.Decode.{decode}
 use Rattle.order.specs.Run.{unitsOf}
 use Rattle.assembly.specs.Given.{OneUnit}
-use Rattle.assembly.specs.declared.Answer.{Answer}
+use Rattle.order.specs.declared.Answer.{Answer}
 use Rattle.scope_tree.specs.Trees.{flat-of}
 use Rattle.scope_tree.specs.declared.Tree.{Tree}
 use Rattle.linker.specs.Call.{linkAnswer, linkReport, LinkTree}

@@ -31,7 +31,7 @@ use Rattle.discovery.specs.Right.{discovered}
 use Rattle.discovery.specs.Weight.{reached-file}
 use Rattle.order.specs.Run.{ordered, unitsOf}
 use Rattle.order.specs.Run as order
-use Rattle.order.specs.Theorems.{first-half, order-count}
+use Rattle.order.specs.Theorems.{first-half, order-count, never-ended}
 use Rattle.order.specs.Exact.{fault-numbers, place-small, ring-exact}
 use Rattle.order.specs.Report.{fault, reportLength, recordLength}
 use Rattle.scope_tree.specs.Step.{Call, enter, alias, enum, function, bad}
@@ -44,7 +44,7 @@ use Rattle.assembly.specs.Assemble.{enum-kind, rewriteUse, rewriteItems, fileOf
 use Rattle.assembly.specs.Faults.{step5-numbers}
 use Rattle.assembly.specs.Theorems.{FaultsFrom, of-discovery, of-step5, program-always}
 use Rattle.linker.specs.Scopes.{Asked, isPublic, useForm, scopeCalls, Walked, done, stopped, scopeWalk}
-use Rattle.linker.specs.Link.{Outcome, faulty, ended, linked, step6, linkAfter, linkBundle}
+use Rattle.linker.specs.Link.{Outcome, faulty, closed, ended, result, linked, step6, linkAfter, linkBundle}
 use Rattle.linker.specs.Steps.{Plain}
 use Rattle.linker.specs.Fit.{unit-plain}
 use Rattle.linker.specs.Refusals.{RefusedBy, by-form, by-rule, by-limit, refused-by, bad-small}
@@ -242,15 +242,16 @@ module _ (s : List ℕ) (B : Bytes s) (b : Bundle) (v : read s ≡ value b) wher
           (⊎-elim (λ k. omega arith) (λ k. omega arith) (step5-numbers b o x i), step5-small b w o x i))
 
       go : (x : order.Outcome) → ordered b ≡ x → Fits (linkAfter (assembleAfter b x))
-      go (order.faulty l) q =
+      go (faulty l) q =
           let e = first-half b (w .form .some-file) .faults l q .0 in
           faulty-fits l (omega (arith, discovery-few b (read-roomy s B b v), ap length e)) (λ x m.
           let i = subst (λ (k : List Fault). List·Memᴰ x k) e m in
           (omega (arith, fault-numbers b x i .1), place-small b w x i))
-      go (order.closed r) q =
+      go (closed r) q =
           let below = first-half b (w .form .some-file) .ring-ids r q in
           ring-fits r (ring-exact b w r q .1) (λ u m. omega (arith, below u m, units-few))
-      go (order.linked o) q = fifth o q (assemblyFaults b o) refl
+      go (ended n p) q = absurd (never-ended b n p q)
+      go (result o) q = fifth o q (assemblyFaults b o) refl
 
 -- AT MOST 1,025 FAULTS are told
 module _ (s : List ℕ) (B : Bytes s) (b : Bundle) (v : read s ≡ value b) where

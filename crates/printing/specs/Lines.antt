@@ -14,7 +14,7 @@ use Rattle.order.specs.Run.{unitsOf}
 use Rattle.order.specs.Report.{ring-met}
 use Rattle.assembly.specs.Image.{itemsLength, image-limit, long-image}
 use Rattle.scope_tree.specs.Flat.{Entry, none}
-use Rattle.linker.specs.Link.{Outcome, faulty, closed, ended, linked, linkBundle}
+use Rattle.linker.specs.Link.{Outcome, faulty, closed, ended, result, linkBundle}
 
 -- the module of a scope among the entries l: `crate` and the modules around it, outermost first. The first number bounds how deep it lies
 unfoldable pub module-path : ℕ → List Entry → ℕ → Text
@@ -54,8 +54,8 @@ unfoldable pub outcome-lines : Bundle → Outcome → List (List Text)
 outcome-lines b (faulty l) = map fault-line l
 outcome-lines b (closed r) = ring-lines r
 outcome-lines b (ended n p) = no-line n p ∷ []
-outcome-lines b (linked o p x) =
-    cond (leb (itemsLength p) image-limit) (linked-lines (unitsOf b) o (x .entries)) (no-line long-image 0 ∷ [])
+outcome-lines b (result q) =
+    cond (leb (itemsLength (q .items)) image-limit) (linked-lines (unitsOf b) (q .ids) (q .tree .entries)) (no-line long-image 0 ∷ [])
 
 -- 1 to 13 are such a line too
 unfoldable pub reading-lines : Reading → List (List Text)

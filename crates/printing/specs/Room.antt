@@ -5,10 +5,9 @@ use native.Mathlib.Omega.{arith}
 use mathlib.Core.Bool.{Bool, true, false, cond}
 use mathlib.Core.Path.{_≡_, refl, ap, subst}
 use mathlib.Core.List.{List, [], _∷_, _++_, map}
-use lib.Dec.{eqb}
 use lib.ListN.{length, length-append, length-map}
 use Rattle.names.specs.Bytes.{member}
-use Rattle.bundle.specs.Bundle.{Text, Items, none, named, use-of, module-of, ignored, File, Bundle}
+use Rattle.bundle.specs.Bundle.{Text, File, Bundle}
 use Rattle.bundle.specs.Answers.{value-ok}
 use Rattle.bundle.specs.Form.{itemCount, fileItems, WellFormed}
 use Rattle.bundle.specs.Limits.{use-limit, item-limit}
@@ -26,8 +25,9 @@ use Rattle.discovery.specs.Weight.{sumUses, units-weigh, reached-file, sumOf, t
 use Rattle.order.specs.Run.{linked, ordered, filesOf}
 use Rattle.order.specs.Report.{fault, reportLength}
 use Rattle.order.specs.Theorems.{faultsOf, first-half}
-use Rattle.assembly.specs.Assemble.{enum-kind, itemsOf, enumDeclarations, foreignEnum, hasMain, noMain, assemblyFaults}
+use Rattle.assembly.specs.Assemble.{itemsOf, enumDeclarations, foreignEnum, hasMain, noMain, assemblyFaults}
 use Rattle.assembly.specs.Faults.{enumsOf, mainFault}
+use Rattle.assembly.specs.EnumRoom.{enums-few}
 use Rattle.assembly.specs.Theorems.{assembly, FaultsFrom, of-discovery, of-step5}
 use Rattle.linker.specs.Link.{faulty, linkBundle}
 use Rattle.linker.specs.Theorems.{faults-only}
@@ -91,19 +91,7 @@ discovery-few b r =
     let e = ap length (faults-in-turn b) in
     omega (arith, turn-few b [] (discoverDependencies b .sources), units-weigh b)
 
--- STEP 5: an enum is an item
-enums-few : (x : Items) → length (enumDeclarations x) ≤ itemCount x
-unfolding enumDeclarations itemCount
-enums-few none = omega arith
-enums-few (named k m v name rest) = go (eqb k enum-kind) (enums-few rest)
-  where
-    go : (c : Bool) → length (enumDeclarations rest) ≤ itemCount rest → length (cond c (m ∷ enumDeclarations rest) (enumDeclarations rest)) ≤ 1 + itemCount rest
-    go true h = omega arith
-    go false h = omega arith
-enums-few (use-of m v segments elements rest) = let h = enums-few rest in omega arith
-enums-few (module-of m v name inner rest) = let h = enums-few rest in let k = enums-few inner in omega (arith, length-append (enumDeclarations inner) (enumDeclarations rest))
-enums-few (ignored m v rest) = let h = enums-few rest in omega arith
-
+-- STEP 5: an enum is an item (`enums-few` of assembly)
 items-total : (fs : List File) → totalOf itemCount fs ≡ fileItems fs
 unfolding totalOf fileItems
 items-total [] = refl

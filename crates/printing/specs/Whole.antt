@@ -6,7 +6,7 @@ use mathlib.Core.Logic.{⊎-elim}
 use mathlib.Core.Path.{_≡_, refl, sym, ap, subst, _∙_}
 use mathlib.Core.List.{List, [], _∷_, _++_, map, List·Memᴰ, List·Memᴰ·head, List·Memᴰ·not-nil, List·Memᴰ·cases-cons, List·Memᴰ·append-cases, Memᴰ·append-right, Memᴰ·of-map}
 use lib.Dec.{eqb, leb}
-use lib.ListN.{length, getD, take, replicate, length-map, length-replicate, List·getD-map}
+use lib.ListN.{length, getD, take, replicate, length-map, length-replicate}
 use lib.Seq.{getD-take, length-take-le}
 use borrow.Author.Tests.{leb-true, leb-false}
 use Rattle.bundle.specs.Bundle.{Items, none, named, use-of, module-of, ignored, Bundle}
@@ -21,7 +21,7 @@ use Rattle.names.specs.Bytes.{ascii}
 use Rattle.names.specs.Decimal.{decimal}
 use Rattle.resolution.specs.Call.{position}
 use Rattle.discovery.specs.Discovery.{Fault, Use, uses, pathsOf}
-use Rattle.discovery.specs.Facts.{getD-any, getD-mem}
+use Rattle.discovery.specs.Facts.{getD-mem}
 use Rattle.discovery.specs.Room.{checked-roomy}
 use Rattle.order.specs.Run.{ordered, unitsOf}
 use Rattle.order.specs.Run as order
@@ -29,7 +29,6 @@ use Rattle.order.specs.Theorems.{first-half, ring-met-always}
 use Rattle.order.specs.Exact.{fault-numbers, place-small, ring-exact}
 use Rattle.order.specs.Report.{Record, fault, ring, reportLength, reporting, lentReport}
 use Rattle.order.specs.Report as report
-use Rattle.order.specs.declared.Answer as ordering
 use Rattle.order.specs.declared.Reported.{Reported}
 use Rattle.order.specs.Call.{unitFiles, padded, orderAnswer, orderReport}
 use Rattle.order.specs.Call as call
@@ -42,14 +41,15 @@ use Rattle.assembly.specs.Image as image
 use Rattle.assembly.specs.Call.{refusing, reportedTo, imagedTo}
 use Rattle.assembly.specs.Faults.{zero-last, enumsOf, mainFault, enum-found}
 use Rattle.assembly.specs.Given.{FilesGiven, OrderedFilesGiven, OneUnit}
+use Rattle.assembly.specs.GivenLaws.{unit-there}
 use Rattle.assembly.specs.Join.{units-linked}
 use Rattle.assembly.specs.Theorems.{assembly, program-only, ring-first, FaultsFrom, of-discovery, of-step5}
-use Rattle.assembly.specs.declared.Answer.{Answer}
+use Rattle.order.specs.declared.Answer.{Answer}
 use Rattle.assembly.specs.declared.Imaged.{Imaged}
 use Rattle.assembly.specs.declared.Imaged.the-variants as imaged
 use Rattle.linker.specs.Steps.{Plain}
 use Rattle.linker.specs.Fit.{unit-plain}
-use Rattle.linker.specs.Link.{Outcome, faulty, closed, ended, linked, linkAfter, linkBundle}
+use Rattle.linker.specs.Link.{Outcome, faulty, closed, ended, result, linked, linkAfter, linkBundle}
 use Rattle.linker.specs.Theorems.{linked-steps, faults-only, ring-only}
 use Rattle.linker.specs.Call.{recordsOf, answering, TreeWith, TreeAfter, linkAnswer, linkReport, LinkTree}
 use Rattle.text.specs.Words.{Text, lines, no-line}
@@ -70,25 +70,8 @@ turned-back s rep img t n p e = rw e (number-alone s n p rep (λ u. u ≡ t))
 
 -- LINKED
 -- a unit of the answer is a listed file
-module _ (s files : List ℕ) (units : ℕ) (x : FilesGiven s files units) where
-  count-is : length (unitsOf (decode s)) ≡ units
-  count-is = sym (length-map (unitsOf (decode s)) (λ p. position p (pathsOf (decode s)))) ∙ (ap length (sym (x .files-are)) ∙ length-take-le units files (x .fits))
-
-  one : (u : ℕ) → u < units → OneUnit s files u
-  one u h =
-      let n = count-is in
-      let l : u < length (unitsOf (decode s)) = omega arith in
-      let f = x .fits in
-      record {
-        checked = x .checked;
-        fits = omega arith;
-        is-unit = l;
-        index =
-            sym (getD-take units files u 0 h)
-            ∙ (ap (λ (k : List ℕ). getD k u 0) (x .files-are)
-            ∙ (getD-any (unitFiles (decode s)) u 0 (position [] (pathsOf (decode s))) (omega (arith, length-map (unitsOf (decode s)) (λ p. position p (pathsOf (decode s)))))
-            ∙ List·getD-map (λ p. position p (pathsOf (decode s))) (unitsOf (decode s)) u []));
-      }
+one : (s files : List ℕ) (units : ℕ) → FilesGiven s files units → (u : ℕ) → u < units → OneUnit s files u
+one s files units x u h = unit-there s files units (x .checked) (x .files-are) (x .fits) u h
 
 module _ (s rep img : List ℕ) (v : verdict s ≡ Ok) (o : List ℕ) (e : ordered (decode s) ≡ order.linked o) where
   abbrev b : Bundle
@@ -106,8 +89,8 @@ module _ (s rep img : List ℕ) (v : verdict s ≡ Ok) (o : List ℕ) (e : order
 
   files-are : OrderedFilesGiven s (padded (unitFiles b)) (padded o) (length (unitFiles b))
   files-are =
-      subst (λ (a : ordering.Answer). OrderedFilesGiven s (a .files) (a .ids) (a .units)) answer-is
-      (units-linked s rep img (orderAnswer s rep) (orderReport s rep) refl refl (λ z. some-units (sym (ap (λ (a : ordering.Answer). a .units) answer-is) ∙ z)) .0)
+      subst (λ (a : Answer). OrderedFilesGiven s (a .files) (a .ids) (a .units)) answer-is
+      (units-linked s rep img (orderAnswer s rep) (orderReport s rep) refl refl (λ z. some-units (sym (ap (λ (a : Answer). a .units) answer-is) ∙ z)) .0)
 
   order-is : take (length (unitFiles b)) (padded o) ≡ o
   order-is = let q : order.linked (take (length (unitFiles b)) (padded o)) ≡ order.linked o = sym (files-are .order) ∙ e in cc
@@ -250,7 +233,7 @@ module _ (s : List ℕ) (B : Bytes s) (rep img : List ℕ) (rep-size : length re
   due (faulty l) e = faults-due l e
   due (closed r) e = ring-due r e
   due (ended n p) e = number-alone s n p (lentReport [] rep) (λ u. u ≡ t)
-  due (linked o p x) e = linked-due o p x e
+  due (result q) e = linked-due (q .ids) (q .items) (q .tree) e
 
   accepted-lines : AnswerLines s rep img t (reading-lines (read s))
   unfolding linkAnswer linkReport LinkTree reading-lines

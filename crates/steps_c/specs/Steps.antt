@@ -13,7 +13,7 @@ use Rattle.bundle.specs.Read.{numberOf, verdict}
 use Rattle.bundle.specs.Decode.{decode}
 use Rattle.discovery.specs.declared.Graph.{Graph}
 use Rattle.discovery.specs.Turns.{Discovers}
-use Rattle.assembly.specs.declared.Answer.{Answer}
+use Rattle.order.specs.declared.Answer.{Answer}
 use Rattle.bundle.specs.declared.Checked.{Checked}
 use Rattle.bundle.specs.declared.Checked.the-variants.{Ok, Refused}
 

@@ -120,7 +120,7 @@ pub extern "C" fn steps_discover(s: &[u8], out: &mut [usize]) -> u8
     ensures { λ r. ⌜ r ≡ numberOf (verdict (now (s .entry))) ⌝ }
     ensures { λ r. ⌜ GraphTold (now (s .entry)) (now (out .entry)) (now (out .exit)) ⌝ }
 {
-    let checked = bundle::check(s);
+    let checked = card::check(s);
     match checked {
         bundle::Checked::Refused(n, p) => {
             tell(out, 0, p);

@@ -58,4 +58,4 @@ pub const ROWS: usize = ROW * ENTRIES;
 /// The arrays of a tree that are no entry's own: the open modules, and cells.
 pub const TREE_OPENED: usize = 11;
 /// What the entries and the index have in one array.
-pub const TREE_CELLS: usize = 6_144;
+pub const TREE_CELLS: usize = 7_168;

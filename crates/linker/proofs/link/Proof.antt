@@ -1,7 +1,8 @@
 use native.Mathlib.Omega.{arith}
-use mathlib.Core.Path.{_≡_, _∙_}
+use mathlib.Core.Path.{_≡_, ap, _∙_}
 use lib.ListN.{length}
 use denote.Ref.{now}
+use Rattle.order.specs.declared.Answer.{Answer}
 use Rattle.discovery.specs.Places.{fresh}
 use Rattle.assembly.specs.GivenLaws.{known-linked}
 use Rattle.assembly.specs.Join.{units-linked}
@@ -37,19 +38,22 @@ assembly-faults-requires c κs = known-linked (units-linked (now (c .before .bef
 write-faults-requires : tie.Need-write-faults-requires
 write-faults-requires c κs = search needs
 
-reported-requires : tie.Need-reported-requires
-reported-requires c κs = search needs
+report-told-requires : tie.Need-report-told-requires
+report-told-requires c κs = search needs
+
+told-requires-2 : tie.Need-told-requires-2
+told-requires-2 c κs = search needs
 
 same-length-2 : tie.Need-same-length-2
-same-length-2 c = search (needs, c .before .before .before .write-faults, c .before .before .before .before .before .before .before .before .before .before .before .before .before .before .before .before .before .before .before .before .before .order-known)
+same-length-2 c = search (needs, c .before .before .before .before .write-faults, c .before .before .before .before .before .before .before .before .before .before .before .before .before .before .before .before .before .before .before .before .before .before .order-known)
 
 returns-2 : tie.Need-returns-2
 returns-2 c =
-    let l = units-linked (now (c .before .before .before .before .before .before .before .before .before .before .before .before .before .before .before .before .before .before .before .before .before .before .before .before .before .before .before .args .s)) (now (c .before .before .before .before .before .before .before .before .before .before .before .before .before .before .before .before .before .before .before .before .before .before .before .before .before .before .before .args .report)) (now (c .before .before .before .before .before .before .before .before .before .before .before .before .before .before .before .before .before .before .before .before .before .before .before .before .before .before .before .args .image)) (c .before .before .before .before .before .before .before .before .before .before .before .before .before .before .before .before .before .before .before .before .before .order-known .result) (c .before .before .before .before .before .before .before .before .before .before .before .before .before .before .before .before .before .before .before .before .before .order-known .last .1 .0) (c .before .before .before .before .before .before .before .before .before .before .before .before .before .before .before .before .before .before .before .before .before .order-known .ensures .0) (c .before .before .before .before .before .before .before .before .before .before .before .before .before .before .before .before .before .before .before .before .before .order-known .ensures .1 .0) (c .before .before .before .before .before .before .before .before .before .before .before .before .before .before .before .before .before .before .if1 .left) in
-    let zn : length (c .before .before .before .before .before .before .before .before .before .before .before .assembly-faults .result .numbers) ≡ 1025 = search (needs, c .before .before .before .before .before .before .before .before .before .before .before .assembly-faults) in
-    let zp : length (c .before .before .before .before .before .before .before .before .before .before .before .assembly-faults .result .places) ≡ 1025 = search (needs, c .before .before .before .before .before .before .before .before .before .before .before .assembly-faults) in
-    let few = c .before .before .before .before .before .before .before .before .before .before .before .assembly-faults .ensures .1 in
-    faults-due (now (c .before .before .before .before .before .before .before .before .before .before .before .before .before .before .before .before .before .before .before .before .before .before .before .before .before .before .before .args .s)) (now (c .before .before .before .before .before .before .before .before .before .before .before .before .before .before .before .before .before .before .before .before .before .before .before .before .before .before .before .args .report)) (now (c .before .before .before .before .before .before .before .before .before .before .before .before .before .before .before .before .before .before .before .before .before .before .before .before .before .before .before .args .image)) (c .before .before .before .before .before .before .before .before .before .before .before .before .before .before .before .before .before .before .before .before .before .before .before .before .before .before .before .args .tree) (c .before .before .before .before .before .before .before .before .before .before .before .before .before .before .before .before .before .before .before .before .before .order-known .result) (c .before .before .before .before .before .before .before .before .before .before .before .before .before .before .before .before .before .before .before .before .before .order-known .last .1 .0) (c .before .before .before .before .before .before .before .before .before .before .before .before .before .before .before .before .before .before .before .before .before .order-known .ensures .0) (c .before .before .before .before .before .before .before .before .before .before .before .before .before .before .before .before .before .before .before .before .before .order-known .ensures .1 .0) (l .0) (l .1) (c .before .before .before .before .before .before .before .before .before .before .before .assembly-faults .result .numbers) (c .before .before .before .before .before .before .before .before .before .before .before .assembly-faults .result .places) (c .before .before .before .before .before .before .before .before .before .before .before .assembly-faults .result .count) (c .before .before .before .before .before .before .before .before .before .before .before .assembly-faults .ensures .0) (c .before .before .before .write-faults .last .1 .1 .1 .0) (c .before .before .before .write-faults .result) (c .reported .result) (omega arith) (omega arith) (c .before .before .before .before .before .before .before .before .before .before .if2 .taken) (c .before .before .before .write-faults .ensures .0) (c .reported .ensures) (c .before .before .before .write-faults .ensures .1)
+    let l = units-linked (now (c .before .before .before .before .before .before .before .before .before .before .before .before .before .before .before .before .before .before .before .before .before .before .before .before .before .before .before .before .args .s)) (now (c .before .before .before .before .before .before .before .before .before .before .before .before .before .before .before .before .before .before .before .before .before .before .before .before .before .before .before .before .args .report)) (now (c .before .before .before .before .before .before .before .before .before .before .before .before .before .before .before .before .before .before .before .before .before .before .before .before .before .before .before .before .args .image)) (c .before .before .before .before .before .before .before .before .before .before .before .before .before .before .before .before .before .before .before .before .before .before .order-known .result) (c .before .before .before .before .before .before .before .before .before .before .before .before .before .before .before .before .before .before .before .before .before .before .order-known .last .1 .0) (c .before .before .before .before .before .before .before .before .before .before .before .before .before .before .before .before .before .before .before .before .before .before .order-known .ensures .0) (c .before .before .before .before .before .before .before .before .before .before .before .before .before .before .before .before .before .before .before .before .before .before .order-known .ensures .1 .0) (c .before .before .before .before .before .before .before .before .before .before .before .before .before .before .before .before .before .before .before .if1 .left) in
+    let zn : length (c .before .before .before .before .before .before .before .before .before .before .before .before .assembly-faults .result .numbers) ≡ 1025 = search (needs, c .before .before .before .before .before .before .before .before .before .before .before .before .assembly-faults) in
+    let zp : length (c .before .before .before .before .before .before .before .before .before .before .before .before .assembly-faults .result .places) ≡ 1025 = search (needs, c .before .before .before .before .before .before .before .before .before .before .before .before .assembly-faults) in
+    let few = c .before .before .before .before .before .before .before .before .before .before .before .before .assembly-faults .ensures .1 in
+    faults-due (now (c .before .before .before .before .before .before .before .before .before .before .before .before .before .before .before .before .before .before .before .before .before .before .before .before .before .before .before .before .args .s)) (now (c .before .before .before .before .before .before .before .before .before .before .before .before .before .before .before .before .before .before .before .before .before .before .before .before .before .before .before .before .args .report)) (now (c .before .before .before .before .before .before .before .before .before .before .before .before .before .before .before .before .before .before .before .before .before .before .before .before .before .before .before .before .args .image)) (c .before .before .before .before .before .before .before .before .before .before .before .before .before .before .before .before .before .before .before .before .before .before .before .before .before .before .before .before .args .tree) (c .before .before .before .before .before .before .before .before .before .before .before .before .before .before .before .before .before .before .before .before .before .before .order-known .result) (c .before .before .before .before .before .before .before .before .before .before .before .before .before .before .before .before .before .before .before .before .before .before .order-known .last .1 .0) (c .before .before .before .before .before .before .before .before .before .before .before .before .before .before .before .before .before .before .before .before .before .before .order-known .ensures .0) (c .before .before .before .before .before .before .before .before .before .before .before .before .before .before .before .before .before .before .before .before .before .before .order-known .ensures .1 .0) (l .0) (l .1) (c .before .before .before .before .before .before .before .before .before .before .before .before .assembly-faults .result .numbers) (c .before .before .before .before .before .before .before .before .before .before .before .before .assembly-faults .result .places) (c .before .before .before .before .before .before .before .before .before .before .before .before .assembly-faults .result .count) (c .before .before .before .before .before .before .before .before .before .before .before .before .assembly-faults .ensures .0) (c .before .before .before .before .write-faults .last .1 .1 .1 .0) (c .before .before .before .before .write-faults .result) (c .told2 .result) (omega arith) (omega arith) (c .before .before .before .before .before .before .before .before .before .before .before .if2 .taken) (c .before .before .before .before .write-faults .ensures .0) (c .told2 .ensures ∙ ap (λ (y : Answer). record { answer = y; tree = c .before .before .before .before .before .before .before .before .before .before .before .before .before .before .before .before .before .before .before .before .before .before .before .before .before .before .before .before .args .tree }) (c .before .report-told .ensures)) (c .before .before .before .before .write-faults .ensures .1)
 
 slice-aggregate-walk-program : tie.Need-slice-aggregate-walk-program
 slice-aggregate-walk-program c = search needs
@@ -60,17 +64,20 @@ slice-aggregate-walk-program-2 c = search (needs, c .before .before .before .bef
 walk-program-requires : tie.Need-walk-program-requires
 walk-program-requires c κs = known-linked (units-linked (now (c .before .before .before .before .before .before .before .before .before .before .before .before .before .before .before .before .before .before .before .args .s)) (now (c .before .before .before .before .before .before .before .before .before .before .before .before .before .before .before .before .before .before .before .args .report)) (now (c .before .before .before .before .before .before .before .before .before .before .before .before .before .before .before .before .before .before .before .args .image)) (c .before .before .before .before .before .before .before .before .before .before .before .before .before .order-known .result) (c .before .before .before .before .before .before .before .before .before .before .before .before .before .order-known .last .1 .0) (c .before .before .before .before .before .before .before .before .before .before .before .before .before .order-known .ensures .0) (c .before .before .before .before .before .before .before .before .before .before .before .before .before .order-known .ensures .1 .0) (c .before .before .before .before .before .before .before .before .before .before .if1 .left) .0) (c .before .before .before .before .before .before .before .before .before .before .before .before .before .order-known .ensures .1 .1) (c .before .before .before .before .before .before .put-files .ensures)
 
-told-requires-2 : tie.Need-told-requires-2
-told-requires-2 c κs = search needs
+refuse-requires : tie.Need-refuse-requires
+refuse-requires c κs = search needs
+
+told-requires-3 : tie.Need-told-requires-3
+told-requires-3 c κs = search needs
 
 same-length-3 : tie.Need-same-length-3
-same-length-3 c = search (needs, c .before .before .before .before .before .before .before .before .before .before .before .before .before .before .before .before .before .order-known)
+same-length-3 c = search (needs, c .before .before .before .before .before .before .before .before .before .before .before .before .before .before .before .before .before .before .order-known)
 
 returns-3 : tie.Need-returns-3
 returns-3 c =
-    let l = units-linked (now (c .before .before .before .before .before .before .before .before .before .before .before .before .before .before .before .before .before .before .before .before .before .before .before .args .s)) (now (c .before .before .before .before .before .before .before .before .before .before .before .before .before .before .before .before .before .before .before .before .before .before .before .args .report)) (now (c .before .before .before .before .before .before .before .before .before .before .before .before .before .before .before .before .before .before .before .before .before .before .before .args .image)) (c .before .before .before .before .before .before .before .before .before .before .before .before .before .before .before .before .before .order-known .result) (c .before .before .before .before .before .before .before .before .before .before .before .before .before .before .before .before .before .order-known .last .1 .0) (c .before .before .before .before .before .before .before .before .before .before .before .before .before .before .before .before .before .order-known .ensures .0) (c .before .before .before .before .before .before .before .before .before .before .before .before .before .before .before .before .before .order-known .ensures .1 .0) (c .before .before .before .before .before .before .before .before .before .before .before .before .before .before .if1 .left) in
-    let z : c .before .before .before .before .before .before .before .assembly-faults .result .count ≡ 0 = omega (arith, c .before .before .before .before .before .before .if2 .left) in
-    ended-due (now (c .before .before .before .before .before .before .before .before .before .before .before .before .before .before .before .before .before .before .before .before .before .before .before .args .s)) (now (c .before .before .before .before .before .before .before .before .before .before .before .before .before .before .before .before .before .before .before .before .before .before .before .args .report)) (now (c .before .before .before .before .before .before .before .before .before .before .before .before .before .before .before .before .before .before .before .before .before .before .before .args .image)) (c .before .before .before .before .before .before .before .before .before .before .before .before .before .before .before .before .before .before .before .before .before .before .before .args .tree) (c .before .before .before .before .before .before .before .before .before .before .before .before .before .before .before .before .before .order-known .result) (c .before .before .before .before .before .before .before .before .before .before .before .before .before .before .before .before .before .order-known .last .1 .0) (c .before .before .before .before .before .before .before .before .before .before .before .before .before .before .before .before .before .order-known .ensures .0) (c .before .before .before .before .before .before .before .before .before .before .before .before .before .before .before .before .before .order-known .ensures .1 .0) (l .0) (l .1) (c .before .before .before .before .before .before .before .assembly-faults .result .numbers) (c .before .before .before .before .before .before .before .assembly-faults .result .places) (c .before .before .before .before .before .before .before .assembly-faults .result .count) (c .before .before .before .before .before .before .before .assembly-faults .ensures .0) z (c .before .before .before .walk-program .result) (c .before .before .before .walk-program .ensures) (c .before .if3 .taken) (c .told2 .result) (c .told2 .ensures)
+    let l = units-linked (now (c .before .before .before .before .before .before .before .before .before .before .before .before .before .before .before .before .before .before .before .before .before .before .before .before .args .s)) (now (c .before .before .before .before .before .before .before .before .before .before .before .before .before .before .before .before .before .before .before .before .before .before .before .before .args .report)) (now (c .before .before .before .before .before .before .before .before .before .before .before .before .before .before .before .before .before .before .before .before .before .before .before .before .args .image)) (c .before .before .before .before .before .before .before .before .before .before .before .before .before .before .before .before .before .before .order-known .result) (c .before .before .before .before .before .before .before .before .before .before .before .before .before .before .before .before .before .before .order-known .last .1 .0) (c .before .before .before .before .before .before .before .before .before .before .before .before .before .before .before .before .before .before .order-known .ensures .0) (c .before .before .before .before .before .before .before .before .before .before .before .before .before .before .before .before .before .before .order-known .ensures .1 .0) (c .before .before .before .before .before .before .before .before .before .before .before .before .before .before .before .if1 .left) in
+    let z : c .before .before .before .before .before .before .before .before .assembly-faults .result .count ≡ 0 = omega (arith, c .before .before .before .before .before .before .before .if2 .left) in
+    ended-due (now (c .before .before .before .before .before .before .before .before .before .before .before .before .before .before .before .before .before .before .before .before .before .before .before .before .args .s)) (now (c .before .before .before .before .before .before .before .before .before .before .before .before .before .before .before .before .before .before .before .before .before .before .before .before .args .report)) (now (c .before .before .before .before .before .before .before .before .before .before .before .before .before .before .before .before .before .before .before .before .before .before .before .before .args .image)) (c .before .before .before .before .before .before .before .before .before .before .before .before .before .before .before .before .before .before .before .before .before .before .before .before .args .tree) (c .before .before .before .before .before .before .before .before .before .before .before .before .before .before .before .before .before .before .order-known .result) (c .before .before .before .before .before .before .before .before .before .before .before .before .before .before .before .before .before .before .order-known .last .1 .0) (c .before .before .before .before .before .before .before .before .before .before .before .before .before .before .before .before .before .before .order-known .ensures .0) (c .before .before .before .before .before .before .before .before .before .before .before .before .before .before .before .before .before .before .order-known .ensures .1 .0) (l .0) (l .1) (c .before .before .before .before .before .before .before .before .assembly-faults .result .numbers) (c .before .before .before .before .before .before .before .before .assembly-faults .result .places) (c .before .before .before .before .before .before .before .before .assembly-faults .result .count) (c .before .before .before .before .before .before .before .before .assembly-faults .ensures .0) z (c .before .before .before .before .walk-program .result) (c .before .before .before .before .walk-program .ensures) (c .before .before .if3 .taken) (c .told3 .result) (c .told3 .ensures ∙ ap (λ (y : Answer). record { answer = y; tree = c .before .before .before .before .before .before .before .before .before .before .before .before .before .before .before .before .before .before .before .before .before .before .before .before .args .tree }) (c .before .refuse .ensures))
 
 slice-aggregate-write-image : tie.Need-slice-aggregate-write-image
 slice-aggregate-write-image c = search (needs, c .before .before .before .before .before .before .before .before .before .before .before .put-files .ensures .wide ∙ c .before .before .before .before .before .before .before .before .before .before .before .before .before .before .before .before .before .before .order-known .ensures .1 .1 .long)
@@ -109,13 +116,15 @@ link-spec =
     slice-aggregate-assembly-faults-2
     assembly-faults-requires
     write-faults-requires
-    reported-requires
+    report-told-requires
+    told-requires-2
     same-length-2
     returns-2
     slice-aggregate-walk-program
     slice-aggregate-walk-program-2
     walk-program-requires
-    told-requires-2
+    refuse-requires
+    told-requires-3
     same-length-3
     returns-3
     slice-aggregate-write-image

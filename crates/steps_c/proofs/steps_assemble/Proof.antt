@@ -1,6 +1,6 @@
 -- `steps_assemble` meets its contract. Assumes nothing.
 use Rattle.steps_c.specs.Steps.{assembleTold, assemble-refused, assemble-told}
-use Rattle.assembly.specs.declared.Answer.{Answer}
+use Rattle.order.specs.declared.Answer.{Answer}
 use mathlib.Core.Path.{ap, _∙_}
 use borrow.Author.Needs.{needs}
 use Rattle.steps_c.proofs.steps_assemble.Statement.{statement}

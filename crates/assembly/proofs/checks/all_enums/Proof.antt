@@ -13,7 +13,7 @@ use Rattle.assembly.specs.Given.{PlacedUnit}
 use Rattle.assembly.specs.GivenLaws.{placed-unit, below}
 use Rattle.assembly.specs.Assemble.{itemsOf, enumDeclarations}
 use Rattle.assembly.specs.Faults.{enumsOf}
-use Rattle.assembly.specs.Parts.{Filled, lent-length, filled-none, filled-length, filled-start, filled-room, filled-more, filled-all}
+use Rattle.encoder.specs.Parts.{Filled, lent-length, filled-none, filled-length, filled-start, filled-room, filled-more, filled-all}
 use Rattle.assembly.proofs.checks.all_enums.Statement.{statement}
 use Rattle.assembly.proofs.checks.all_enums.Tie as tie
 

@@ -8,7 +8,7 @@ use denote.Ref.{now}
 use borrow.Author.Needs.{needs}
 use Rattle.bundle.specs.Decode.{decode}
 use Rattle.assembly.specs.Walk.{enums-of}
-use Rattle.assembly.specs.Parts.{same-filled}
+use Rattle.encoder.specs.Parts.{same-filled}
 use Rattle.assembly.specs.Assemble.{itemsOf}
 use Rattle.assembly.proofs.checks.unit_enums.Statement.{statement}
 use Rattle.assembly.proofs.checks.unit_enums.Tie as tie

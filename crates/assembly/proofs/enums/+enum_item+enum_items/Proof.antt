@@ -12,7 +12,7 @@ use Rattle.bundle.proofs.item_kind.Reads as item-kind-reads
 use Rattle.bundle.proofs.module_items.Reads as module-items-reads
 use Rattle.bundle.proofs.next_item.Reads as next-item-reads
 use Rattle.assembly.specs.Walk.{itemEnums, itemsEnums, enums-end, enums-step, next-enums, enum-here, enums-flat, enums-inside, enums-other}
-use Rattle.assembly.specs.Parts.{Filled, lent-length, filled-none, filled-length, filled-start, filled-room, filled-more, filled-all, none-filled, one-filled, same-filled}
+use Rattle.encoder.specs.Parts.{Filled, lent-length, filled-none, filled-length, filled-start, filled-room, filled-more, filled-all, none-filled, one-filled, same-filled}
 use Rattle.assembly.proofs.enums.enum_item.Reads as enum-item
 use Rattle.assembly.proofs.enums.enum_item.Kinds as enum-item-kinds
 use Rattle.assembly.proofs.enums.+enum_item+enum_items.Lts-enum_item as enum-item-lts

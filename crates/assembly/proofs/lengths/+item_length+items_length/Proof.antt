@@ -18,9 +18,9 @@ use Rattle.discovery.specs.Walk.{use-mark}
 use Rattle.assembly.specs.Assemble.{fileOf}
 use Rattle.assembly.specs.Uses.{use-form}
 use Rattle.assembly.specs.Targets.{fileUses, pathBy}
-use Rattle.assembly.specs.Strings.{text-short, string-length}
+use Rattle.encoder.specs.Strings.{text-short, string-length}
 use Rattle.assembly.specs.Walk.{itemBytes, itemsBytes, segmentsAt, elementsAt, bytes-end, next-bytes, ignored-bytes, use-bytes, named-bytes, flat-bytes, module-bytes, name-text, Brief, brief-known, brief-inside, brief-here, brief-next}
-use Rattle.assembly.specs.Parts.{Counted, counted-none, counted-more, counted-all}
+use Rattle.encoder.specs.Parts.{Counted, counted-none, counted-more, counted-all}
 use Rattle.assembly.proofs.lengths.item_length.Reads as item-length
 use Rattle.assembly.proofs.lengths.item_length.Kinds as item-length-kinds
 use Rattle.assembly.proofs.lengths.+item_length+items_length.Lts-item_length as item-length-lts

@@ -10,8 +10,9 @@ use Rattle.names.specs.Bytes.{ascii}
 use Rattle.bundle.specs.Encode.{string, counted}
 use Rattle.assembly.specs.Walk.{segmentsAt, segments-read}
 use Rattle.assembly.specs.Targets.{pathBy, Within}
-use Rattle.assembly.specs.Strings.{stringBytes}
-use Rattle.assembly.specs.Uses.{crate-length, name-length, count-is, path-form, no-path}
+use Rattle.encoder.specs.Strings.{stringBytes}
+use Rattle.encoder.specs.Strings.{crate-length, name-length}
+use Rattle.assembly.specs.Uses.{count-is, path-form, no-path}
 use Rattle.assembly.proofs.lengths.path_length.Statement.{statement}
 use Rattle.assembly.proofs.lengths.path_length.Tie as tie
 

@@ -8,7 +8,7 @@ use borrow.Author.Needs.{needs}
 use Rattle.bundle.specs.Decode.{decode}
 use Rattle.assembly.specs.Given.{programBytes, unitBytes}
 use Rattle.assembly.specs.GivenLaws.{below, order-step, order-end}
-use Rattle.assembly.specs.Parts.{Counted, counted-none, counted-more, counted-all}
+use Rattle.encoder.specs.Parts.{Counted, counted-none, counted-more, counted-all}
 use Rattle.assembly.proofs.lengths.program_length.Statement.{statement}
 use Rattle.assembly.proofs.lengths.program_length.Tie as tie
 

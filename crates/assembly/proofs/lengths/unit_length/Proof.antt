@@ -9,7 +9,7 @@ use Rattle.bundle.specs.Decode.{decode}
 use Rattle.bundle.specs.Encode.{string}
 use Rattle.assembly.specs.Assemble.{fileOf}
 use Rattle.assembly.specs.GivenLaws.{placed-unit, unit-of, unit-brief, unit-form}
-use Rattle.assembly.specs.Uses.{name-length}
+use Rattle.encoder.specs.Strings.{name-length}
 use Rattle.assembly.specs.Walk.{itemsBytes}
 use Rattle.assembly.proofs.lengths.unit_length.Statement.{statement}
 use Rattle.assembly.proofs.lengths.unit_length.Tie as tie

@@ -22,10 +22,10 @@ use Rattle.discovery.specs.Walk.{use-mark}
 use Rattle.order.specs.Writing.{started}
 use Rattle.assembly.specs.Assemble.{fileOf}
 use Rattle.assembly.specs.Written.{Begun, Inside, by-name, by-name-inside, leaf-length, leaf-done, inside-start, inside-room, inside-short, inside-length, inside-done}
-use Rattle.assembly.specs.Strings.{text-short}
+use Rattle.encoder.specs.Strings.{text-short}
 use Rattle.assembly.specs.Targets.{fileUses}
 use Rattle.assembly.specs.Walk.{Brief, brief-known, itemBytes, itemsBytes, useBytes, bytes-end, bytes-step, next-bytes, ignored-bytes, use-bytes, named-bytes, start-room, flat-bytes, module-bytes, name-text, visibility-at, kind-byte, brief-here, brief-next, brief-use, brief-inside}
-use Rattle.assembly.specs.Parts.{Filled, lent-length, filled-none, filled-length, filled-start, filled-room, filled-part, filled-more, filled-all, none-filled, headBytes}
+use Rattle.encoder.specs.Parts.{Filled, lent-length, filled-none, filled-length, filled-start, filled-room, filled-part, filled-more, filled-all, none-filled, headBytes}
 use Rattle.assembly.proofs.writing.+write_item+write_items.{statement}
 use Rattle.assembly.proofs.writing.+write_item+write_items.Tie.{close}
 use Rattle.assembly.proofs.writing.write_item.Reads as write-item
@@ -34,8 +34,8 @@ use Rattle.assembly.proofs.writing.+write_item+write_items.Lts-write_it
 use Rattle.assembly.proofs.writing.write_items.Reads as write-items
 use Rattle.assembly.proofs.writing.write_items.Kinds as write-items-kinds
 use Rattle.assembly.proofs.writing.+write_item+write_items.Lts-write_items as write-items-lts
-use Rattle.assembly.proofs.bytes.put_two.Reads as put-two-reads
-use Rattle.assembly.proofs.writing.put_start.Reads as put-start-reads
+use Rattle.encoder.proofs.put_two.Reads as put-two-reads
+use Rattle.encoder.proofs.put_start.Reads as put-start-reads
 use Rattle.assembly.proofs.writing.write_use.Reads as write-use-reads
 
 abbrev μ-write-item : Measures 3 write-item-kinds.ps ℕ

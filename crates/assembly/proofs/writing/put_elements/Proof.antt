@@ -8,9 +8,9 @@ use denote.Ref.{now}
 use borrow.Author.Needs.{needs}
 use Rattle.bundle.specs.Encode.{counted, element}
 use Rattle.assembly.specs.Walk.{elementsAt, elements-read}
-use Rattle.assembly.specs.Parts.{Front, front-of, front-start, front-room, front-fits, front-done, put-first, same-filled}
+use Rattle.encoder.specs.Parts.{Front, front-of, front-start, front-room, front-fits, front-done, put-first, same-filled}
 use Rattle.assembly.specs.Uses.{elements-form}
-use Rattle.assembly.specs.Strings.{stringBytes}
+use Rattle.encoder.specs.Strings.{stringBytes}
 use Rattle.assembly.proofs.writing.put_elements.Statement.{statement}
 use Rattle.assembly.proofs.writing.put_elements.Tie as tie
 

@@ -10,8 +10,8 @@ use Rattle.names.specs.Decimal.{unitName}
 use Rattle.names.specs.Bytes.{ascii}
 use Rattle.bundle.specs.Limits.{file-limit}
 use Rattle.bundle.specs.Encode.{string, counted}
-use Rattle.assembly.specs.Strings.{stringsAt, stringBytes}
-use Rattle.assembly.specs.Parts.{Front, front-of, front-start, front-room, front-fits, front-done, put-first, same-filled, one-filled}
+use Rattle.encoder.specs.Strings.{stringsAt, stringBytes}
+use Rattle.encoder.specs.Parts.{Front, front-of, front-start, front-room, front-fits, front-done, put-first, same-filled, one-filled}
 use Rattle.assembly.specs.Uses.{count-is, path-form, no-path}
 use Rattle.assembly.specs.Walk.{segmentsAt, segments-read}
 use Rattle.assembly.specs.Targets.{pathBy, Within}

@@ -10,7 +10,7 @@ use Rattle.bundle.specs.Encode.{string, counted, element}
 use Rattle.bundle.specs.Decode.{decode}
 use Rattle.assembly.specs.Assemble.{fileOf}
 use Rattle.assembly.specs.Walk.{useBytes, segmentsAt, elementsAt}
-use Rattle.assembly.specs.Parts.{Front, front-of, front-start, front-room, front-fits, front-done, same-filled}
+use Rattle.encoder.specs.Parts.{Front, front-of, front-start, front-room, front-fits, front-done, same-filled}
 use Rattle.assembly.specs.Uses.{use-form}
 use Rattle.assembly.specs.Targets.{pathBy}
 use Rattle.assembly.proofs.writing.rewrite_use.Statement.{statement}

@@ -10,7 +10,7 @@ use Rattle.bundle.specs.Decode.{decode}
 use Rattle.order.specs.Writing.{started}
 use Rattle.assembly.specs.Given.{programBytes, unitBytes}
 use Rattle.assembly.specs.GivenLaws.{below, order-step, order-end}
-use Rattle.assembly.specs.Parts.{Filled, lent-length, filled-none, filled-length, filled-start, filled-room, filled-part, filled-more, filled-all}
+use Rattle.encoder.specs.Parts.{Filled, lent-length, filled-none, filled-length, filled-start, filled-room, filled-part, filled-more, filled-all}
 use Rattle.assembly.proofs.writing.write_program.Statement.{statement}
 use Rattle.assembly.proofs.writing.write_program.Tie as tie
 

@@ -8,7 +8,7 @@ use lib.ListN.{length, take, length-append}
 use denote.Ref.{now}
 use borrow.Author.Needs.{needs}
 use Rattle.order.specs.Writing.{started}
-use Rattle.assembly.specs.Parts.{started-length, put-whole, headBytes, kept-start, then-filled}
+use Rattle.encoder.specs.Parts.{started-length, put-whole, headBytes, kept-start, then-filled}
 use Rattle.bundle.specs.Decode.{decode}
 use Rattle.assembly.specs.Assemble.{fileOf}
 use Rattle.assembly.specs.Walk.{useBytes, visibility-at}

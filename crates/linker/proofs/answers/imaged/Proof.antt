@@ -1,27 +1,33 @@
-use mathlib.Core.Path.{refl}
+use mathlib.Core.Path.{sym, ap, _∙_}
+use Rattle.order.specs.declared.Answer.{Answer}
+use Rattle.scope_tree.specs.declared.Tree.{Tree}
+use Rattle.assembly.specs.Call.{imagedTo}
+use Rattle.assembly.specs.declared.Imaged.{Imaged}
+use Rattle.linker.specs.Join.{treeBy}
 use borrow.Author.Needs.{needs}
 use Rattle.linker.proofs.answers.imaged.Statement.{statement}
 use Rattle.linker.proofs.answers.imaged.Tie as tie
 
--- src/answers.rt:50:25
-enum-known-r : tie.Need-enum-known-r
-enum-known-r c = search needs
+with-image-requires : tie.Need-with-image-requires
+with-image-requires c κs = search needs
 
--- src/answers.rt:50:34
+enum-told : tie.Need-enum-told
+enum-told c = search needs
+
 told-requires : tie.Need-told-requires
 told-requires c κs = search needs
 
--- src/answers.rt:51:23
-enum-known-r-2 : tie.Need-enum-known-r-2
-enum-known-r-2 c = search needs
+enum-told-2 : tie.Need-enum-told-2
+enum-told-2 c = search needs
 
--- src/answers.rt:39:1
+told-requires-2 : tie.Need-told-requires-2
+told-requires-2 c κs = search needs
+
 returns : tie.Need-returns
-returns c = rw (c .before .before .r .given .1) (c .told .ensures)
+returns c = c .told .ensures ∙ (ap (λ (y : Answer). record { answer = y; tree = c .before .before .before .before .args .given }) (c .before .before .before .with-image .ensures) ∙ ap (λ (z : Tree). record { answer = imagedTo (c .before .before .before .before .args .linked .units) (c .before .before .before .before .args .linked .files) (c .before .before .before .before .args .linked .ids) (c .before .before .before .before .args .r); tree = z }) (sym (ap (λ (z : Imaged). treeBy z (c .before .before .before .before .args .made) (c .before .before .before .before .args .given)) (c .before .enum-told .given .1))))
 
--- src/answers.rt:39:1
 returns-2 : tie.Need-returns-2
-returns-2 c = rw (c .before .r2 .given .1) refl
+returns-2 c = c .told2 .ensures ∙ (ap (λ (y : Answer). record { answer = y; tree = c .before .before .before .before .args .made }) (c .before .before .before .with-image .ensures) ∙ ap (λ (z : Tree). record { answer = imagedTo (c .before .before .before .before .args .linked .units) (c .before .before .before .before .args .linked .files) (c .before .before .before .before .args .linked .ids) (c .before .before .before .before .args .r); tree = z }) (sym (ap (λ (z : Imaged). treeBy z (c .before .before .before .before .args .made) (c .before .before .before .before .args .given)) (c .before .enum-told2 .given .1))))
 
 pub imaged-spec : {M : Type 1} → statement M
-imaged-spec = tie.close (tie.spec enum-known-r told-requires enum-known-r-2 returns returns-2)
+imaged-spec = tie.close (tie.spec with-image-requires enum-told told-requires enum-told-2 told-requires-2 returns returns-2)

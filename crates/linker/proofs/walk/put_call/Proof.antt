@@ -5,7 +5,7 @@ use Rattle.bundle.specs.Decode.{decode}
 use Rattle.bundle.specs.Encode.{string}
 use Rattle.assembly.specs.Assemble.{fileOf}
 use Rattle.assembly.specs.GivenLaws.{few-units, unit-of}
-use Rattle.assembly.specs.Parts.{started-length}
+use Rattle.encoder.specs.Parts.{started-length}
 use Rattle.assembly.specs.UseRoom.{unit-few}
 use Rattle.assembly.specs.Walk.{useBytes}
 use Rattle.linker.specs.Steps.{taken-start, taken-string}

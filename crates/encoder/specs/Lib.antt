@@ -1,0 +1,3 @@
+-- definitions
+pub mod Parts
+pub mod Strings
