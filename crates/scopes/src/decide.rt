@@ -59,6 +59,7 @@ pub fn planned<'a>(
 ) -> Plan
     ensures { λ r. ⌜ r ≡ planned-of (packed-in (now (opened .entry)) (now (cells .entry)) (now (visible .entry)) (now (scopes .entry)) (now (marks .entry)) (now (n0 .entry)) (now (n1 .entry)) (now (n2 .entry)) (now (n3 .entry))) (now (name .entry)) kind twice deepest ⌝ }
 {
+    let n = names::name_of(name);
     if names::is_identifier(name) {} else {
         return no_plan(5);
     }
@@ -70,7 +71,6 @@ pub fn planned<'a>(
     if 9 < depth {
         return no_plan(51);
     }
-    let n = names::name_of(name);
     let here = look::current(opened, depth);
     if look::is_held(cells, scopes, n0, n1, n2, n3, here, at, kind, n) {
         return no_plan(twice);
@@ -104,6 +104,7 @@ pub fn get<'a>(
 ) -> Answer
     ensures { λ r. ⌜ r ≡ got-of (view (packed-in (now (opened .entry)) (now (cells .entry)) (now (visible .entry)) (now (scopes .entry)) (now (marks .entry)) (now (n0 .entry)) (now (n1 .entry)) (now (n2 .entry)) (now (n3 .entry)))) (now (name .entry)) kind ⌝ }
 {
+    let n = names::name_of(name);
     if names::is_identifier(name) {} else {
         return Answer::Refused(5);
     }
@@ -115,7 +116,6 @@ pub fn get<'a>(
     if 9 < depth {
         return Answer::Refused(51);
     }
-    let n = names::name_of(name);
     let here = look::current(opened, depth);
     let found = look::find_in(cells, scopes, n0, n1, n2, n3, here, at, kind, n);
     let Spot::At(i) = found else {

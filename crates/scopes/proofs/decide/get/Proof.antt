@@ -47,16 +47,16 @@ enum-told : tie.Need-enum-told
 enum-told c = search needs
 
 returns-4 : tie.Need-returns-4
-returns-4 c = let q = (c .before .before .before .before .before .before .before .before .before .wide) .ensures in let h = (c .before .before .before .before .before .before .before .before .if2) .left in let p = (c .before .before .before .before .before .before .wide2) .ensures in let g = (c .before .before .before .before .before .if3) .left in ap (mark-at _) (sym ((c .enum-told) .given .1)) ∙ get-found _ _ _ ((c .before .before .before .before .before .before .before .before .before .before .before .before .is-identifier) .ensures) ((c .before .before .before .before .before .before .before .before .before .before .before .if1) .taken) (omega arith) (omega arith) _ ((c .before .before .before .before .name-of) .ensures) _ (via-current _ p ((c .before .before .before .current) .ensures)) _ (via-spot _ _ _ _ _ _ _ _ _ _ q ((c .before .before .find-in) .ensures))
+returns-4 c = let q = (c .before .before .before .before .before .before .before .before .wide) .ensures in let h = (c .before .before .before .before .before .before .before .if2) .left in let p = (c .before .before .before .before .before .wide2) .ensures in let g = (c .before .before .before .before .if3) .left in ap (mark-at _) (sym ((c .enum-told) .given .1)) ∙ get-found _ _ _ ((c .before .before .before .before .before .before .before .before .before .before .before .is-identifier) .ensures) ((c .before .before .before .before .before .before .before .before .before .before .if1) .taken) (omega arith) (omega arith) _ ((c .before .before .before .before .before .before .before .before .before .before .before .before .name-of) .ensures) _ (via-current _ p ((c .before .before .before .current) .ensures)) _ (via-spot _ _ _ _ _ _ _ _ _ _ q ((c .before .before .find-in) .ensures))
 
 mul-t25 : tie.Need-mul-t25
-mul-t25 c = let b = spot-found _ _ _ _ _ _ _ _ _ _ _ _ (sym ((c .before .before .before .find-in) .ensures) ∙ (c .before .found) .given .1) in let h = (c .before .before .before .before .before .before .before .before .before .if2) .left in omega (arith, b .below)
+mul-t25 c = let b = spot-found _ _ _ _ _ _ _ _ _ _ _ _ (sym ((c .before .before .before .find-in) .ensures) ∙ (c .before .found) .given .1) in let h = (c .before .before .before .before .before .before .before .before .if2) .left in omega (arith, b .below)
 
 element-copy-out-t21 : tie.Need-element-copy-out-t21
-element-copy-out-t21 c = let b = spot-found _ _ _ _ _ _ _ _ _ _ _ _ (sym ((c .before .before .before .find-in) .ensures) ∙ (c .before .found) .given .1) in let h = (c .before .before .before .before .before .before .before .before .before .if2) .left in omega (arith, b .below)
+element-copy-out-t21 c = let b = spot-found _ _ _ _ _ _ _ _ _ _ _ _ (sym ((c .before .before .before .find-in) .ensures) ∙ (c .before .found) .given .1) in let h = (c .before .before .before .before .before .before .before .before .if2) .left in omega (arith, b .below)
 
 returns-5 : tie.Need-returns-5
-returns-5 c = let q = (c .before .before .before .before .before .before .before .before .before .before .before .wide) .ensures in let h = (c .before .before .before .before .before .before .before .before .before .before .if2) .left in let p = (c .before .before .before .before .before .before .before .before .wide2) .ensures in let g = (c .before .before .before .before .before .before .before .if3) .left in ap (mark-at _) (sym ((c .before .before .found) .given .1)) ∙ get-found _ _ _ ((c .before .before .before .before .before .before .before .before .before .before .before .before .before .before .is-identifier) .ensures) ((c .before .before .before .before .before .before .before .before .before .before .before .before .before .if1) .taken) (omega arith) (omega arith) _ ((c .before .before .before .before .before .before .name-of) .ensures) _ (via-current _ p ((c .before .before .before .before .before .current) .ensures)) _ (via-spot _ _ _ _ _ _ _ _ _ _ q ((c .before .before .before .before .find-in) .ensures))
+returns-5 c = let q = (c .before .before .before .before .before .before .before .before .before .before .wide) .ensures in let h = (c .before .before .before .before .before .before .before .before .before .if2) .left in let p = (c .before .before .before .before .before .before .before .wide2) .ensures in let g = (c .before .before .before .before .before .before .if3) .left in ap (mark-at _) (sym ((c .before .before .found) .given .1)) ∙ get-found _ _ _ ((c .before .before .before .before .before .before .before .before .before .before .before .before .before .is-identifier) .ensures) ((c .before .before .before .before .before .before .before .before .before .before .before .before .if1) .taken) (omega arith) (omega arith) _ ((c .before .before .before .before .before .before .before .before .before .before .before .before .before .before .name-of) .ensures) _ (via-current _ p ((c .before .before .before .before .before .current) .ensures)) _ (via-spot _ _ _ _ _ _ _ _ _ _ q ((c .before .before .before .before .find-in) .ensures))
 
 pub get-spec : {M : Type 1} → statement M
-get-spec = tie.close (tie.spec is-identifier-requires returns element-copy-out-wide wide-requires returns-2 element-copy-out-wide-2 wide-requires-2 returns-3 name-of-requires current-requires find-in-requires enum-known-found enum-told returns-4 mul-t25 element-copy-out-t21 returns-5)
+get-spec = tie.close (tie.spec name-of-requires is-identifier-requires returns element-copy-out-wide wide-requires returns-2 element-copy-out-wide-2 wide-requires-2 returns-3 current-requires find-in-requires enum-known-found enum-told returns-4 mul-t25 element-copy-out-t21 returns-5)

@@ -53,22 +53,22 @@ no-plan-requires-4 : tie.Need-no-plan-requires-4
 no-plan-requires-4 c κs = search needs
 
 returns-4 : tie.Need-returns-4
-returns-4 c = let q = (c .before .before .before .before .before .before .before .before .before .wide) .ensures in let h = (c .before .before .before .before .before .before .before .before .if2) .left in let p = (c .before .before .before .before .before .before .wide2) .ensures in let g = (c .before .before .before .before .before .if3) .left in (c .no-plan4) .ensures ∙ plan-held _ _ _ _ _ ((c .before .before .before .before .before .before .before .before .before .before .before .before .is-identifier) .ensures) ((c .before .before .before .before .before .before .before .before .before .before .before .if1) .taken) (omega arith) (omega arith) _ ((c .before .before .before .before .name-of) .ensures) _ (via-current _ p ((c .before .before .before .current) .ensures)) _ (via-held _ _ _ _ _ _ _ _ _ _ q ((c .before .before .is-held) .ensures)) ((c .before .if4) .taken)
+returns-4 c = let q = (c .before .before .before .before .before .before .before .before .wide) .ensures in let h = (c .before .before .before .before .before .before .before .if2) .left in let p = (c .before .before .before .before .before .wide2) .ensures in let g = (c .before .before .before .before .if3) .left in (c .no-plan4) .ensures ∙ plan-held _ _ _ _ _ ((c .before .before .before .before .before .before .before .before .before .before .before .is-identifier) .ensures) ((c .before .before .before .before .before .before .before .before .before .before .if1) .taken) (omega arith) (omega arith) _ ((c .before .before .before .before .before .before .before .before .before .before .before .before .name-of) .ensures) _ (via-current _ p ((c .before .before .before .current) .ensures)) _ (via-held _ _ _ _ _ _ _ _ _ _ q ((c .before .before .is-held) .ensures)) ((c .before .if4) .taken)
 
 no-plan-requires-5 : tie.Need-no-plan-requires-5
 no-plan-requires-5 c κs = search needs
 
 returns-5 : tie.Need-returns-5
-returns-5 c = let q = (c .before .before .before .before .before .before .before .before .before .before .wide) .ensures in let h = (c .before .before .before .before .before .before .before .before .before .if2) .left in let p = (c .before .before .before .before .before .before .before .wide2) .ensures in let g = (c .before .before .before .before .before .before .if3) .left in let l = (c .before .if5) .taken in (c .no-plan5) .ensures ∙ plan-full _ _ _ _ _ ((c .before .before .before .before .before .before .before .before .before .before .before .before .before .is-identifier) .ensures) ((c .before .before .before .before .before .before .before .before .before .before .before .before .if1) .taken) (omega arith) (omega arith) _ ((c .before .before .before .before .before .name-of) .ensures) _ (via-current _ p ((c .before .before .before .before .current) .ensures)) _ (via-held _ _ _ _ _ _ _ _ _ _ q ((c .before .before .before .is-held) .ensures)) ((c .before .before .if4) .left) (omega arith)
+returns-5 c = let q = (c .before .before .before .before .before .before .before .before .before .wide) .ensures in let h = (c .before .before .before .before .before .before .before .before .if2) .left in let p = (c .before .before .before .before .before .before .wide2) .ensures in let g = (c .before .before .before .before .before .if3) .left in let l = (c .before .if5) .taken in (c .no-plan5) .ensures ∙ plan-full _ _ _ _ _ ((c .before .before .before .before .before .before .before .before .before .before .before .before .is-identifier) .ensures) ((c .before .before .before .before .before .before .before .before .before .before .before .if1) .taken) (omega arith) (omega arith) _ ((c .before .before .before .before .before .before .before .before .before .before .before .before .before .name-of) .ensures) _ (via-current _ p ((c .before .before .before .before .current) .ensures)) _ (via-held _ _ _ _ _ _ _ _ _ _ q ((c .before .before .before .is-held) .ensures)) ((c .before .before .if4) .left) (omega arith)
 
 no-plan-requires-6 : tie.Need-no-plan-requires-6
 no-plan-requires-6 c κs = search needs
 
 returns-6 : tie.Need-returns-6
-returns-6 c = let q = (c .before .before .before .before .before .before .before .before .before .before .before .wide) .ensures in let h = (c .before .before .before .before .before .before .before .before .before .before .if2) .left in let p = (c .before .before .before .before .before .before .before .before .wide2) .ensures in let g = (c .before .before .before .before .before .before .before .if3) .left in let l = (c .before .before .if5) .left in let o = (c .before .if6) .taken in (c .no-plan6) .ensures ∙ plan-open _ _ _ _ _ ((c .before .before .before .before .before .before .before .before .before .before .before .before .before .before .is-identifier) .ensures) ((c .before .before .before .before .before .before .before .before .before .before .before .before .before .if1) .taken) (omega arith) (omega arith) _ ((c .before .before .before .before .before .before .name-of) .ensures) _ (via-current _ p ((c .before .before .before .before .before .current) .ensures)) _ (via-held _ _ _ _ _ _ _ _ _ _ q ((c .before .before .before .before .is-held) .ensures)) ((c .before .before .before .if4) .left) (omega arith) (omega arith)
+returns-6 c = let q = (c .before .before .before .before .before .before .before .before .before .before .wide) .ensures in let h = (c .before .before .before .before .before .before .before .before .before .if2) .left in let p = (c .before .before .before .before .before .before .before .wide2) .ensures in let g = (c .before .before .before .before .before .before .if3) .left in let l = (c .before .before .if5) .left in let o = (c .before .if6) .taken in (c .no-plan6) .ensures ∙ plan-open _ _ _ _ _ ((c .before .before .before .before .before .before .before .before .before .before .before .before .before .is-identifier) .ensures) ((c .before .before .before .before .before .before .before .before .before .before .before .before .if1) .taken) (omega arith) (omega arith) _ ((c .before .before .before .before .before .before .before .before .before .before .before .before .before .before .name-of) .ensures) _ (via-current _ p ((c .before .before .before .before .before .current) .ensures)) _ (via-held _ _ _ _ _ _ _ _ _ _ q ((c .before .before .before .before .is-held) .ensures)) ((c .before .before .before .if4) .left) (omega arith) (omega arith)
 
 returns-7 : tie.Need-returns-7
-returns-7 c = let q = (c .before .before .before .before .before .before .before .before .before .before .wide) .ensures in let h = (c .before .before .before .before .before .before .before .before .before .if2) .left in let p = (c .before .before .before .before .before .before .before .wide2) .ensures in let g = (c .before .before .before .before .before .before .if3) .left in let l = (c .before .if5) .left in let o = (c .if6) .left in plan-made _ _ _ _ _ ((c .before .before .before .before .before .before .before .before .before .before .before .before .before .is-identifier) .ensures) ((c .before .before .before .before .before .before .before .before .before .before .before .before .if1) .taken) (omega arith) (omega arith) _ ((c .before .before .before .before .before .name-of) .ensures) _ (via-current _ p ((c .before .before .before .before .current) .ensures)) _ (via-held _ _ _ _ _ _ _ _ _ _ q ((c .before .before .before .is-held) .ensures)) ((c .before .before .if4) .left) (omega arith) (omega arith)
+returns-7 c = let q = (c .before .before .before .before .before .before .before .before .before .wide) .ensures in let h = (c .before .before .before .before .before .before .before .before .if2) .left in let p = (c .before .before .before .before .before .before .wide2) .ensures in let g = (c .before .before .before .before .before .if3) .left in let l = (c .before .if5) .left in let o = (c .if6) .left in plan-made _ _ _ _ _ ((c .before .before .before .before .before .before .before .before .before .before .before .before .is-identifier) .ensures) ((c .before .before .before .before .before .before .before .before .before .before .before .if1) .taken) (omega arith) (omega arith) _ ((c .before .before .before .before .before .before .before .before .before .before .before .before .before .name-of) .ensures) _ (via-current _ p ((c .before .before .before .before .current) .ensures)) _ (via-held _ _ _ _ _ _ _ _ _ _ q ((c .before .before .before .is-held) .ensures)) ((c .before .before .if4) .left) (omega arith) (omega arith)
 
 pub planned-spec : {M : Type 1} → statement M
-planned-spec = tie.close (tie.spec is-identifier-requires no-plan-requires returns element-copy-out-wide wide-requires no-plan-requires-2 returns-2 element-copy-out-wide-2 wide-requires-2 no-plan-requires-3 returns-3 name-of-requires current-requires is-held-requires no-plan-requires-4 returns-4 no-plan-requires-5 returns-5 no-plan-requires-6 returns-6 returns-7)
+planned-spec = tie.close (tie.spec name-of-requires is-identifier-requires no-plan-requires returns element-copy-out-wide wide-requires no-plan-requires-2 returns-2 element-copy-out-wide-2 wide-requires-2 no-plan-requires-3 returns-3 current-requires is-held-requires no-plan-requires-4 returns-4 no-plan-requires-5 returns-5 no-plan-requires-6 returns-6 returns-7)
