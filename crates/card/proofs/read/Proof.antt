@@ -1,3 +1,4 @@
+-- `read` meets its contract. Assumes nothing.
 use borrow.Author.Needs.{needs}
 use native.Mathlib.Omega.{arith}
 use Rattle.card.proofs.read.Statement.{statement}

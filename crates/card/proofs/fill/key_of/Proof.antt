@@ -1,3 +1,4 @@
+-- `key_of` meets its contract. Assumes nothing.
 use borrow.Author.Needs.{needs}
 use native.Mathlib.Omega.{arith}
 use Rattle.card.proofs.fill.key_of.Statement.{statement}

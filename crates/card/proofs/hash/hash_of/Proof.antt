@@ -1,3 +1,4 @@
+-- `hash_of` meets its contract. Assumes nothing.
 use borrow.Author.Needs.{needs}
 use native.Mathlib.Omega.{arith}
 use Rattle.card.proofs.hash.hash_of.Statement.{statement}

@@ -1,3 +1,4 @@
+-- `find_path` meets its contract. Assumes nothing.
 use borrow.Author.Needs.{needs}
 use native.Mathlib.Omega.{arith}
 use Rattle.card.proofs.look.find_path.Statement.{statement}

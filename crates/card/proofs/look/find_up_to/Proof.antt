@@ -1,3 +1,4 @@
+-- `find_up_to` meets its contract. Assumes nothing.
 use borrow.Author.Needs.{needs}
 use native.Mathlib.Omega.{arith}
 use Rattle.card.proofs.look.find_up_to.Statement.{statement}

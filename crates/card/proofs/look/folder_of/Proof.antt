@@ -1,3 +1,4 @@
+-- `folder_of` meets its contract. Assumes nothing.
 use borrow.Author.Needs.{needs}
 use native.Mathlib.Omega.{arith}
 use Rattle.card.proofs.look.folder_of.Statement.{statement}

@@ -1,3 +1,4 @@
+-- `is_path_at` meets its contract. Assumes nothing.
 use borrow.Author.Needs.{needs}
 use native.Mathlib.Omega.{arith}
 use Rattle.card.proofs.look.is_path_at.Statement.{statement}

@@ -1,3 +1,4 @@
+-- `walk` meets its contract. Assumes nothing.
 use borrow.Author.Needs.{needs}
 use native.Mathlib.Omega.{arith}
 use Rattle.card.proofs.look.walk.Statement.{statement}

@@ -1,3 +1,4 @@
+-- `card_verdict` meets its contract. Assumes nothing.
 use borrow.Author.Needs.{needs}
 use native.Mathlib.Omega.{arith}
 use Rattle.card.proofs.make.card_verdict.Statement.{statement}

@@ -1,3 +1,4 @@
+-- `finish` meets its contract. Assumes nothing.
 use borrow.Author.Needs.{needs}
 use native.Mathlib.Omega.{arith}
 use Rattle.card.proofs.make.finish.Statement.{statement}

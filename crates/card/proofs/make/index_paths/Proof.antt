@@ -1,3 +1,4 @@
+-- `index_paths` meets its contract. Assumes nothing.
 use borrow.Author.Needs.{needs}
 use native.Mathlib.Omega.{arith}
 use Rattle.card.proofs.make.index_paths.Statement.{statement}

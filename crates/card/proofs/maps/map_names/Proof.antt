@@ -1,3 +1,4 @@
+-- `map_names` meets its contract. Assumes nothing.
 use borrow.Author.Needs.{needs}
 use native.Mathlib.Omega.{arith}
 use Rattle.card.proofs.maps.map_names.Statement.{statement}

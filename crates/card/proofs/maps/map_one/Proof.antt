@@ -1,3 +1,4 @@
+-- `map_one` meets its contract. Assumes nothing.
 use borrow.Author.Needs.{needs}
 use native.Mathlib.Omega.{arith}
 use Rattle.card.proofs.maps.map_one.Statement.{statement}

@@ -1,3 +1,4 @@
+-- `is_again` meets its contract. Assumes nothing.
 use borrow.Author.Needs.{needs}
 use native.Mathlib.Omega.{arith}
 use Rattle.card.proofs.paths.is_again.Statement.{statement}

@@ -1,3 +1,4 @@
+-- `link_paths` meets its contract. Assumes nothing.
 use borrow.Author.Needs.{needs}
 use native.Mathlib.Omega.{arith}
 use Rattle.card.proofs.paths.link_paths.Statement.{statement}

@@ -1,3 +1,4 @@
+-- `parent_of` meets its contract. Assumes nothing.
 use borrow.Author.Needs.{needs}
 use native.Mathlib.Omega.{arith}
 use Rattle.card.proofs.paths.parent_of.Statement.{statement}
