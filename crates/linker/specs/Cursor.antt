@@ -12,7 +12,7 @@ use mathlib.Core.Logic.{_⊎_, inl, inr, ⊎-elim}
 use borrow.Author.Tests.{eqb-true, eqb-false, ne-eqb, lt-ltb, le-ltb, ltb-true, ltb-false}
 use Rattle.names.specs.Decimal.{unitName}
 use Rattle.bundle.specs.Bundle.{Text, Items}
-use Rattle.bundle.specs.Limits.{depth-limit, segment-limit, use-kind, module-kind, ignored-kind}
+use Rattle.bundle.specs.Limits.{file-size, depth-limit, segment-limit, use-kind, module-kind, ignored-kind}
 use Rattle.bundle.specs.Scan.{byte, text}
 use Rattle.bundle.specs.Stand.{Bytes}
 use Rattle.bundle.specs.Decode.{afterLength, itemsAt, decode}

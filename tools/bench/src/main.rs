@@ -17,7 +17,7 @@ fn main() -> std::process::ExitCode {
             "usage: bench table [NAME..]     instructions of a link, a line for each case\n\
                   \x20      bench stacks [NAME..]    the smallest stack that it runs in\n\
                   \x20      bench run NAME WHO TIMES what is counted; WHO is port or original\n\
-                  NAME is a case of `generate --case`, or chain-N or star-N of N units"
+                  NAME is a case of `generate --case`, or chain-N, star-N or folders-N of N units"
                 .into(),
         ),
     };

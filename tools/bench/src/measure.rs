@@ -41,7 +41,7 @@ fn port(bytes: &[u8], times: u64) -> bool {
     })
 }
 
-/// A case by its name, or `chain-N`, `star-N`.
+/// A case by its name, or `chain-N`, `star-N`, `folders-N`.
 fn bundle(name: &str) -> Result<Vec<u8>, String> {
     let shaped = || {
         let (name, units) = name.split_once('-')?;
@@ -101,13 +101,13 @@ fn grouped(number: u64) -> String {
     out
 }
 
-/// These cases, or all, chains and stars after them.
+/// These cases, or all, and after them what grows.
 fn asked(names: &[&str]) -> Vec<String> {
     if !names.is_empty() {
         return names.iter().map(|name| name.to_string()).collect();
     }
     let mut all: Vec<String> = CASES.iter().map(|(name, _)| name.to_string()).collect();
-    for shape in ["chain", "star"] {
+    for shape in ["chain", "star", "folders"] {
         all.extend([1, 2, 4, 8, 16, 32, 64].map(|units| format!("{shape}-{units}")));
     }
     all

@@ -10,7 +10,7 @@ usage: generate SEED COUNT [--family NAME]   a stream of bundles on standard out
        generate --far SEED COUNT             the same of families that reach to the limits
        generate --list-families              their names
        generate --shape NAME UNITS           one bundle whose imports are a chain, ring, star,
-                                             diamonds or next-four
+                                             diamonds, next-four or folders
        generate --case NAME                  one bundle of those that `bench` measures
        generate --answers [--image]          a stream of bundles in, the model's answers out
        generate --discover                   the same, of discovery and order alone

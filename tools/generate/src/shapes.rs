@@ -2,7 +2,14 @@
 
 use bundle_format::{Body, Bundle, Element, File, Item};
 
-pub const SHAPES: [&str; 5] = ["chain", "ring", "star", "diamonds", "next-four"];
+pub const SHAPES: [&str; 6] = [
+    "chain",
+    "ring",
+    "star",
+    "diamonds",
+    "next-four",
+    "folders",
+];
 
 /// What unit `id` of `units` imports.
 fn imports(shape: &str, id: usize, units: usize) -> Option<Vec<usize>> {
@@ -17,13 +24,14 @@ fn imports(shape: &str, id: usize, units: usize) -> Option<Vec<usize>> {
             0 => below(&mut [id + 1, id + 2].into_iter()),
             at => below(&mut [id + 3 - at].into_iter()),
         },
-        "next-four" => below(&mut (id + 1..id + 5)),
+        "next-four" | "folders" => below(&mut (id + 1..id + 5)),
         _ => return None,
     })
 }
 
-/// A bundle of so many files, of up to 64, directly in the root: each has a public function and
-/// imports those of other files under new names. But for the ring it links.
+/// A bundle of so many files, of up to 64, directly in the root, or for `folders` all but the entry each
+/// in a folder of its own: each has a public function and imports those of other files under new names.
+/// But for the ring it links.
 pub fn shape(shape: &str, units: usize) -> Option<Vec<u8>> {
     let name = |id: usize| format!("u{id}").into_bytes();
     let item = |public, body| Item {
@@ -36,11 +44,16 @@ pub fn shape(shape: &str, units: usize) -> Option<Vec<u8>> {
         folders: vec![b"/r".to_vec()],
         ..Bundle::default()
     };
+    let folder = |id: usize| (shape == "folders" && id > 0).then(|| format!("d{id}"));
     for id in 0..units {
         let mut items = Vec::new();
         for import in imports(shape, id, units)? {
             let body = Body::Use {
-                segments: vec![b"crate".to_vec(), name(import)],
+                segments: [Some(b"crate".to_vec()), folder(import).map(String::into_bytes)]
+                    .into_iter()
+                    .flatten()
+                    .chain([name(import)])
+                    .collect(),
                 elements: vec![Element {
                     name: b"f".to_vec(),
                     alias: Some(format!("f{import}").into_bytes()),
@@ -52,8 +65,13 @@ pub fn shape(shape: &str, units: usize) -> Option<Vec<u8>> {
         if id == 0 {
             items.push(item(false, Body::Function(b"main".to_vec())));
         }
+        let mut path = String::from("/r");
+        if let Some(name) = folder(id) {
+            path = format!("/r/{name}");
+            bundle.folders.push(path.clone().into_bytes());
+        }
         bundle.files.push(File {
-            path: format!("/r/u{id}.simf").into_bytes(),
+            path: format!("{path}/u{id}.simf").into_bytes(),
             path_at: 0,
             items,
         });
