@@ -6,7 +6,7 @@ use bundle_format::{limits, Body, Bundle, File, Item};
 use crate::project::{element, file, function, import, item, module, remapping};
 
 /// Their names, each with what it is.
-pub const CASES: [(&str, &str); 10] = [
+pub const CASES: [(&str, &str); 11] = [
     ("tiny", "the printed case of document 01"),
     ("office", "12 files, remapped libraries"),
     ("wide", "64 files, 256 uses"),
@@ -23,6 +23,10 @@ pub const CASES: [(&str, &str); 10] = [
         "57 folders and 64 files with a common prefix of 231 bytes",
     ),
     ("one-hash", "1,000 names of one hash of the tree's index"),
+    (
+        "one-walk",
+        "1,000 names whose walks in the tree's index part as late as names of 24 equal bytes can",
+    ),
 ];
 
 /// The case of a name, encoded.
@@ -38,6 +42,7 @@ pub fn case(name: &str) -> Option<Vec<u8>> {
         "below" => below(),
         "alike" => alike(),
         "one-hash" => one_hash(),
+        "one-walk" => one_walk(),
         _ => return None,
     };
     bundle.encode().ok()
@@ -420,10 +425,11 @@ fn alike() -> Bundle {
     }
 }
 
-/// The hash of a function's name in the scope of the only unit, as crates/scopes has it.
-fn hash(name: &str) -> u64 {
+/// What the index of the tree mixes of a public function's name directly in the entry: 36 bits, of which the
+/// lowest ten are the hash.
+fn mix(name: &[u8]) -> u64 {
     let mut bytes = [0; limits::NAME];
-    bytes[..name.len()].copy_from_slice(name.as_bytes());
+    bytes[..name.len()].copy_from_slice(name);
     let word = |at: usize| {
         let word = bytes[8 * at..8 * at + 8].try_into().expect("eight bytes");
         u64::from_be_bytes(word)
@@ -433,13 +439,12 @@ fn hash(name: &str) -> u64 {
     let words: u64 = (0..4)
         .map(|at| (word(at) >> 32) * high[at] + (word(at) & 0xffff_ffff) * low[at])
         .sum();
-    ((words + 7000208109065 + 2 * 3387945472435) >> 28) % 1024
+    (words + 7000208109065 + 2 * 3387945472435) >> 28
 }
 
-fn one_hash() -> Bundle {
-    let names = (0..).map(|at| format!("f{at}"));
+/// Public functions of these names, and `main`, in one file.
+fn declaring(names: impl Iterator<Item = String>) -> Bundle {
     let mut items: Vec<Item> = names
-        .filter(|name| hash(name) == 0)
         .take(1_000)
         .map(|name| function(true, name.as_bytes()))
         .collect();
@@ -450,4 +455,60 @@ fn one_hash() -> Bundle {
         files: vec![file("/r/main.simf", items)],
         ..Bundle::default()
     }
+}
+
+fn one_hash() -> Bundle {
+    let names = (0..).map(|at| format!("f{at}"));
+    declaring(names.filter(|name| mix(name.as_bytes()) % 1_024 == 0))
+}
+
+/// Names of 32 bytes that agree in all 36 bits of the mix and in their first 24 bytes: for each choice of four
+/// letters there are one or two numbers for the last four bytes, some of which are letters.
+fn one_walk() -> Bundle {
+    let letters: Vec<u8> = (b'A'..=b'Z').chain(b'a'..=b'z').collect();
+    let ahead = "a".repeat(24);
+    let target = mix(format!("{ahead}mmmmmmmm").as_bytes());
+    let mut names = Vec::new();
+    for at in 0.. {
+        let mut rest = at;
+        let mut four = String::new();
+        for _ in 0..4 {
+            four.push(letters[rest % letters.len()] as char);
+            rest /= letters.len();
+        }
+        if rest > 0 {
+            break;
+        }
+        // The mix rises with the last four bytes: the first number that reaches the target, and the next.
+        let reaches = |last: u32| -> bool {
+            let mut bytes = format!("{ahead}{four}").into_bytes();
+            bytes.extend(last.to_be_bytes());
+            mix(&bytes) >= target
+        };
+        let (mut under, mut over) = (0u32, u32::MAX);
+        if !reaches(over) || reaches(under) {
+            continue;
+        }
+        while over - under > 1 {
+            let middle = under + (over - under) / 2;
+            match reaches(middle) {
+                true => over = middle,
+                false => under = middle,
+            }
+        }
+        for last in over..over.saturating_add(3) {
+            let bytes = last.to_be_bytes();
+            if !bytes.iter().all(|byte| letters.contains(byte)) {
+                continue;
+            }
+            let name = format!("{ahead}{four}{}", String::from_utf8_lossy(&bytes));
+            if mix(name.as_bytes()) == target {
+                names.push(name);
+            }
+        }
+        if names.len() >= 1_000 {
+            break;
+        }
+    }
+    declaring(names.into_iter())
 }
