@@ -13,7 +13,7 @@ use Rattle.scope_tree.specs.Step.{Came, declared, used}
 use Rattle.scope_tree.specs.Flat.{Body, own, copy, Entry, none}
 use Rattle.scope_tree.specs.Rows.{tab, length-tab, getD-tab, isOwn, row, row-at, name-at, came-of, body-of}
 use Rattle.scope_tree.specs.Views.{View, rows, entries-of}
-use Rattle.scopes_c.specs.Lists.{put-at, written}
+use Rattle.scopes_c.specs.Lists.{put-at, put-inside, written}
 
 -- 0 for a declaration, else the number of the entry copied, plus one
 abbrev pub origin-of : Came → ℕ
@@ -76,6 +76,36 @@ entry-numbers k v s m n o a u = go (isOwn k o) o
     go true (suc x) = refl
     go false zero = refl
     go false (suc x) = refl
+
+-- numbers whose places are all there, before `end`: one is stored, the others follow it
+store-next : (o : List ℕ) (end p q x : ℕ) (xs l : List ℕ) → p < end → q ≡ p + 1 → (end ≤ length (set o p x) → l ≡ written (set o p x) q xs) → end ≤ length o → l ≡ written o p (x ∷ xs)
+unfolding written
+store-next o end p q x xs l lt e k h =
+    let b : p < length o = omega arith in
+    k (rw (length-set o p x) h)
+    ∙ ap (λ (j : ℕ). written (set o p x) j xs) e
+    ∙ ap (λ (y : List ℕ). written y (p + 1) xs) (put-inside o p x b .0)
+
+store-end : (o : List ℕ) (q : ℕ) → o ≡ written o q []
+unfolding written
+store-end o q = refl
+
+-- eleven numbers whose places are all there are stored one by one
+pub eleven-stored : (o : List ℕ) (at x0 x1 x2 x3 x4 x5 x6 x7 x8 x9 x10 : ℕ) → at + 11 ≤ length o
+    → set (set (set (set (set (set (set (set (set (set (set o at x0) (at + 1) x1) (at + 2) x2) (at + 3) x3) (at + 4) x4) (at + 5) x5) (at + 6) x6) (at + 7) x7) (at + 8) x8) (at + 9) x9) (at + 10) x10
+    ≡ written o at (x0 ∷ x1 ∷ x2 ∷ x3 ∷ x4 ∷ x5 ∷ x6 ∷ x7 ∷ x8 ∷ x9 ∷ x10 ∷ [])
+eleven-stored o at x0 x1 x2 x3 x4 x5 x6 x7 x8 x9 x10 =
+    store-next _ (at + 11) at (at + 1) x0 _ _ (omega arith) (omega arith)
+    (store-next _ (at + 11) (at + 1) (at + 2) x1 _ _ (omega arith) (omega arith)
+    (store-next _ (at + 11) (at + 2) (at + 3) x2 _ _ (omega arith) (omega arith)
+    (store-next _ (at + 11) (at + 3) (at + 4) x3 _ _ (omega arith) (omega arith)
+    (store-next _ (at + 11) (at + 4) (at + 5) x4 _ _ (omega arith) (omega arith)
+    (store-next _ (at + 11) (at + 5) (at + 6) x5 _ _ (omega arith) (omega arith)
+    (store-next _ (at + 11) (at + 6) (at + 7) x6 _ _ (omega arith) (omega arith)
+    (store-next _ (at + 11) (at + 7) (at + 8) x7 _ _ (omega arith) (omega arith)
+    (store-next _ (at + 11) (at + 8) (at + 9) x8 _ _ (omega arith) (omega arith)
+    (store-next _ (at + 11) (at + 9) (at + 10) x9 _ _ (omega arith) (omega arith)
+    (store-next _ (at + 11) (at + 10) (at + 11) x10 [] _ (omega arith) (omega arith) (λ _. store-end _ (at + 11))))))))))))
 
 -- AS THE CODE HAS IT
 pub row-put : (o′ o : List ℕ) (at k v s m : ℕ) (n : Name) (og a u : ℕ) (b : Bool) → b ≡ isOwn k og → (x : ℕ) → x ≡ cond (eqb v 1) 1 0 → (y : ℕ) → y ≡ cond b 0 a → (z : ℕ) → z ≡ cond b 0 u

@@ -4,6 +4,7 @@
 ghost use mathlib.Core.Path.{_≡_};
 ghost use Prim.Native.Nat.{_+_, _*_, _<_, _≤_};
 ghost use mathlib.Core.Bool.{cond};
+ghost use mathlib.Core.List.{[], _∷_};
 ghost use lib.ListN.{length, getD};
 ghost use Rattle.scope_tree.specs.Views.{told};
 ghost use Rattle.scope_tree.specs.Trees.{packed-in, flat-of};
@@ -408,6 +409,38 @@ fn unless(own: bool, x: u16) -> u64
     if own { 0 } else { x as u64 }
 }
 
+// Eleven numbers where all their places are there.
+fn put_eleven(
+    out: &mut [u64],
+    at: usize,
+    kind: u64,
+    visible: u64,
+    scope: u64,
+    mark: u64,
+    origin: u64,
+    target: u64,
+    time: u64,
+    w0: u64,
+    w1: u64,
+    w2: u64,
+    w3: u64,
+)
+    requires { ⌜ (at < 65536) × (at + 11 ≤ length (now out)) ⌝ }
+    ensures { λ _. ⌜ now (out .exit) ≡ written (now (out .entry)) at (kind ∷ visible ∷ scope ∷ mark ∷ origin ∷ target ∷ time ∷ w0 ∷ w1 ∷ w2 ∷ w3 ∷ []) ⌝ }
+{
+    out[at] = kind;
+    out[at + 1] = visible;
+    out[at + 2] = scope;
+    out[at + 3] = mark;
+    out[at + 4] = origin;
+    out[at + 5] = target;
+    out[at + 6] = time;
+    out[at + 7] = w0;
+    out[at + 8] = w1;
+    out[at + 9] = w2;
+    out[at + 10] = w3;
+}
+
 // An entry's eleven numbers.
 fn put_row(
     out: &mut [u64],
@@ -425,20 +458,41 @@ fn put_row(
     ensures { λ _. ⌜ now (out .exit) ≡ written (now (out .entry)) at (numbers (row kind visible scope mark n origin target time)) ⌝ }
 {
     let own = is_own(kind, origin);
-    let numbers = [
-        kind as u64,
-        one(visible == 1),
-        scope as u64,
-        mark as u64,
-        origin as u64,
-        unless(own, target),
-        unless(own, time),
-        n.w0,
-        n.w1,
-        n.w2,
-        n.w3,
-    ];
-    put_all(out, at, numbers);
+    let seen = one(visible == 1);
+    let copied = unless(own, target);
+    let until = unless(own, time);
+    if at + 11 <= out.len() {
+        put_eleven(
+            out,
+            at,
+            kind as u64,
+            seen,
+            scope as u64,
+            mark as u64,
+            origin as u64,
+            copied,
+            until,
+            n.w0,
+            n.w1,
+            n.w2,
+            n.w3,
+        );
+    } else {
+        let numbers = [
+            kind as u64,
+            seen,
+            scope as u64,
+            mark as u64,
+            origin as u64,
+            copied,
+            until,
+            n.w0,
+            n.w1,
+            n.w2,
+            n.w3,
+        ];
+        put_all(out, at, numbers);
+    }
 }
 
 // A tree's entries, eleven numbers each: kind, visibility, scope, mark, origin, what a copy shows (a scope and a time), and the
