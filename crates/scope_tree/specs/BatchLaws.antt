@@ -7,8 +7,9 @@ use mathlib.Core.Bool.{Bool, false}
 use mathlib.Core.List.{List}
 use lib.ListN.{getD, set, replicate}
 use Rattle.names.specs.declared.Name.{Name}
+use Rattle.names.specs.Packed.{sameName}
 use Rattle.scope_tree.specs.Rows.{isRow, name-at}
-use Rattle.scope_tree.specs.Staging.{refusal, stored, staged-test}
+use Rattle.scope_tree.specs.Staging.{refusal, stored, name-test, staged-test}
 use Rattle.scope_tree.specs.Batches.{slot, staged-of, entry-in}
 use Rattle.scope_tree.specs.Pack.{slot-get, slot-same, slot-before, slot-after, slot-clear}
 use Rattle.scope_tree.specs.declared.stage.Batch.{Batch}
@@ -101,3 +102,8 @@ module _ (cells names : List ℕ) (i : ℕ) (h : i < 96) where
       → r ≡ staged-test (slot 0 cells) (slot 0 names) (slot 96 names) (slot 192 names) (slot 288 names) here k n i
   unfolding staged-test
   held-read here k n e = let c = at-first cells in let m = name-read in e ∙ (λ j. isRow here (c j) (m j) here k n)
+
+  pub named-read : {r : Bool} (n : Name) → r ≡ sameName (record { w0 = getD names i 0; w1 = getD names (96 + i) 0; w2 = getD names (192 + i) 0; w3 = getD names (288 + i) 0 }) n
+      → r ≡ name-test (slot 0 names) (slot 96 names) (slot 192 names) (slot 288 names) n i
+  unfolding name-test
+  named-read n e = let m = name-read in e ∙ (λ j. sameName (m j) n)

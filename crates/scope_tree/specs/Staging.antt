@@ -3,13 +3,15 @@ use Prim.Native.Nat.{ℕ, zero, suc, _+_, _-_, _≤_, _<_}
 use native.Mathlib.Omega.{arith}
 use native.Mathlib.Numerals.{add-one}
 use mathlib.Core.Path.{_≡_, refl, ap, sym, _∙_}
-use mathlib.Core.Bool.{Bool, true, false, cond, _||_}
+use mathlib.Core.Bool.{Bool, true, false, cond, _&&_, _||_}
 use mathlib.Core.List.{List}
 use lib.Dec.{eqb}
 use lib.ListN.{getD, set, replicate}
+use lib.Seq.{getD-set-other}
 use borrow.Author.Tests.{eq-eqb, ne-eqb}
 use Rattle.names.specs.declared.Name.{Name}
-use Rattle.names.specs.Packed.{packed}
+use Rattle.names.specs.Bytes.{false-true}
+use Rattle.names.specs.Packed.{packed, sameName}
 use Rattle.scope_tree.specs.declared.look.Spot.{Spot}
 use Rattle.scope_tree.specs.declared.look.Spot.the-variants.{At, Nothing}
 use Rattle.scope_tree.specs.declared.look.Place.{Place as Site}
@@ -43,6 +45,16 @@ any-hit p (suc n) i h q = go (native.Mathlib.Decide.decLt i n) (λ l. any-hit p 
         last : (b : Bool) → b || true ≡ true
         last true = refl
         last false = refl
+
+-- q holds of no number below n, where p holds of none and q of none that p doesn't hold of
+pub any-none : (p q : ℕ → Bool) (n : ℕ) → ((i : ℕ) → i < n → p i ≡ false → q i ≡ false) → any-to p n ≡ false → any-to q n ≡ false
+unfolding any-to
+any-none p q zero f h = refl
+any-none p q (suc n) f h = both (any-to p n) (p n) refl refl h (λ e. any-none p q n (λ i l. f i (omega arith)) e)
+  where
+    both : (a b : Bool) → any-to p n ≡ a → p n ≡ b → a || b ≡ false → (any-to p n ≡ false → any-to q n ≡ false) → any-to q n || q n ≡ false
+    both true b d e g ih = absurd (false-true (sym g))
+    both false b d e g ih = rw (ih d, f n (omega arith) (e ∙ g))
 
 -- entries that a use adds, all in one scope and of one visibility; or a number
 pub record Staged : Type 0 where
@@ -87,6 +99,23 @@ put s k m n o t u =
 -- whether a staged entry has the kind and the name: all stand in the scope `here`
 unfoldable pub staged-test : List ℕ → List ℕ → List ℕ → List ℕ → List ℕ → ℕ → ℕ → Name → ℕ → Bool
 staged-test ks a b c d here k n i = isRow here (getD ks i 0) (name-at a b c d i) here k n
+
+-- whether a staged entry has the name
+unfoldable pub name-test : List ℕ → List ℕ → List ℕ → List ℕ → Name → ℕ → Bool
+name-test a b c d n i = sameName (name-at a b c d i) n
+
+-- where no entry has the name, none has the kind and the name
+pub none-held : (ks a b c d : List ℕ) (here k : ℕ) (n : Name) (m : ℕ) → any-to (name-test a b c d n) m ≡ false → any-to (staged-test ks a b c d here k n) m ≡ false
+unfolding name-test staged-test isRow
+none-held ks a b c d here k n m = any-none (name-test a b c d n) (staged-test ks a b c d here k n) m (λ i l e. other i e)
+  where
+    last : (x y z : Bool) → z ≡ false → x && (y && z) ≡ false
+    last true true z e = e
+    last true false z e = refl
+    last false y z e = refl
+
+    other : (i : ℕ) → name-test a b c d n i ≡ false → staged-test ks a b c d here k n i ≡ false
+    other i e = last (eqb here here) (eqb (getD ks i 0) k) (sameName (name-at a b c d i) n) e
 
 abbrev pub staged-held : Staged → ℕ → ℕ → Name → Bool
 staged-held s here k n = any-to (staged-test (s .kinds) (s .n0) (s .n1) (s .n2) (s .n3) here k n) (s .count)
@@ -215,6 +244,25 @@ element-count A total here scope time s n l =
 -- the loop over the kinds of an element: s₀ was staged before it, v is its number so far
 abbrev pub stored : Staged → ℕ → ℕ → Name → ℕ → ℕ → ℕ → Staged
 stored s k m n o t u = numbered (s .number) (put s k m n o t u)
+
+-- the first m staged entries don't have the name l
+pub record Fresh (l : Name) (m : ℕ) (s : Staged) : Type 0 where
+  pub within : m ≤ s .count
+  pub none : any-to (name-test (s .n0) (s .n1) (s .n2) (s .n3) l) m ≡ false
+
+-- nor do they after one entry more
+pub fresh-put : (l : Name) (m : ℕ) (s : Staged) (k x : ℕ) (n : Name) (o t u : ℕ) → Fresh l m s → Fresh l m (stored s k x n o t u)
+unfolding name-test
+fresh-put l m s k x n o t u w =
+    record { within = omega (arith, w .within); none = any-none (name-test (s .n0) (s .n1) (s .n2) (s .n3) l) (name-test (set (s .n0) j (n .w0)) (set (s .n1) j (n .w1)) (set (s .n2) j (n .w2)) (set (s .n3) j (n .w3)) l) m same (w .none) }
+  where
+    j : ℕ
+    j = s .count
+
+    same : (i : ℕ) → i < m → name-test (s .n0) (s .n1) (s .n2) (s .n3) l i ≡ false → name-test (set (s .n0) j (n .w0)) (set (s .n1) j (n .w1)) (set (s .n2) j (n .w2)) (set (s .n3) j (n .w3)) l i ≡ false
+    same i h e =
+        let z : i ≡ j → ⊥ = λ q. omega arith in
+        rw (getD-set-other (s .n0) j i (n .w0) 0 z, getD-set-other (s .n1) j i (n .w1) 0 z, getD-set-other (s .n2) j i (n .w2) 0 z, getD-set-other (s .n3) j i (n .w3) 0 z) e
 
 pub clash-no : (n : ℕ) (b : Bool) → (n ≡ 0 → ⊥) → n ≡ clash-of n b
 unfolding clash-of

@@ -1,7 +1,8 @@
 // A use's entries before they are committed: each is found, public and free, or the use is refused.
 ghost use mathlib.Core.Path.{_≡_};
+ghost use mathlib.Core.Bool.{false};
 ghost use Prim.Native.Nat.{_+_, _*_, _<_, _≤_};
-ghost use Rattle.scope_tree.specs.Staging.{refusal, any-to, staged-test, no-choice, choice-of, clash-of, verdict-so-far, staged-all};
+ghost use Rattle.scope_tree.specs.Staging.{refusal, any-to, name-test, staged-test, no-choice, choice-of, clash-of, verdict-so-far, staged-all};
 ghost use Rattle.scope_tree.specs.Pack.{arrays-in};
 ghost use Rattle.scope_tree.specs.Batches.{slot, staged-of, entry-in};
 use crate::CELLS;
@@ -15,6 +16,7 @@ use crate::look::inside_at;
 use crate::look::is_held;
 use crate::look::is_row;
 use names::Name;
+use names::same_name;
 
 // Places of `Batch.cells` and `Batch.names`, and the first of each of their parts.
 pub const STAGED_CELLS: usize = 480;
@@ -49,19 +51,41 @@ pub fn refused(number: u8) -> Batch
     }
 }
 
-// Whether one of the first `count` staged entries has this kind and name.
+// The first staged entry that has this name, or `count` where none of the first `count` has.
+fn first_named(words: &[u64; STAGED_NAMES], count: usize, name: Name) -> usize
+    requires { ⌜ count ≤ 96 ⌝ }
+    ensures { λ r. ⌜ (r ≤ count) × (any-to (name-test (slot 0 (now (words .entry))) (slot 96 (now (words .entry))) (slot 192 (now (words .entry))) (slot 288 (now (words .entry))) name) r ≡ false) ⌝ }
+{
+    let mut i: usize = 0;
+    while i < count {
+        let n = Name {
+            w0: words[i],
+            w1: words[SECOND + i],
+            w2: words[THIRD + i],
+            w3: words[FOURTH + i],
+        };
+        if same_name(n, name) {
+            return i;
+        }
+        i += 1;
+    }
+    i
+}
+
+// Whether one of the first `count` staged entries has this kind and name; none of the first `from` has the name.
 fn staged_has<'a>(
     cells: &'a [u16; STAGED_CELLS],
     words: &'a [u64; STAGED_NAMES],
+    from: usize,
     count: usize,
     here: u16,
     kind: u16,
     name: Name,
 ) -> bool
-    requires { ⌜ count ≤ 96 ⌝ }
+    requires { ⌜ (count ≤ 96) × ((from ≤ count) × (any-to (name-test (slot 0 (now words)) (slot 96 (now words)) (slot 192 (now words)) (slot 288 (now words)) name) from ≡ false)) ⌝ }
     ensures { λ r. ⌜ r ≡ any-to (staged-test (slot 0 (now (cells .entry))) (slot 0 (now (words .entry))) (slot 96 (now (words .entry))) (slot 192 (now (words .entry))) (slot 288 (now (words .entry))) here kind name) count ⌝ }
 {
-    let mut i: usize = 0;
+    let mut i = from;
     while i < count {
         let n = Name {
             w0: words[i],
@@ -225,6 +249,8 @@ pub fn stage<'a>(
     while i < count {
         let name = name_at(decl, p);
         let local = local_at(decl, p);
+        let staged = s.count;
+        let from = first_named(&s.names, staged, local);
         let mut told: u8 = 43;
         let mut kind: u16 = 1;
         while kind < 4 {
@@ -247,7 +273,7 @@ pub fn stage<'a>(
                 local,
             );
             let end = s.count;
-            let held = staged_has(&s.cells, &s.names, end, here, k, local);
+            let held = staged_has(&s.cells, &s.names, from, end, here, k, local);
             let number = clash(x.number, held);
             told = verdict(told, number);
             kind += 1;

@@ -7,13 +7,13 @@ use mathlib.Core.Path.{sym, subst}
 use Rattle.scope_tree.specs.Batches.{staged-of}
 use Rattle.scope_tree.specs.BatchLaws.{put-batch}
 use Rattle.scope_tree.specs.Pack.{arrays-in}
-use Rattle.scope_tree.specs.Staging.{Staging, staging-start, staging-turn, staging-stop, staging-end, Kinding, kinding-start, kinding-put, kinding-skip, kinding-end, kinding-done}
+use Rattle.scope_tree.specs.Staging.{Staging, staging-start, staging-turn, staging-stop, staging-end, Fresh, fresh-put, Kinding, kinding-start, kinding-put, kinding-skip, kinding-end, kinding-done}
 
 abbrev Inv-loop2 : tie.InvT-loop2
-Inv-loop2 cells visible scopes marks n0 n1 n2 n3 total here scope time decl at count s₀ p i name local told₀ kind₀ s told kind = Kinding (arrays-in cells visible scopes marks n0 n1 n2 n3) total here scope time name local (staged-of s₀) kind told (staged-of s)
+Inv-loop2 cells visible scopes marks n0 n1 n2 n3 total here scope time decl at count s₀ p i name local staged from told₀ kind₀ s told kind = Kinding (arrays-in cells visible scopes marks n0 n1 n2 n3) total here scope time name local (staged-of s₀) kind told (staged-of s) × Fresh local from (staged-of s)
 
 abbrev μ-loop2 : tie.MeasureT-loop2
-μ-loop2 cells visible scopes marks n0 n1 n2 n3 total here scope time decl at count s₀ p i name local told₀ kind₀ s told kind = 4 - kind
+μ-loop2 cells visible scopes marks n0 n1 n2 n3 total here scope time decl at count s₀ p i name local staged from told₀ kind₀ s told kind = 4 - kind
 
 abbrev Inv-loop : tie.InvT-loop
 Inv-loop cells visible scopes marks n0 n1 n2 n3 total here scope time decl at count s₀ p₀ i₀ s p i = Staging (arrays-in cells visible scopes marks n0 n1 n2 n3) total here scope time decl at count p i (staged-of s)
@@ -33,14 +33,17 @@ name-at-requires c κs = let d = (c .before .loop) .inv in let e = (c .before .b
 local-at-requires : tie.Need-local-at-requires Inv-loop2 μ-loop2 Inv-loop μ-loop
 local-at-requires c κs = let d = (c .before .before .loop) .inv in let e = (c .before .before .before .before .before .pre) in let t = (c .before .loop-test) .taken in omega arith
 
+first-named-requires : tie.Need-first-named-requires Inv-loop2 μ-loop2 Inv-loop μ-loop
+first-named-requires c κs = let d = (c .before .before .before .before .before .loop) .inv .small in let e = (c .before .before .before .before .before .before .before .before .pre) in let t = (c .before .before .before .before .loop-test) .taken in omega arith
+
 loop2-holds : tie.Need-loop2-holds Inv-loop2 μ-loop2 Inv-loop μ-loop
-loop2-holds c = kinding-start _ _ _ _ _ _ _ _ ((c .before .before .before .loop) .inv .fine)
+loop2-holds c = (kinding-start _ _ _ _ _ _ _ _ ((c .before .before .before .before .before .before .loop) .inv .fine), record { within = (c .first-named) .ensures .0; none = (c .first-named) .ensures .1 })
 
 choose-requires : tie.Need-choose-requires Inv-loop2 μ-loop2 Inv-loop μ-loop
-choose-requires c κs = ((c .before .before .before .before .before .before .before .before .pre) .0, (c .before .before .before .before .before .before .before .before .pre) .1 .0)
+choose-requires c κs = ((c .before .before .before .before .before .before .before .before .before .before .before .pre) .0, (c .before .before .before .before .before .before .before .before .before .before .before .pre) .1 .0)
 
 staged-has-requires : tie.Need-staged-has-requires Inv-loop2 μ-loop2 Inv-loop μ-loop
-staged-has-requires c κs = let w = (c .before .before .before .before .before .loop2) .inv .small in let t = (c .before .before .before .before .loop2-test) .taken in let u = (c .before .before .before .before .before .before .before .before .before .loop) .inv .small in let x = (c .before .before .before .before .before .before .before .before .before .loop) .inv .within in let y = (c .before .before .before .before .before .before .before .before .loop-test) .taken in let e = (c .before .before .before .before .before .before .before .before .before .before .before .before .pre) in omega arith
+staged-has-requires c κs = (let w = (c .before .before .before .before .before .loop2) .inv .0 .small in let t = (c .before .before .before .before .loop2-test) .taken in let u = (c .before .before .before .before .before .before .before .before .before .before .before .before .loop) .inv .small in let x = (c .before .before .before .before .before .before .before .before .before .before .before .before .loop) .inv .within in let y = (c .before .before .before .before .before .before .before .before .before .before .before .loop-test) .taken in let e = (c .before .before .before .before .before .before .before .before .before .before .before .before .before .before .before .pre) in omega arith, ((c .before .before .before .before .before .loop2) .inv .1 .within, (c .before .before .before .before .before .loop2) .inv .1 .none))
 
 clash-requires : tie.Need-clash-requires Inv-loop2 μ-loop2 Inv-loop μ-loop
 clash-requires c κs = search needs
@@ -52,115 +55,115 @@ add-kind : tie.Need-add-kind Inv-loop2 μ-loop2 Inv-loop μ-loop
 add-kind c = let t = (c .before .before .before .before .before .before .before .loop2-test) .taken in omega arith
 
 mul-s : tie.Need-mul-s Inv-loop2 μ-loop2 Inv-loop μ-loop
-mul-s c = let w = (c .before .before .before .before .before .before .before .before .before .loop2) .inv .small in let t = (c .before .before .before .before .before .before .before .before .loop2-test) .taken in let u = (c .before .before .before .before .before .before .before .before .before .before .before .before .before .loop) .inv .small in let x = (c .before .before .before .before .before .before .before .before .before .before .before .before .before .loop) .inv .within in let y = (c .before .before .before .before .before .before .before .before .before .before .before .before .loop-test) .taken in let e = (c .before .before .before .before .before .before .before .before .before .before .before .before .before .before .before .before .pre) in omega arith
+mul-s c = let w = (c .before .before .before .before .before .before .before .before .before .loop2) .inv .0 .small in let t = (c .before .before .before .before .before .before .before .before .loop2-test) .taken in let u = (c .before .before .before .before .before .before .before .before .before .before .before .before .before .before .before .before .loop) .inv .small in let x = (c .before .before .before .before .before .before .before .before .before .before .before .before .before .before .before .before .loop) .inv .within in let y = (c .before .before .before .before .before .before .before .before .before .before .before .before .before .before .before .loop-test) .taken in let e = (c .before .before .before .before .before .before .before .before .before .before .before .before .before .before .before .before .before .before .before .pre) in omega arith
 
 element-write-s : tie.Need-element-write-s Inv-loop2 μ-loop2 Inv-loop μ-loop
-element-write-s c = let w = (c .before .before .before .before .before .before .before .before .before .loop2) .inv .small in let t = (c .before .before .before .before .before .before .before .before .loop2-test) .taken in let u = (c .before .before .before .before .before .before .before .before .before .before .before .before .before .loop) .inv .small in let x = (c .before .before .before .before .before .before .before .before .before .before .before .before .before .loop) .inv .within in let y = (c .before .before .before .before .before .before .before .before .before .before .before .before .loop-test) .taken in let e = (c .before .before .before .before .before .before .before .before .before .before .before .before .before .before .before .before .pre) in omega arith
+element-write-s c = let w = (c .before .before .before .before .before .before .before .before .before .loop2) .inv .0 .small in let t = (c .before .before .before .before .before .before .before .before .loop2-test) .taken in let u = (c .before .before .before .before .before .before .before .before .before .before .before .before .before .before .before .before .loop) .inv .small in let x = (c .before .before .before .before .before .before .before .before .before .before .before .before .before .before .before .before .loop) .inv .within in let y = (c .before .before .before .before .before .before .before .before .before .before .before .before .before .before .before .loop-test) .taken in let e = (c .before .before .before .before .before .before .before .before .before .before .before .before .before .before .before .before .before .before .before .pre) in omega arith
 
 add-s : tie.Need-add-s Inv-loop2 μ-loop2 Inv-loop μ-loop
-add-s c = let w = (c .before .before .before .before .before .before .before .before .before .loop2) .inv .small in let t = (c .before .before .before .before .before .before .before .before .loop2-test) .taken in let u = (c .before .before .before .before .before .before .before .before .before .before .before .before .before .loop) .inv .small in let x = (c .before .before .before .before .before .before .before .before .before .before .before .before .before .loop) .inv .within in let y = (c .before .before .before .before .before .before .before .before .before .before .before .before .loop-test) .taken in let e = (c .before .before .before .before .before .before .before .before .before .before .before .before .before .before .before .before .pre) in omega arith
+add-s c = let w = (c .before .before .before .before .before .before .before .before .before .loop2) .inv .0 .small in let t = (c .before .before .before .before .before .before .before .before .loop2-test) .taken in let u = (c .before .before .before .before .before .before .before .before .before .before .before .before .before .before .before .before .loop) .inv .small in let x = (c .before .before .before .before .before .before .before .before .before .before .before .before .before .before .before .before .loop) .inv .within in let y = (c .before .before .before .before .before .before .before .before .before .before .before .before .before .before .before .loop-test) .taken in let e = (c .before .before .before .before .before .before .before .before .before .before .before .before .before .before .before .before .before .before .before .pre) in omega arith
 
 mul-s-2 : tie.Need-mul-s-2 Inv-loop2 μ-loop2 Inv-loop μ-loop
-mul-s-2 c = let w = (c .before .before .before .before .before .before .before .before .before .loop2) .inv .small in let t = (c .before .before .before .before .before .before .before .before .loop2-test) .taken in let u = (c .before .before .before .before .before .before .before .before .before .before .before .before .before .loop) .inv .small in let x = (c .before .before .before .before .before .before .before .before .before .before .before .before .before .loop) .inv .within in let y = (c .before .before .before .before .before .before .before .before .before .before .before .before .loop-test) .taken in let e = (c .before .before .before .before .before .before .before .before .before .before .before .before .before .before .before .before .pre) in omega arith
+mul-s-2 c = let w = (c .before .before .before .before .before .before .before .before .before .loop2) .inv .0 .small in let t = (c .before .before .before .before .before .before .before .before .loop2-test) .taken in let u = (c .before .before .before .before .before .before .before .before .before .before .before .before .before .before .before .before .loop) .inv .small in let x = (c .before .before .before .before .before .before .before .before .before .before .before .before .before .before .before .before .loop) .inv .within in let y = (c .before .before .before .before .before .before .before .before .before .before .before .before .before .before .before .loop-test) .taken in let e = (c .before .before .before .before .before .before .before .before .before .before .before .before .before .before .before .before .before .before .before .pre) in omega arith
 
 element-write-s-2 : tie.Need-element-write-s-2 Inv-loop2 μ-loop2 Inv-loop μ-loop
-element-write-s-2 c = let w = (c .before .before .before .before .before .before .before .before .before .loop2) .inv .small in let t = (c .before .before .before .before .before .before .before .before .loop2-test) .taken in let u = (c .before .before .before .before .before .before .before .before .before .before .before .before .before .loop) .inv .small in let x = (c .before .before .before .before .before .before .before .before .before .before .before .before .before .loop) .inv .within in let y = (c .before .before .before .before .before .before .before .before .before .before .before .before .loop-test) .taken in let e = (c .before .before .before .before .before .before .before .before .before .before .before .before .before .before .before .before .pre) in omega arith
+element-write-s-2 c = let w = (c .before .before .before .before .before .before .before .before .before .loop2) .inv .0 .small in let t = (c .before .before .before .before .before .before .before .before .loop2-test) .taken in let u = (c .before .before .before .before .before .before .before .before .before .before .before .before .before .before .before .before .loop) .inv .small in let x = (c .before .before .before .before .before .before .before .before .before .before .before .before .before .before .before .before .loop) .inv .within in let y = (c .before .before .before .before .before .before .before .before .before .before .before .before .before .before .before .loop-test) .taken in let e = (c .before .before .before .before .before .before .before .before .before .before .before .before .before .before .before .before .before .before .before .pre) in omega arith
 
 add-s-2 : tie.Need-add-s-2 Inv-loop2 μ-loop2 Inv-loop μ-loop
-add-s-2 c = let w = (c .before .before .before .before .before .before .before .before .before .loop2) .inv .small in let t = (c .before .before .before .before .before .before .before .before .loop2-test) .taken in let u = (c .before .before .before .before .before .before .before .before .before .before .before .before .before .loop) .inv .small in let x = (c .before .before .before .before .before .before .before .before .before .before .before .before .before .loop) .inv .within in let y = (c .before .before .before .before .before .before .before .before .before .before .before .before .loop-test) .taken in let e = (c .before .before .before .before .before .before .before .before .before .before .before .before .before .before .before .before .pre) in omega arith
+add-s-2 c = let w = (c .before .before .before .before .before .before .before .before .before .loop2) .inv .0 .small in let t = (c .before .before .before .before .before .before .before .before .loop2-test) .taken in let u = (c .before .before .before .before .before .before .before .before .before .before .before .before .before .before .before .before .loop) .inv .small in let x = (c .before .before .before .before .before .before .before .before .before .before .before .before .before .before .before .before .loop) .inv .within in let y = (c .before .before .before .before .before .before .before .before .before .before .before .before .before .before .before .loop-test) .taken in let e = (c .before .before .before .before .before .before .before .before .before .before .before .before .before .before .before .before .before .before .before .pre) in omega arith
 
 mul-s-3 : tie.Need-mul-s-3 Inv-loop2 μ-loop2 Inv-loop μ-loop
-mul-s-3 c = let w = (c .before .before .before .before .before .before .before .before .before .loop2) .inv .small in let t = (c .before .before .before .before .before .before .before .before .loop2-test) .taken in let u = (c .before .before .before .before .before .before .before .before .before .before .before .before .before .loop) .inv .small in let x = (c .before .before .before .before .before .before .before .before .before .before .before .before .before .loop) .inv .within in let y = (c .before .before .before .before .before .before .before .before .before .before .before .before .loop-test) .taken in let e = (c .before .before .before .before .before .before .before .before .before .before .before .before .before .before .before .before .pre) in omega arith
+mul-s-3 c = let w = (c .before .before .before .before .before .before .before .before .before .loop2) .inv .0 .small in let t = (c .before .before .before .before .before .before .before .before .loop2-test) .taken in let u = (c .before .before .before .before .before .before .before .before .before .before .before .before .before .before .before .before .loop) .inv .small in let x = (c .before .before .before .before .before .before .before .before .before .before .before .before .before .before .before .before .loop) .inv .within in let y = (c .before .before .before .before .before .before .before .before .before .before .before .before .before .before .before .loop-test) .taken in let e = (c .before .before .before .before .before .before .before .before .before .before .before .before .before .before .before .before .before .before .before .pre) in omega arith
 
 element-write-s-3 : tie.Need-element-write-s-3 Inv-loop2 μ-loop2 Inv-loop μ-loop
-element-write-s-3 c = let w = (c .before .before .before .before .before .before .before .before .before .loop2) .inv .small in let t = (c .before .before .before .before .before .before .before .before .loop2-test) .taken in let u = (c .before .before .before .before .before .before .before .before .before .before .before .before .before .loop) .inv .small in let x = (c .before .before .before .before .before .before .before .before .before .before .before .before .before .loop) .inv .within in let y = (c .before .before .before .before .before .before .before .before .before .before .before .before .loop-test) .taken in let e = (c .before .before .before .before .before .before .before .before .before .before .before .before .before .before .before .before .pre) in omega arith
+element-write-s-3 c = let w = (c .before .before .before .before .before .before .before .before .before .loop2) .inv .0 .small in let t = (c .before .before .before .before .before .before .before .before .loop2-test) .taken in let u = (c .before .before .before .before .before .before .before .before .before .before .before .before .before .before .before .before .loop) .inv .small in let x = (c .before .before .before .before .before .before .before .before .before .before .before .before .before .before .before .before .loop) .inv .within in let y = (c .before .before .before .before .before .before .before .before .before .before .before .before .before .before .before .loop-test) .taken in let e = (c .before .before .before .before .before .before .before .before .before .before .before .before .before .before .before .before .before .before .before .pre) in omega arith
 
 add-s-3 : tie.Need-add-s-3 Inv-loop2 μ-loop2 Inv-loop μ-loop
-add-s-3 c = let w = (c .before .before .before .before .before .before .before .before .before .loop2) .inv .small in let t = (c .before .before .before .before .before .before .before .before .loop2-test) .taken in let u = (c .before .before .before .before .before .before .before .before .before .before .before .before .before .loop) .inv .small in let x = (c .before .before .before .before .before .before .before .before .before .before .before .before .before .loop) .inv .within in let y = (c .before .before .before .before .before .before .before .before .before .before .before .before .loop-test) .taken in let e = (c .before .before .before .before .before .before .before .before .before .before .before .before .before .before .before .before .pre) in omega arith
+add-s-3 c = let w = (c .before .before .before .before .before .before .before .before .before .loop2) .inv .0 .small in let t = (c .before .before .before .before .before .before .before .before .loop2-test) .taken in let u = (c .before .before .before .before .before .before .before .before .before .before .before .before .before .before .before .before .loop) .inv .small in let x = (c .before .before .before .before .before .before .before .before .before .before .before .before .before .before .before .before .loop) .inv .within in let y = (c .before .before .before .before .before .before .before .before .before .before .before .before .before .before .before .loop-test) .taken in let e = (c .before .before .before .before .before .before .before .before .before .before .before .before .before .before .before .before .before .before .before .pre) in omega arith
 
 mul-s-4 : tie.Need-mul-s-4 Inv-loop2 μ-loop2 Inv-loop μ-loop
-mul-s-4 c = let w = (c .before .before .before .before .before .before .before .before .before .loop2) .inv .small in let t = (c .before .before .before .before .before .before .before .before .loop2-test) .taken in let u = (c .before .before .before .before .before .before .before .before .before .before .before .before .before .loop) .inv .small in let x = (c .before .before .before .before .before .before .before .before .before .before .before .before .before .loop) .inv .within in let y = (c .before .before .before .before .before .before .before .before .before .before .before .before .loop-test) .taken in let e = (c .before .before .before .before .before .before .before .before .before .before .before .before .before .before .before .before .pre) in omega arith
+mul-s-4 c = let w = (c .before .before .before .before .before .before .before .before .before .loop2) .inv .0 .small in let t = (c .before .before .before .before .before .before .before .before .loop2-test) .taken in let u = (c .before .before .before .before .before .before .before .before .before .before .before .before .before .before .before .before .loop) .inv .small in let x = (c .before .before .before .before .before .before .before .before .before .before .before .before .before .before .before .before .loop) .inv .within in let y = (c .before .before .before .before .before .before .before .before .before .before .before .before .before .before .before .loop-test) .taken in let e = (c .before .before .before .before .before .before .before .before .before .before .before .before .before .before .before .before .before .before .before .pre) in omega arith
 
 element-write-s-4 : tie.Need-element-write-s-4 Inv-loop2 μ-loop2 Inv-loop μ-loop
-element-write-s-4 c = let w = (c .before .before .before .before .before .before .before .before .before .loop2) .inv .small in let t = (c .before .before .before .before .before .before .before .before .loop2-test) .taken in let u = (c .before .before .before .before .before .before .before .before .before .before .before .before .before .loop) .inv .small in let x = (c .before .before .before .before .before .before .before .before .before .before .before .before .before .loop) .inv .within in let y = (c .before .before .before .before .before .before .before .before .before .before .before .before .loop-test) .taken in let e = (c .before .before .before .before .before .before .before .before .before .before .before .before .before .before .before .before .pre) in omega arith
+element-write-s-4 c = let w = (c .before .before .before .before .before .before .before .before .before .loop2) .inv .0 .small in let t = (c .before .before .before .before .before .before .before .before .loop2-test) .taken in let u = (c .before .before .before .before .before .before .before .before .before .before .before .before .before .before .before .before .loop) .inv .small in let x = (c .before .before .before .before .before .before .before .before .before .before .before .before .before .before .before .before .loop) .inv .within in let y = (c .before .before .before .before .before .before .before .before .before .before .before .before .before .before .before .loop-test) .taken in let e = (c .before .before .before .before .before .before .before .before .before .before .before .before .before .before .before .before .before .before .before .pre) in omega arith
 
 add-s-4 : tie.Need-add-s-4 Inv-loop2 μ-loop2 Inv-loop μ-loop
-add-s-4 c = let w = (c .before .before .before .before .before .before .before .before .before .loop2) .inv .small in let t = (c .before .before .before .before .before .before .before .before .loop2-test) .taken in let u = (c .before .before .before .before .before .before .before .before .before .before .before .before .before .loop) .inv .small in let x = (c .before .before .before .before .before .before .before .before .before .before .before .before .before .loop) .inv .within in let y = (c .before .before .before .before .before .before .before .before .before .before .before .before .loop-test) .taken in let e = (c .before .before .before .before .before .before .before .before .before .before .before .before .before .before .before .before .pre) in omega arith
+add-s-4 c = let w = (c .before .before .before .before .before .before .before .before .before .loop2) .inv .0 .small in let t = (c .before .before .before .before .before .before .before .before .loop2-test) .taken in let u = (c .before .before .before .before .before .before .before .before .before .before .before .before .before .before .before .before .loop) .inv .small in let x = (c .before .before .before .before .before .before .before .before .before .before .before .before .before .before .before .before .loop) .inv .within in let y = (c .before .before .before .before .before .before .before .before .before .before .before .before .before .before .before .loop-test) .taken in let e = (c .before .before .before .before .before .before .before .before .before .before .before .before .before .before .before .before .before .before .before .pre) in omega arith
 
 mul-s-5 : tie.Need-mul-s-5 Inv-loop2 μ-loop2 Inv-loop μ-loop
-mul-s-5 c = let w = (c .before .before .before .before .before .before .before .before .before .loop2) .inv .small in let t = (c .before .before .before .before .before .before .before .before .loop2-test) .taken in let u = (c .before .before .before .before .before .before .before .before .before .before .before .before .before .loop) .inv .small in let x = (c .before .before .before .before .before .before .before .before .before .before .before .before .before .loop) .inv .within in let y = (c .before .before .before .before .before .before .before .before .before .before .before .before .loop-test) .taken in let e = (c .before .before .before .before .before .before .before .before .before .before .before .before .before .before .before .before .pre) in omega arith
+mul-s-5 c = let w = (c .before .before .before .before .before .before .before .before .before .loop2) .inv .0 .small in let t = (c .before .before .before .before .before .before .before .before .loop2-test) .taken in let u = (c .before .before .before .before .before .before .before .before .before .before .before .before .before .before .before .before .loop) .inv .small in let x = (c .before .before .before .before .before .before .before .before .before .before .before .before .before .before .before .before .loop) .inv .within in let y = (c .before .before .before .before .before .before .before .before .before .before .before .before .before .before .before .loop-test) .taken in let e = (c .before .before .before .before .before .before .before .before .before .before .before .before .before .before .before .before .before .before .before .pre) in omega arith
 
 element-write-s-5 : tie.Need-element-write-s-5 Inv-loop2 μ-loop2 Inv-loop μ-loop
-element-write-s-5 c = let w = (c .before .before .before .before .before .before .before .before .before .loop2) .inv .small in let t = (c .before .before .before .before .before .before .before .before .loop2-test) .taken in let u = (c .before .before .before .before .before .before .before .before .before .before .before .before .before .loop) .inv .small in let x = (c .before .before .before .before .before .before .before .before .before .before .before .before .before .loop) .inv .within in let y = (c .before .before .before .before .before .before .before .before .before .before .before .before .loop-test) .taken in let e = (c .before .before .before .before .before .before .before .before .before .before .before .before .before .before .before .before .pre) in omega arith
+element-write-s-5 c = let w = (c .before .before .before .before .before .before .before .before .before .loop2) .inv .0 .small in let t = (c .before .before .before .before .before .before .before .before .loop2-test) .taken in let u = (c .before .before .before .before .before .before .before .before .before .before .before .before .before .before .before .before .loop) .inv .small in let x = (c .before .before .before .before .before .before .before .before .before .before .before .before .before .before .before .before .loop) .inv .within in let y = (c .before .before .before .before .before .before .before .before .before .before .before .before .before .before .before .loop-test) .taken in let e = (c .before .before .before .before .before .before .before .before .before .before .before .before .before .before .before .before .before .before .before .pre) in omega arith
 
 mul-s-6 : tie.Need-mul-s-6 Inv-loop2 μ-loop2 Inv-loop μ-loop
-mul-s-6 c = let w = (c .before .before .before .before .before .before .before .before .before .loop2) .inv .small in let t = (c .before .before .before .before .before .before .before .before .loop2-test) .taken in let u = (c .before .before .before .before .before .before .before .before .before .before .before .before .before .loop) .inv .small in let x = (c .before .before .before .before .before .before .before .before .before .before .before .before .before .loop) .inv .within in let y = (c .before .before .before .before .before .before .before .before .before .before .before .before .loop-test) .taken in let e = (c .before .before .before .before .before .before .before .before .before .before .before .before .before .before .before .before .pre) in omega arith
+mul-s-6 c = let w = (c .before .before .before .before .before .before .before .before .before .loop2) .inv .0 .small in let t = (c .before .before .before .before .before .before .before .before .loop2-test) .taken in let u = (c .before .before .before .before .before .before .before .before .before .before .before .before .before .before .before .before .loop) .inv .small in let x = (c .before .before .before .before .before .before .before .before .before .before .before .before .before .before .before .before .loop) .inv .within in let y = (c .before .before .before .before .before .before .before .before .before .before .before .before .before .before .before .loop-test) .taken in let e = (c .before .before .before .before .before .before .before .before .before .before .before .before .before .before .before .before .before .before .before .pre) in omega arith
 
 element-write-s-6 : tie.Need-element-write-s-6 Inv-loop2 μ-loop2 Inv-loop μ-loop
-element-write-s-6 c = let w = (c .before .before .before .before .before .before .before .before .before .loop2) .inv .small in let t = (c .before .before .before .before .before .before .before .before .loop2-test) .taken in let u = (c .before .before .before .before .before .before .before .before .before .before .before .before .before .loop) .inv .small in let x = (c .before .before .before .before .before .before .before .before .before .before .before .before .before .loop) .inv .within in let y = (c .before .before .before .before .before .before .before .before .before .before .before .before .loop-test) .taken in let e = (c .before .before .before .before .before .before .before .before .before .before .before .before .before .before .before .before .pre) in omega arith
+element-write-s-6 c = let w = (c .before .before .before .before .before .before .before .before .before .loop2) .inv .0 .small in let t = (c .before .before .before .before .before .before .before .before .loop2-test) .taken in let u = (c .before .before .before .before .before .before .before .before .before .before .before .before .before .before .before .before .loop) .inv .small in let x = (c .before .before .before .before .before .before .before .before .before .before .before .before .before .before .before .before .loop) .inv .within in let y = (c .before .before .before .before .before .before .before .before .before .before .before .before .before .before .before .loop-test) .taken in let e = (c .before .before .before .before .before .before .before .before .before .before .before .before .before .before .before .before .before .before .before .pre) in omega arith
 
 add-s-5 : tie.Need-add-s-5 Inv-loop2 μ-loop2 Inv-loop μ-loop
-add-s-5 c = let w = (c .before .before .before .before .before .before .before .before .before .loop2) .inv .small in let t = (c .before .before .before .before .before .before .before .before .loop2-test) .taken in let u = (c .before .before .before .before .before .before .before .before .before .before .before .before .before .loop) .inv .small in let x = (c .before .before .before .before .before .before .before .before .before .before .before .before .before .loop) .inv .within in let y = (c .before .before .before .before .before .before .before .before .before .before .before .before .loop-test) .taken in let e = (c .before .before .before .before .before .before .before .before .before .before .before .before .before .before .before .before .pre) in omega arith
+add-s-5 c = let w = (c .before .before .before .before .before .before .before .before .before .loop2) .inv .0 .small in let t = (c .before .before .before .before .before .before .before .before .loop2-test) .taken in let u = (c .before .before .before .before .before .before .before .before .before .before .before .before .before .before .before .before .loop) .inv .small in let x = (c .before .before .before .before .before .before .before .before .before .before .before .before .before .before .before .before .loop) .inv .within in let y = (c .before .before .before .before .before .before .before .before .before .before .before .before .before .before .before .loop-test) .taken in let e = (c .before .before .before .before .before .before .before .before .before .before .before .before .before .before .before .before .before .before .before .pre) in omega arith
 
 mul-s-7 : tie.Need-mul-s-7 Inv-loop2 μ-loop2 Inv-loop μ-loop
-mul-s-7 c = let w = (c .before .before .before .before .before .before .before .before .before .loop2) .inv .small in let t = (c .before .before .before .before .before .before .before .before .loop2-test) .taken in let u = (c .before .before .before .before .before .before .before .before .before .before .before .before .before .loop) .inv .small in let x = (c .before .before .before .before .before .before .before .before .before .before .before .before .before .loop) .inv .within in let y = (c .before .before .before .before .before .before .before .before .before .before .before .before .loop-test) .taken in let e = (c .before .before .before .before .before .before .before .before .before .before .before .before .before .before .before .before .pre) in omega arith
+mul-s-7 c = let w = (c .before .before .before .before .before .before .before .before .before .loop2) .inv .0 .small in let t = (c .before .before .before .before .before .before .before .before .loop2-test) .taken in let u = (c .before .before .before .before .before .before .before .before .before .before .before .before .before .before .before .before .loop) .inv .small in let x = (c .before .before .before .before .before .before .before .before .before .before .before .before .before .before .before .before .loop) .inv .within in let y = (c .before .before .before .before .before .before .before .before .before .before .before .before .before .before .before .loop-test) .taken in let e = (c .before .before .before .before .before .before .before .before .before .before .before .before .before .before .before .before .before .before .before .pre) in omega arith
 
 element-write-s-7 : tie.Need-element-write-s-7 Inv-loop2 μ-loop2 Inv-loop μ-loop
-element-write-s-7 c = let w = (c .before .before .before .before .before .before .before .before .before .loop2) .inv .small in let t = (c .before .before .before .before .before .before .before .before .loop2-test) .taken in let u = (c .before .before .before .before .before .before .before .before .before .before .before .before .before .loop) .inv .small in let x = (c .before .before .before .before .before .before .before .before .before .before .before .before .before .loop) .inv .within in let y = (c .before .before .before .before .before .before .before .before .before .before .before .before .loop-test) .taken in let e = (c .before .before .before .before .before .before .before .before .before .before .before .before .before .before .before .before .pre) in omega arith
+element-write-s-7 c = let w = (c .before .before .before .before .before .before .before .before .before .loop2) .inv .0 .small in let t = (c .before .before .before .before .before .before .before .before .loop2-test) .taken in let u = (c .before .before .before .before .before .before .before .before .before .before .before .before .before .before .before .before .loop) .inv .small in let x = (c .before .before .before .before .before .before .before .before .before .before .before .before .before .before .before .before .loop) .inv .within in let y = (c .before .before .before .before .before .before .before .before .before .before .before .before .before .before .before .loop-test) .taken in let e = (c .before .before .before .before .before .before .before .before .before .before .before .before .before .before .before .before .before .before .before .pre) in omega arith
 
 add-s-6 : tie.Need-add-s-6 Inv-loop2 μ-loop2 Inv-loop μ-loop
-add-s-6 c = let w = (c .before .before .before .before .before .before .before .before .before .loop2) .inv .small in let t = (c .before .before .before .before .before .before .before .before .loop2-test) .taken in let u = (c .before .before .before .before .before .before .before .before .before .before .before .before .before .loop) .inv .small in let x = (c .before .before .before .before .before .before .before .before .before .before .before .before .before .loop) .inv .within in let y = (c .before .before .before .before .before .before .before .before .before .before .before .before .loop-test) .taken in let e = (c .before .before .before .before .before .before .before .before .before .before .before .before .before .before .before .before .pre) in omega arith
+add-s-6 c = let w = (c .before .before .before .before .before .before .before .before .before .loop2) .inv .0 .small in let t = (c .before .before .before .before .before .before .before .before .loop2-test) .taken in let u = (c .before .before .before .before .before .before .before .before .before .before .before .before .before .before .before .before .loop) .inv .small in let x = (c .before .before .before .before .before .before .before .before .before .before .before .before .before .before .before .before .loop) .inv .within in let y = (c .before .before .before .before .before .before .before .before .before .before .before .before .before .before .before .loop-test) .taken in let e = (c .before .before .before .before .before .before .before .before .before .before .before .before .before .before .before .before .before .before .before .pre) in omega arith
 
 mul-s-8 : tie.Need-mul-s-8 Inv-loop2 μ-loop2 Inv-loop μ-loop
-mul-s-8 c = let w = (c .before .before .before .before .before .before .before .before .before .loop2) .inv .small in let t = (c .before .before .before .before .before .before .before .before .loop2-test) .taken in let u = (c .before .before .before .before .before .before .before .before .before .before .before .before .before .loop) .inv .small in let x = (c .before .before .before .before .before .before .before .before .before .before .before .before .before .loop) .inv .within in let y = (c .before .before .before .before .before .before .before .before .before .before .before .before .loop-test) .taken in let e = (c .before .before .before .before .before .before .before .before .before .before .before .before .before .before .before .before .pre) in omega arith
+mul-s-8 c = let w = (c .before .before .before .before .before .before .before .before .before .loop2) .inv .0 .small in let t = (c .before .before .before .before .before .before .before .before .loop2-test) .taken in let u = (c .before .before .before .before .before .before .before .before .before .before .before .before .before .before .before .before .loop) .inv .small in let x = (c .before .before .before .before .before .before .before .before .before .before .before .before .before .before .before .before .loop) .inv .within in let y = (c .before .before .before .before .before .before .before .before .before .before .before .before .before .before .before .loop-test) .taken in let e = (c .before .before .before .before .before .before .before .before .before .before .before .before .before .before .before .before .before .before .before .pre) in omega arith
 
 element-write-s-8 : tie.Need-element-write-s-8 Inv-loop2 μ-loop2 Inv-loop μ-loop
-element-write-s-8 c = let w = (c .before .before .before .before .before .before .before .before .before .loop2) .inv .small in let t = (c .before .before .before .before .before .before .before .before .loop2-test) .taken in let u = (c .before .before .before .before .before .before .before .before .before .before .before .before .before .loop) .inv .small in let x = (c .before .before .before .before .before .before .before .before .before .before .before .before .before .loop) .inv .within in let y = (c .before .before .before .before .before .before .before .before .before .before .before .before .loop-test) .taken in let e = (c .before .before .before .before .before .before .before .before .before .before .before .before .before .before .before .before .pre) in omega arith
+element-write-s-8 c = let w = (c .before .before .before .before .before .before .before .before .before .loop2) .inv .0 .small in let t = (c .before .before .before .before .before .before .before .before .loop2-test) .taken in let u = (c .before .before .before .before .before .before .before .before .before .before .before .before .before .before .before .before .loop) .inv .small in let x = (c .before .before .before .before .before .before .before .before .before .before .before .before .before .before .before .before .loop) .inv .within in let y = (c .before .before .before .before .before .before .before .before .before .before .before .before .before .before .before .loop-test) .taken in let e = (c .before .before .before .before .before .before .before .before .before .before .before .before .before .before .before .before .before .before .before .pre) in omega arith
 
 add-s-7 : tie.Need-add-s-7 Inv-loop2 μ-loop2 Inv-loop μ-loop
-add-s-7 c = let w = (c .before .before .before .before .before .before .before .before .before .loop2) .inv .small in let t = (c .before .before .before .before .before .before .before .before .loop2-test) .taken in let u = (c .before .before .before .before .before .before .before .before .before .before .before .before .before .loop) .inv .small in let x = (c .before .before .before .before .before .before .before .before .before .before .before .before .before .loop) .inv .within in let y = (c .before .before .before .before .before .before .before .before .before .before .before .before .loop-test) .taken in let e = (c .before .before .before .before .before .before .before .before .before .before .before .before .before .before .before .before .pre) in omega arith
+add-s-7 c = let w = (c .before .before .before .before .before .before .before .before .before .loop2) .inv .0 .small in let t = (c .before .before .before .before .before .before .before .before .loop2-test) .taken in let u = (c .before .before .before .before .before .before .before .before .before .before .before .before .before .before .before .before .loop) .inv .small in let x = (c .before .before .before .before .before .before .before .before .before .before .before .before .before .before .before .before .loop) .inv .within in let y = (c .before .before .before .before .before .before .before .before .before .before .before .before .before .before .before .loop-test) .taken in let e = (c .before .before .before .before .before .before .before .before .before .before .before .before .before .before .before .before .before .before .before .pre) in omega arith
 
 mul-s-9 : tie.Need-mul-s-9 Inv-loop2 μ-loop2 Inv-loop μ-loop
-mul-s-9 c = let w = (c .before .before .before .before .before .before .before .before .before .loop2) .inv .small in let t = (c .before .before .before .before .before .before .before .before .loop2-test) .taken in let u = (c .before .before .before .before .before .before .before .before .before .before .before .before .before .loop) .inv .small in let x = (c .before .before .before .before .before .before .before .before .before .before .before .before .before .loop) .inv .within in let y = (c .before .before .before .before .before .before .before .before .before .before .before .before .loop-test) .taken in let e = (c .before .before .before .before .before .before .before .before .before .before .before .before .before .before .before .before .pre) in omega arith
+mul-s-9 c = let w = (c .before .before .before .before .before .before .before .before .before .loop2) .inv .0 .small in let t = (c .before .before .before .before .before .before .before .before .loop2-test) .taken in let u = (c .before .before .before .before .before .before .before .before .before .before .before .before .before .before .before .before .loop) .inv .small in let x = (c .before .before .before .before .before .before .before .before .before .before .before .before .before .before .before .before .loop) .inv .within in let y = (c .before .before .before .before .before .before .before .before .before .before .before .before .before .before .before .loop-test) .taken in let e = (c .before .before .before .before .before .before .before .before .before .before .before .before .before .before .before .before .before .before .before .pre) in omega arith
 
 element-write-s-9 : tie.Need-element-write-s-9 Inv-loop2 μ-loop2 Inv-loop μ-loop
-element-write-s-9 c = let w = (c .before .before .before .before .before .before .before .before .before .loop2) .inv .small in let t = (c .before .before .before .before .before .before .before .before .loop2-test) .taken in let u = (c .before .before .before .before .before .before .before .before .before .before .before .before .before .loop) .inv .small in let x = (c .before .before .before .before .before .before .before .before .before .before .before .before .before .loop) .inv .within in let y = (c .before .before .before .before .before .before .before .before .before .before .before .before .loop-test) .taken in let e = (c .before .before .before .before .before .before .before .before .before .before .before .before .before .before .before .before .pre) in omega arith
+element-write-s-9 c = let w = (c .before .before .before .before .before .before .before .before .before .loop2) .inv .0 .small in let t = (c .before .before .before .before .before .before .before .before .loop2-test) .taken in let u = (c .before .before .before .before .before .before .before .before .before .before .before .before .before .before .before .before .loop) .inv .small in let x = (c .before .before .before .before .before .before .before .before .before .before .before .before .before .before .before .before .loop) .inv .within in let y = (c .before .before .before .before .before .before .before .before .before .before .before .before .before .before .before .loop-test) .taken in let e = (c .before .before .before .before .before .before .before .before .before .before .before .before .before .before .before .before .before .before .before .pre) in omega arith
 
 add-s-8 : tie.Need-add-s-8 Inv-loop2 μ-loop2 Inv-loop μ-loop
-add-s-8 c = let w = (c .before .before .before .before .before .before .before .before .before .loop2) .inv .small in let t = (c .before .before .before .before .before .before .before .before .loop2-test) .taken in let u = (c .before .before .before .before .before .before .before .before .before .before .before .before .before .loop) .inv .small in let x = (c .before .before .before .before .before .before .before .before .before .before .before .before .before .loop) .inv .within in let y = (c .before .before .before .before .before .before .before .before .before .before .before .before .loop-test) .taken in let e = (c .before .before .before .before .before .before .before .before .before .before .before .before .before .before .before .before .pre) in omega arith
+add-s-8 c = let w = (c .before .before .before .before .before .before .before .before .before .loop2) .inv .0 .small in let t = (c .before .before .before .before .before .before .before .before .loop2-test) .taken in let u = (c .before .before .before .before .before .before .before .before .before .before .before .before .before .before .before .before .loop) .inv .small in let x = (c .before .before .before .before .before .before .before .before .before .before .before .before .before .before .before .before .loop) .inv .within in let y = (c .before .before .before .before .before .before .before .before .before .before .before .before .before .before .before .loop-test) .taken in let e = (c .before .before .before .before .before .before .before .before .before .before .before .before .before .before .before .before .before .before .before .pre) in omega arith
 
 loop2-less : tie.Need-loop2-less Inv-loop2 μ-loop2 Inv-loop μ-loop
 loop2-less c = let t = (c .before .before .before .before .before .before .before .before .loop2-test) .taken in omega arith
 
 loop2-again : tie.Need-loop2-again Inv-loop2 μ-loop2 Inv-loop μ-loop
-loop2-again c = subst (Kinding _ _ _ _ _ _ _ (staged-of _) _ _) (sym (put-batch ((c .before .before .before .before .before .before .before .before .before .loop2) .s) _ _ _ _ _ _ (let w = (c .before .before .before .before .before .before .before .before .before .loop2) .inv .small in let t = (c .before .before .before .before .before .before .before .before .loop2-test) .taken in let u = (c .before .before .before .before .before .before .before .before .before .before .before .before .before .loop) .inv .small in let x = (c .before .before .before .before .before .before .before .before .before .before .before .before .before .loop) .inv .within in let y = (c .before .before .before .before .before .before .before .before .before .before .before .before .loop-test) .taken in let e = (c .before .before .before .before .before .before .before .before .before .before .before .before .before .before .before .before .pre) in omega arith))) (kinding-put _ _ _ _ _ _ _ _ _ _ _ ((c .before .before .before .before .before .before .before .before .before .loop2) .inv) ((c .before .before .before .before .before .before .before .before .loop2-test) .taken) _ ((c .before .before .before .before .before .before .before .choose) .ensures) _ ((c .before .before .before .staged-has) .ensures) _ ((c .before .before .clash) .ensures) _ ((c .before .verdict) .ensures) ((c .if1) .taken))
+loop2-again c = let q = sym (put-batch ((c .before .before .before .before .before .before .before .before .before .loop2) .s) _ _ _ _ _ _ (let w = (c .before .before .before .before .before .before .before .before .before .loop2) .inv .0 .small in let t = (c .before .before .before .before .before .before .before .before .loop2-test) .taken in let u = (c .before .before .before .before .before .before .before .before .before .before .before .before .before .before .before .before .loop) .inv .small in let x = (c .before .before .before .before .before .before .before .before .before .before .before .before .before .before .before .before .loop) .inv .within in let y = (c .before .before .before .before .before .before .before .before .before .before .before .before .before .before .before .loop-test) .taken in let e = (c .before .before .before .before .before .before .before .before .before .before .before .before .before .before .before .before .before .before .before .pre) in omega arith)) in (subst (Kinding _ _ _ _ _ _ _ (staged-of _) _ _) q (kinding-put _ _ _ _ _ _ _ _ _ _ _ ((c .before .before .before .before .before .before .before .before .before .loop2) .inv .0) ((c .before .before .before .before .before .before .before .before .loop2-test) .taken) _ ((c .before .before .before .before .before .before .before .choose) .ensures) _ ((c .before .before .before .staged-has) .ensures) _ ((c .before .before .clash) .ensures) _ ((c .before .verdict) .ensures) ((c .if1) .taken)), subst (Fresh _ _) q (fresh-put _ _ _ _ _ _ _ _ _ ((c .before .before .before .before .before .before .before .before .before .loop2) .inv .1)))
 
 loop2-less-2 : tie.Need-loop2-less-2 Inv-loop2 μ-loop2 Inv-loop μ-loop
 loop2-less-2 c = let t = (c .before .before .before .before .before .before .before .before .loop2-test) .taken in omega arith
 
 loop2-again-2 : tie.Need-loop2-again-2 Inv-loop2 μ-loop2 Inv-loop μ-loop
-loop2-again-2 c = kinding-skip _ _ _ _ _ _ _ _ _ _ _ ((c .before .before .before .before .before .before .before .before .before .loop2) .inv) ((c .before .before .before .before .before .before .before .before .loop2-test) .taken) _ ((c .before .before .before .before .before .before .before .choose) .ensures) _ ((c .before .before .before .staged-has) .ensures) _ ((c .before .before .clash) .ensures) _ ((c .before .verdict) .ensures) ((c .if1) .left)
+loop2-again-2 c = (kinding-skip _ _ _ _ _ _ _ _ _ _ _ ((c .before .before .before .before .before .before .before .before .before .loop2) .inv .0) ((c .before .before .before .before .before .before .before .before .loop2-test) .taken) _ ((c .before .before .before .before .before .before .before .choose) .ensures) _ ((c .before .before .before .staged-has) .ensures) _ ((c .before .before .clash) .ensures) _ ((c .before .verdict) .ensures) ((c .if1) .left), (c .before .before .before .before .before .before .before .before .before .loop2) .inv .1)
 
 returns : tie.Need-returns Inv-loop2 μ-loop2 Inv-loop μ-loop
-returns c = staging-stop _ _ _ _ _ _ _ _ _ _ _ ((c .before .before .before .before .before .before .loop) .inv) ((c .before .before .before .before .before .loop-test) .taken) _ _ ((c .before .before .before .before .name-at) .ensures) ((c .before .before .before .local-at) .ensures) _ (kinding-end _ _ _ _ _ _ _ _ _ _ _ ((c .before .before .loop2) .inv) ((c .before .loop2-test) .left)) ((c .if2) .taken)
+returns c = staging-stop _ _ _ _ _ _ _ _ _ _ _ ((c .before .before .before .before .before .before .before .before .before .loop) .inv) ((c .before .before .before .before .before .before .before .before .loop-test) .taken) _ _ ((c .before .before .before .before .before .before .before .name-at) .ensures) ((c .before .before .before .before .before .before .local-at) .ensures) _ (kinding-end _ _ _ _ _ _ _ _ _ _ _ ((c .before .before .loop2) .inv .0) ((c .before .loop2-test) .left)) ((c .if2) .taken)
 
 next-requires : tie.Need-next-requires Inv-loop2 μ-loop2 Inv-loop μ-loop
-next-requires c κs = let d = (c .before .before .before .before .before .before .loop) .inv in let e = (c .before .before .before .before .before .before .before .before .before .pre) in let t = (c .before .before .before .before .before .loop-test) .taken in omega arith
+next-requires c κs = let d = (c .before .before .before .before .before .before .before .before .before .loop) .inv in let e = (c .before .before .before .before .before .before .before .before .before .before .before .before .pre) in let t = (c .before .before .before .before .before .before .before .before .loop-test) .taken in omega arith
 
 next-requires-2 : tie.Need-next-requires-2 Inv-loop2 μ-loop2 Inv-loop μ-loop
-next-requires-2 c κs = let d = (c .before .before .before .before .before .before .before .loop) .inv in let e = (c .before .before .before .before .before .before .before .before .before .before .pre) in let t = (c .before .before .before .before .before .before .loop-test) .taken in let x = (c .next) .ensures in omega arith
+next-requires-2 c κs = let d = (c .before .before .before .before .before .before .before .before .before .before .loop) .inv in let e = (c .before .before .before .before .before .before .before .before .before .before .before .before .before .pre) in let t = (c .before .before .before .before .before .before .before .before .before .loop-test) .taken in let x = (c .next) .ensures in omega arith
 
 add-i : tie.Need-add-i Inv-loop2 μ-loop2 Inv-loop μ-loop
-add-i c = let e = (c .before .before .before .before .before .before .before .before .before .before .before .pre) in let t = (c .before .before .before .before .before .before .before .loop-test) .taken in omega arith
+add-i c = let e = (c .before .before .before .before .before .before .before .before .before .before .before .before .before .before .pre) in let t = (c .before .before .before .before .before .before .before .before .before .before .loop-test) .taken in omega arith
 
 loop-less : tie.Need-loop-less Inv-loop2 μ-loop2 Inv-loop μ-loop
-loop-less c = let t = (c .before .before .before .before .before .before .before .loop-test) .taken in omega arith
+loop-less c = let t = (c .before .before .before .before .before .before .before .before .before .before .loop-test) .taken in omega arith
 
 loop-again : tie.Need-loop-again Inv-loop2 μ-loop2 Inv-loop μ-loop
-loop-again c = staging-turn _ _ _ _ _ _ _ _ _ _ _ ((c .before .before .before .before .before .before .before .before .loop) .inv) ((c .before .before .before .before .before .before .before .loop-test) .taken) _ _ ((c .before .before .before .before .before .before .name-at) .ensures) ((c .before .before .before .before .before .local-at) .ensures) _ (kinding-done _ _ _ _ _ _ _ _ _ _ _ ((c .before .before .before .before .loop2) .inv) ((c .before .before .before .loop2-test) .left) ((c .before .before .if2) .left)) ((c .before .before .before .before .loop2) .inv .fine) _ ((c .before .next) .ensures) _ ((c .next2) .ensures)
+loop-again c = staging-turn _ _ _ _ _ _ _ _ _ _ _ ((c .before .before .before .before .before .before .before .before .before .before .before .loop) .inv) ((c .before .before .before .before .before .before .before .before .before .before .loop-test) .taken) _ _ ((c .before .before .before .before .before .before .before .before .before .name-at) .ensures) ((c .before .before .before .before .before .before .before .before .local-at) .ensures) _ (kinding-done _ _ _ _ _ _ _ _ _ _ _ ((c .before .before .before .before .loop2) .inv .0) ((c .before .before .before .loop2-test) .left) ((c .before .before .if2) .left)) ((c .before .before .before .before .loop2) .inv .0 .fine) _ ((c .before .next) .ensures) _ ((c .next2) .ensures)
 
 returns-2 : tie.Need-returns-2 Inv-loop2 μ-loop2 Inv-loop μ-loop
 returns-2 c = staging-end _ _ _ _ _ _ _ _ _ _ _ ((c .before .loop) .inv) ((c .loop-test) .left)
 
 pub stage-spec : {M : Type 1} → statement M
-stage-spec = tie.close (tie.spec Inv-loop2 μ-loop2 Inv-loop μ-loop refused-requires loop-holds name-at-requires local-at-requires loop2-holds choose-requires staged-has-requires clash-requires verdict-requires add-kind mul-s element-write-s add-s mul-s-2 element-write-s-2 add-s-2 mul-s-3 element-write-s-3 add-s-3 mul-s-4 element-write-s-4 add-s-4 mul-s-5 element-write-s-5 mul-s-6 element-write-s-6 add-s-5 mul-s-7 element-write-s-7 add-s-6 mul-s-8 element-write-s-8 add-s-7 mul-s-9 element-write-s-9 add-s-8 loop2-less loop2-again loop2-less-2 loop2-again-2 returns next-requires next-requires-2 add-i loop-less loop-again returns-2)
+stage-spec = tie.close (tie.spec Inv-loop2 μ-loop2 Inv-loop μ-loop refused-requires loop-holds name-at-requires local-at-requires first-named-requires loop2-holds choose-requires staged-has-requires clash-requires verdict-requires add-kind mul-s element-write-s add-s mul-s-2 element-write-s-2 add-s-2 mul-s-3 element-write-s-3 add-s-3 mul-s-4 element-write-s-4 add-s-4 mul-s-5 element-write-s-5 mul-s-6 element-write-s-6 add-s-5 mul-s-7 element-write-s-7 add-s-6 mul-s-8 element-write-s-8 add-s-7 mul-s-9 element-write-s-9 add-s-8 loop2-less loop2-again loop2-less-2 loop2-again-2 returns next-requires next-requires-2 add-i loop-less loop-again returns-2)
