@@ -30,24 +30,37 @@ mix s k n =
     + (s * 7000208109065 + k * 3387945472435))
     / 268435456
 
+-- 36 more
+unfoldable pub mix-again : ℕ → ℕ → Name → ℕ
+mix-again s k n =
+    ((n .w0 / 4294967296 % 4294967296 * 220889051 + n .w0 % 4294967296 * 150740719)
+    + (n .w1 / 4294967296 % 4294967296 * 182388329 + n .w1 % 4294967296 * 176714393)
+    + (n .w2 / 4294967296 % 4294967296 * 189812533 + n .w2 % 4294967296 * 232471937)
+    + (n .w3 / 4294967296 % 4294967296 * 215493451 + n .w3 % 4294967296 * 165902239)
+    + (s * 3387945472435 + k * 7000208109065))
+    / 268435456
+
 -- the four words of the name, then scope and kind
 unfoldable pub word-at : ℕ → ℕ → Name → ℕ → ℕ
 word-at s k n i = cond (eqb i 0) (n .w0) (cond (eqb i 1) (n .w1) (cond (eqb i 2) (n .w2) (cond (eqb i 3) (n .w3) (s + k * 65536))))
 
--- the bit at a depth: 26 of the mix m, then those of the words
+-- the bit at a depth: 26 of the mix m, 36 of the other mix, then those of the words
 unfoldable pub turn-of : ℕ → ℕ → ℕ → Name → ℕ → ℕ
-turn-of m s k n d = cond (ltb d 26) (m / 2 ^ (d + 10) % 2) (word-at s k n ((d - 26) / 64) / 2 ^ ((d - 26) % 64) % 2)
+turn-of m s k n d =
+    cond (ltb d 26) (m / 2 ^ (d + 10) % 2)
+    (cond (ltb d 62) (mix-again s k n / 2 ^ (d - 26) % 2) (word-at s k n ((d - 62) / 64) / 2 ^ ((d - 62) % 64) % 2))
 
 abbrev pub turn : ℕ → ℕ → Name → ℕ → ℕ
 turn s k n = turn-of (mix s k n) s k n
 
 pub turn-below : (m s k : ℕ) (n : Name) (d : ℕ) → turn-of m s k n d < 2
 unfolding turn-of
-turn-below m s k n d = go (ltb d 26)
+turn-below m s k n d = go (ltb d 26) (ltb d 62)
   where
-    go : (b : Bool) → cond b (m / 2 ^ (d + 10) % 2) (word-at s k n ((d - 26) / 64) / 2 ^ ((d - 26) % 64) % 2) < 2
-    go true = omega arith
-    go false = omega arith
+    go : (b c : Bool) → cond b (m / 2 ^ (d + 10) % 2) (cond c (mix-again s k n / 2 ^ (d - 26) % 2) (word-at s k n ((d - 62) / 64) / 2 ^ ((d - 62) % 64) % 2)) < 2
+    go true c = omega arith
+    go false true = omega arith
+    go false false = omega arith
 
 -- the hash
 unfoldable pub bucket : ℕ → ℕ → Name → ℕ
@@ -285,9 +298,13 @@ module _ (m s k : ℕ) (n : Name) (d : ℕ) where
   unfolding turn-of
   turn-mix h = (rw (lt-ltb d 26 h), omega arith)
 
-  pub turn-word : 26 ≤ d → (x : ℕ) → x ≡ word-at s k n ((d - 26) / 64) → (x / 2 ^ ((d - 26) % 64) % 2 ≡ turn-of m s k n d) × (x / 2 ^ ((d - 26) % 64) % 2 < 2)
+  pub turn-again : 26 ≤ d → d < 62 → (x : ℕ) → x ≡ mix-again s k n → (x / 2 ^ (d - 26) % 2 ≡ turn-of m s k n d) × (x / 2 ^ (d - 26) % 2 < 2)
   unfolding turn-of
-  turn-word h x e = (rw (le-ltb d 26 h, e), omega arith)
+  turn-again h l x e = (rw (le-ltb d 26 h, lt-ltb d 62 l, e), omega arith)
+
+  pub turn-word : 62 ≤ d → (x : ℕ) → x ≡ word-at s k n ((d - 62) / 64) → (x / 2 ^ ((d - 62) % 64) % 2 ≡ turn-of m s k n d) × (x / 2 ^ ((d - 62) % 64) % 2 < 2)
+  unfolding turn-of
+  turn-word h x e = (rw (le-ltb d 26 (omega arith), le-ltb d 62 h, e), omega arith)
 
 pub below-slot : (f : ℕ → ℕ) (d i : ℕ) → i < 1024 → (b : ℕ) → (b ≡ f d) × (b < 2) → (1024 + 2 * i + b ≡ below f d i) × (1024 + 2 * i + b < 3072)
 unfolding below

@@ -1,4 +1,4 @@
--- What bounds a walk through the index: a scope, a kind and a name have 346 bits by which it turns, and two of them that agree in all are
+-- What bounds a walk through the index: a scope, a kind and a name have 382 bits by which it turns, and two of them that agree in all are
 -- one. Assumes nothing.
 use Prim.Native.Nat.{ℕ, zero, suc, _+_, _-_, _*_, _/_, _%_, _^_, _≤_, _<_}
 use native.Mathlib.Omega.{arith}
@@ -32,12 +32,12 @@ bits-same (suc n) x y h k w =
     omega arith
 
 -- THE BITS OF A WORD
-turn-at : (m s k : ℕ) (n : Name) (i j : ℕ) → j < 64 → turn-of m s k n (26 + (64 * i + j)) ≡ word-at s k n i / 2 ^ j % 2
+turn-at : (m s k : ℕ) (n : Name) (i j : ℕ) → j < 64 → turn-of m s k n (62 + (64 * i + j)) ≡ word-at s k n i / 2 ^ j % 2
 unfolding turn-of
 turn-at m s k n i j h =
-    let u : (26 + (64 * i + j) - 26) / 64 ≡ i = omega arith in
-    let v : (26 + (64 * i + j) - 26) % 64 ≡ j = omega arith in
-    rw (le-ltb (26 + (64 * i + j)) 26 (omega arith), u, v)
+    let u : (62 + (64 * i + j) - 62) / 64 ≡ i = omega arith in
+    let v : (62 + (64 * i + j) - 62) % 64 ≡ j = omega arith in
+    rw (le-ltb (62 + (64 * i + j)) 26 (omega arith), le-ltb (62 + (64 * i + j)) 62 (omega arith), u, v)
 
 -- numbers as the arrays hold them
 pub record Key (s k : ℕ) (n : Name) : Type 0 where
@@ -48,10 +48,10 @@ pub record Key (s k : ℕ) (n : Name) : Type 0 where
   pub w2 : n .w2 < 18446744073709551616
   pub w3 : n .w3 < 18446744073709551616
 
-module _ (s k : ℕ) (n : Name) (s′ k′ : ℕ) (n′ : Name) (w : (d : ℕ) → d < 346 → turn s k n d ≡ turn s′ k′ n′ d) where
+module _ (s k : ℕ) (n : Name) (s′ k′ : ℕ) (n′ : Name) (w : (d : ℕ) → d < 382 → turn s k n d ≡ turn s′ k′ n′ d) where
   word-same : (i : ℕ) → i < 5 → word-at s k n i < 18446744073709551616 → word-at s′ k′ n′ i < 18446744073709551616 → word-at s k n i ≡ word-at s′ k′ n′ i
   word-same i l a b =
-      bits-same 64 (word-at s k n i) (word-at s′ k′ n′ i) a b (λ j h. sym (turn-at (mix s k n) s k n i j h) ∙ w (26 + (64 * i + j)) (omega arith) ∙ turn-at (mix s′ k′ n′) s′ k′ n′ i j h)
+      bits-same 64 (word-at s k n i) (word-at s′ k′ n′ i) a b (λ j h. sym (turn-at (mix s k n) s k n i j h) ∙ w (62 + (64 * i + j)) (omega arith) ∙ turn-at (mix s′ k′ n′) s′ k′ n′ i j h)
 
   -- THE THEOREM: what agrees in all bits is one
   pub route-one : Key s k n → Key s′ k′ n′ → (s ≡ s′) × ((k ≡ k′) × (n ≡ n′))

@@ -4,7 +4,7 @@ ghost use Prim.Native.Nat.{_+_, _*_, _%_, _<_, _≤_};
 ghost use mathlib.Core.Bool.{_&&_};
 ghost use lib.ListN.{getD};
 ghost use Rattle.scope_tree.specs.Rows.{isRow, isOwn, site};
-ghost use Rattle.scope_tree.specs.Index.{mix, word-at, turn-of, below, within, place-in, free-slot, spot-in};
+ghost use Rattle.scope_tree.specs.Index.{mix-again, mix, word-at, turn-of, below, within, place-in, free-slot, spot-in};
 ghost use Rattle.scope_tree.specs.Staging.{is-at};
 ghost use Rattle.scope_tree.specs.Nav.{barred, current-of, leads-on, wayed, Arrived};
 ghost use Rattle.scope_tree.specs.Trees.{part, index-of, doors-of};
@@ -57,6 +57,18 @@ pub fn mixed(scope: u16, kind: u16, name: Name) -> u64
     (a + b + c + d + e) / 268435456
 }
 
+// The same by other multipliers, for walks that the first bits do not part.
+fn mixed_again(scope: u16, kind: u16, name: Name) -> u64
+    ensures { λ r. ⌜ r ≡ mix-again scope kind name ⌝ }
+{
+    let a = name.w0 / 4294967296 % 4294967296 * 220889051 + name.w0 % 4294967296 * 150740719;
+    let b = name.w1 / 4294967296 % 4294967296 * 182388329 + name.w1 % 4294967296 * 176714393;
+    let c = name.w2 / 4294967296 % 4294967296 * 189812533 + name.w2 % 4294967296 * 232471937;
+    let d = name.w3 / 4294967296 % 4294967296 * 215493451 + name.w3 % 4294967296 * 165902239;
+    let e = (scope as u64) * 3387945472435 + (kind as u64) * 7000208109065;
+    (a + b + c + d + e) / 268435456
+}
+
 // The words of a name, and one of scope and kind: all that two entries of one name can differ in.
 fn word_at(scope: u16, kind: u16, name: Name, i: usize) -> u64
     ensures { λ r. ⌜ r ≡ word-at scope kind name i ⌝ }
@@ -76,14 +88,17 @@ fn word_at(scope: u16, kind: u16, name: Name, i: usize) -> u64
     (scope as u64) + (kind as u64) * 65536
 }
 
-// The bit by which a walk goes on at a depth: those of the mix that aren't the hash, then those of the words.
+// The bit by which a walk goes on at a depth: those of the mix that aren't the hash, those of the other mix, then those of the words.
 fn turn(mix: u64, scope: u16, kind: u16, name: Name, depth: usize) -> usize
     ensures { λ r. ⌜ (r ≡ turn-of mix scope kind name depth) × (r < 2) ⌝ }
 {
     if depth < 26 {
         return ((mix >> (depth + 10)) % 2) as usize;
     }
-    let at = depth - 26;
+    if depth < 62 {
+        return ((mixed_again(scope, kind, name) >> (depth - 26)) % 2) as usize;
+    }
+    let at = depth - 62;
     ((word_at(scope, kind, name, at / 64) >> (at % 64)) % 2) as usize
 }
 
