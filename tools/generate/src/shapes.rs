@@ -2,14 +2,7 @@
 
 use bundle_format::{Body, Bundle, Element, File, Item};
 
-pub const SHAPES: [&str; 6] = [
-    "chain",
-    "ring",
-    "star",
-    "diamonds",
-    "next-four",
-    "folders",
-];
+pub const SHAPES: [&str; 6] = ["chain", "ring", "star", "diamonds", "next-four", "folders"];
 
 /// What unit `id` of `units` imports.
 fn imports(shape: &str, id: usize, units: usize) -> Option<Vec<usize>> {
@@ -49,11 +42,14 @@ pub fn shape(shape: &str, units: usize) -> Option<Vec<u8>> {
         let mut items = Vec::new();
         for import in imports(shape, id, units)? {
             let body = Body::Use {
-                segments: [Some(b"crate".to_vec()), folder(import).map(String::into_bytes)]
-                    .into_iter()
-                    .flatten()
-                    .chain([name(import)])
-                    .collect(),
+                segments: [
+                    Some(b"crate".to_vec()),
+                    folder(import).map(String::into_bytes),
+                ]
+                .into_iter()
+                .flatten()
+                .chain([name(import)])
+                .collect(),
                 elements: vec![Element {
                     name: b"f".to_vec(),
                     alias: Some(format!("f{import}").into_bytes()),
