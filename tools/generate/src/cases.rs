@@ -459,7 +459,7 @@ fn declaring(names: impl Iterator<Item = String>) -> Bundle {
 
 fn one_hash() -> Bundle {
     let names = (0..).map(|at| format!("f{at}"));
-    declaring(names.filter(|name| mix(name.as_bytes()) % 1_024 == 0))
+    declaring(names.filter(|name| mix(name.as_bytes()).is_multiple_of(1_024)))
 }
 
 /// Names of 32 bytes that agree in all 36 bits of the mix and in their first 24 bytes: for each choice of four
