@@ -2,12 +2,14 @@
 use Prim.Native.Nat.{ℕ, _≤_, _<_}
 use native.Mathlib.Omega.{arith}
 use mathlib.Core.Path.{_≡_, refl, sym, ap, subst, _∙_}
-use mathlib.Core.List.{List, [], _∷_}
+use mathlib.Core.Bool.{Bool, true, false, cond}
+use mathlib.Core.List.{List, [], _∷_, map}
+use lib.Dec.{eqb, leb}
 use lib.ListN.{length, take}
 use borrow.Author.Tests.{eq-eqb, ne-eqb}
 use Rattle.bundle.specs.Bundle.{Bundle}
 use Rattle.bundle.specs.Decode.{decode}
-use Rattle.bundle.specs.Read.{verdict}
+use Rattle.bundle.specs.Read.{Reading, value, refused, read, verdict}
 use Rattle.bundle.specs.Theorems.{accepted}
 use Rattle.bundle.specs.declared.Checked.the-variants.{Ok}
 use Rattle.discovery.specs.Discovery.{Fault}
@@ -16,23 +18,24 @@ use Rattle.order.specs.Run.{ordered}
 use Rattle.order.specs.Run as order
 use Rattle.order.specs.Call.{padded, unitFiles, orderAnswer, orderReport}
 use Rattle.order.specs.Call as call
-use Rattle.order.specs.Report.{lentReport, reporting, nothing-lent}
+use Rattle.order.specs.Report.{fault, ring, lentReport, reporting, nothing-lent}
 use Rattle.order.specs.Writing.{faultRecords}
 use Rattle.order.specs.declared.Answer.{Answer}
 use Rattle.order.specs.declared.Reported.{Reported}
+use Rattle.order.specs.declared.Reported.the-variants as reported
 use Rattle.order.specs.Outcome.{andThen}
 use Rattle.order.specs.Carried.{order-read, carried}
-use Rattle.scope_tree.specs.Trees.{flat-of}
+use Rattle.scope_tree.specs.Trees.{flat-of, cleared}
 use Rattle.scope_tree.specs.declared.Tree.{Tree}
 use Rattle.assembly.specs.Assemble.{assembled, assemblyFaults, step5, assembleAfter, linearizeAndAssemble}
-use Rattle.assembly.specs.Image.{imaging, lentImage}
+use Rattle.assembly.specs.Image.{small-buffer, long-image, image-limit, itemsLength, imageLength, imaging, lentImage}
 use Rattle.assembly.specs.Call.{telling, reportedTo, imagedTo, withImage}
 use Rattle.assembly.specs.Join.{faults-counted}
 use Rattle.assembly.specs.Given as units
 use Rattle.assembly.specs.declared.Imaged.{Imaged}
 use Rattle.assembly.specs.declared.Imaged.the-variants as imaged
-use Rattle.linker.specs.Link.{Outcome, faulty, closed, ended, result, linked, step6, linkAfter, linkBundle}
-use Rattle.linker.specs.Call.{recordsOf, builtOf, answering, imageAfter, TreeWith, TreeOfMade, TreeAfter, linkAnswer, linkReport, linkImage, LinkTree}
+use Rattle.linker.specs.Link.{Made, Outcome, faulty, closed, ended, result, linked, step6, linkAfter, linkBundle}
+use Rattle.linker.specs.Call.{recordsOf, builtOf, answering, imageAfter, TreeWith, TreeOfMade, TreeAfter, TreeTo, answerTo, linkAnswer, linkReport, linkImage, LinkTree}
 use Rattle.linker.specs.Steps.{reached}
 use Rattle.linker.specs.Units.{ScopedAs}
 use Rattle.linker.specs.declared.Linked.{Linked}
@@ -42,6 +45,10 @@ use Rattle.linker.specs.declared.Scoped.{Scoped}
 abbrev pub treeBy : Imaged → Tree → Tree → Tree
 treeBy (imaged.Image n) made given = made
 treeBy (imaged.Refused n p) made given = given
+
+-- and which where a tree was given: the one made, if the image has a length
+abbrev pub treeGiven : ℕ → Tree → Tree → Tree
+treeGiven n made given = cond (eqb n 0) given made
 
 -- what is due of an answer, of both buffers and of the tree
 abbrev pub Due : (s report₀ image₀ : List ℕ) → Tree → (report₁ image₁ : List ℕ) → Linked → Type 0
@@ -136,3 +143,43 @@ module _ (s out img : List ℕ) (t : Tree) where
               by-image : (i : Imaged) → TreeWith i (flat-of (w .tree)) t (treeBy i (w .tree) t)
               by-image (imaged.Image m) = record { good = sc .good; is = refl }
               by-image (imaged.Refused m p) = refl
+
+-- FROM NO TREE GIVEN TO ANY
+module _ (t u : Tree) where
+  with-given : (files : List ℕ) (m : ℕ) (q : Made) → TreeOfMade m cleared u q → TreeOfMade m t (treeGiven (withImage files m (builtOf q) .image) u t) q
+  unfolding imaging
+  with-given files m q h = go (leb (itemsLength (q .items)) image-limit) (leb (imageLength (q .items)) m) h
+    where
+      image-of : Bool → Bool → Imaged
+      image-of a b = cond a (cond b (imaged.Image (imageLength (q .items))) (imaged.Refused small-buffer 0)) (imaged.Refused long-image 0)
+
+      go : (a b : Bool) → TreeWith (image-of a b) (q .tree) cleared u
+          → TreeWith (image-of a b) (q .tree) t (treeGiven (imagedTo (length files) (padded files) (padded (q .ids)) (image-of a b) .image) u t)
+      go true true k = rw (ne-eqb (imageLength (q .items)) 0 (λ z. omega arith)) k
+      go true false k = refl
+      go false b k = refl
+
+  reported-given : (r : Reported) → treeGiven (reportedTo r .image) u t ≡ t
+  reported-given (reported.Report n) = refl
+  reported-given (reported.Refused n p) = refl
+
+  after-given : (files : List ℕ) (n m : ℕ) (y : Outcome) → TreeAfter m y cleared u → TreeAfter m y t (treeGiven (answering files n m y .image) u t)
+  after-given files n m (faulty l) h = reported-given (reporting (map fault l) n)
+  after-given files n m (closed r) h = reported-given (reporting (ring r ∷ []) n)
+  after-given files n m (ended k p) h = refl
+  after-given files n m (result q) h = with-given files m q h
+
+  to-given : (x : Reading) (n m : ℕ) → TreeTo x m cleared u → TreeTo x m t (treeGiven (answerTo x n m .image) u t)
+  to-given (refused k p) n m h = refl
+  to-given (value b) n m h = after-given (unitFiles b) n m (linkBundle b) h
+
+  pub tree-given : (s out img : List ℕ) (a : Answer) → a ≡ linkAnswer s out img → LinkTree s img cleared u → LinkTree s img t (treeGiven (a .image) u t)
+  unfolding linkAnswer LinkTree
+  tree-given s out img a e h = rw e (to-given (read s) (length out) (length img) h)
+
+  -- as the code has it
+  pub record-given : (x : Linked) → x .answer .image ≡ 0 → _≡_ {A = Linked} (record { answer = x .answer; tree = t }) (record { answer = x .answer; tree = treeGiven (x .answer .image) (x .tree) t })
+  record-given x e = rw (eq-eqb (x .answer .image) 0 e)
+
+  pub record-made : (x : Linked) → (x .answer .image ≡ 0 → ⊥) → x ≡ record { answer = x .answer; tree = treeGiven (x .answer .image) (x .tree) t }
+  record-made x n = rw (ne-eqb (x .answer .image) 0 n)

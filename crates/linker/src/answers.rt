@@ -1,28 +1,47 @@
 // The answers of the operation: order's and assembly's, with a tree.
 ghost use mathlib.Core.Path.{_≡_};
+ghost use Rattle.scope_tree.specs.Trees.{cleared};
 ghost use Rattle.assembly.specs.Call.{imagedTo};
-ghost use Rattle.linker.specs.Join.{treeBy};
+ghost use Rattle.linker.specs.Join.{treeBy, treeGiven};
 use crate::Linked;
 use assembly::Imaged;
 use order::Answer;
 use scopes::Tree;
 
-pub fn told(answer: Answer, tree: Tree) -> Linked
-    ensures { λ r. ⌜ r ≡ record { answer = answer; tree = tree } ⌝ }
+// No image, an empty tree.
+pub fn told(answer: Answer) -> Linked
+    ensures { λ r. ⌜ r ≡ record { answer = answer; tree = cleared } ⌝ }
 {
     Linked {
         answer: answer,
-        tree: tree,
+        tree: scopes::empty(),
     }
 }
 
-// The image, with the units and the tree made; or 15, 14, with the tree given.
-pub fn imaged(linked: Answer, r: Imaged, made: Tree, given: Tree) -> Linked
-    ensures { λ x. ⌜ x ≡ record { answer = imagedTo (linked .units) (linked .files) (linked .ids) r; tree = treeBy r made given } ⌝ }
+// The image, with the units and the tree made; or 15, 14.
+pub fn imaged(linked: Answer, r: Imaged, made: Tree) -> Linked
+    ensures { λ x. ⌜ x ≡ record { answer = imagedTo (linked .units) (linked .files) (linked .ids) r; tree = treeBy r made cleared } ⌝ }
 {
     let answer = assembly::with_image(linked, r);
     match r {
-        Imaged::Refused(_, _) => told(answer, given),
-        Imaged::Image(_) => told(answer, made),
+        Imaged::Refused(_, _) => told(answer),
+        Imaged::Image(_) => Linked {
+            answer: answer,
+            tree: made,
+        },
     }
+}
+
+// With the tree that was given, where there is no image.
+pub fn given(linked: Linked, tree: Tree) -> Linked
+    ensures { λ x. ⌜ x ≡ record { answer = linked .answer; tree = treeGiven (linked .answer .image) (linked .tree) tree } ⌝ }
+{
+    let answer = linked.answer;
+    if answer.image == 0 {
+        return Linked {
+            answer: answer,
+            tree: tree,
+        };
+    }
+    linked
 }

@@ -1,5 +1,6 @@
 use mathlib.Core.Path.{sym, ap, _∙_}
 use Rattle.order.specs.declared.Answer.{Answer}
+use Rattle.scope_tree.specs.Trees.{cleared}
 use Rattle.scope_tree.specs.declared.Tree.{Tree}
 use Rattle.assembly.specs.Call.{imagedTo}
 use Rattle.assembly.specs.declared.Imaged.{Imaged}
@@ -20,14 +21,11 @@ told-requires c κs = search needs
 enum-told-2 : tie.Need-enum-told-2
 enum-told-2 c = search needs
 
-told-requires-2 : tie.Need-told-requires-2
-told-requires-2 c κs = search needs
-
 returns : tie.Need-returns
-returns c = c .told .ensures ∙ (ap (λ (y : Answer). record { answer = y; tree = c .before .before .before .before .args .given }) (c .before .before .before .with-image .ensures) ∙ ap (λ (z : Tree). record { answer = imagedTo (c .before .before .before .before .args .linked .units) (c .before .before .before .before .args .linked .files) (c .before .before .before .before .args .linked .ids) (c .before .before .before .before .args .r); tree = z }) (sym (ap (λ (z : Imaged). treeBy z (c .before .before .before .before .args .made) (c .before .before .before .before .args .given)) (c .before .enum-told .given .1))))
+returns c = c .told .ensures ∙ (ap (λ (y : Answer). record { answer = y; tree = cleared }) (c .before .before .before .with-image .ensures) ∙ ap (λ (z : Tree). record { answer = imagedTo (c .before .before .before .before .args .linked .units) (c .before .before .before .before .args .linked .files) (c .before .before .before .before .args .linked .ids) (c .before .before .before .before .args .r); tree = z }) (sym (ap (λ (z : Imaged). treeBy z (c .before .before .before .before .args .made) cleared) (c .before .enum-told .given .1))))
 
 returns-2 : tie.Need-returns-2
-returns-2 c = c .told2 .ensures ∙ (ap (λ (y : Answer). record { answer = y; tree = c .before .before .before .before .args .made }) (c .before .before .before .with-image .ensures) ∙ ap (λ (z : Tree). record { answer = imagedTo (c .before .before .before .before .args .linked .units) (c .before .before .before .before .args .linked .files) (c .before .before .before .before .args .linked .ids) (c .before .before .before .before .args .r); tree = z }) (sym (ap (λ (z : Imaged). treeBy z (c .before .before .before .before .args .made) (c .before .before .before .before .args .given)) (c .before .enum-told2 .given .1))))
+returns-2 c = (ap (λ (y : Answer). record { answer = y; tree = c .before .before .before .args .made }) (c .before .before .with-image .ensures) ∙ ap (λ (z : Tree). record { answer = imagedTo (c .before .before .before .args .linked .units) (c .before .before .before .args .linked .files) (c .before .before .before .args .linked .ids) (c .before .before .before .args .r); tree = z }) (sym (ap (λ (z : Imaged). treeBy z (c .before .before .before .args .made) cleared) (c .enum-told2 .given .1))))
 
 pub imaged-spec : {M : Type 1} → statement M
-imaged-spec = tie.close (tie.spec with-image-requires enum-told told-requires enum-told-2 told-requires-2 returns returns-2)
+imaged-spec = tie.close (tie.spec with-image-requires enum-told told-requires enum-told-2 returns returns-2)
