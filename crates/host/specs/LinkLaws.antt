@@ -48,7 +48,7 @@ rows-whole es l h k =
     let e : 0 + length (all-numbers es) ≡ 11 * length es = omega (arith, n) in
     written-sets l 0 (all-numbers es) ∙ sets-eq (all-numbers es) l 0 b ∙ ap (λ (j : ℕ). all-numbers es ++ drop j l) e
 
--- THE ENTRIES of the record that comes back, where an empty one was given
+-- THE ENTRIES of the record that comes back
 pub record Comes (es : List Entry) (u : Tree) : Type 0 where
   pub small : getD (u .opened) 9 0 ≤ 1024
   pub are : flat-of u .entries ≡ es
@@ -75,9 +75,9 @@ module _ (u : Tree) where
   comes-to (refused k p) m h = kept h
   comes-to (value b) m h = comes-after m (linkBundle b) h
 
-  pub comes : (s image : List ℕ) (t : Tree) → t ≡ cleared → LinkTree s image t u → Comes (linkEntries s image) u
+  pub comes : (s image : List ℕ) → LinkTree s image cleared u → Comes (linkEntries s image) u
   unfolding LinkTree linkEntries
-  comes s image t e h = comes-to (read s) (length image) (subst (λ (t′ : Tree). TreeTo (read s) (length image) t′ u) e h)
+  comes s image h = comes-to (read s) (length image) h
 
 -- AS THE CODE HAS IT
 pub answer-laid : (a : Answer) (n : ℕ) (l m₁ m₂ m₃ m₄ m₅ m₆ m₇ : List ℕ) → m₁ ≡ set l 0 (a .place) → m₂ ≡ set m₁ 1 (a .report) → m₃ ≡ set m₂ 2 (a .units) → m₄ ≡ set m₃ 3 (a .image)
@@ -108,12 +108,12 @@ module _ (s report image answer rows : List ℕ) where
       go true = lt-leb rows-length (length rows) h
       go false = refl
 
-  pub told : answer-length ≤ length answer → rows-length ≤ length rows → (t u : Tree) → t ≡ cleared → LinkTree s image t u → (a : Answer) → a ≡ linkAnswer s report image
+  pub told : answer-length ≤ length answer → rows-length ≤ length rows → (u : Tree) → LinkTree s image cleared u → (a : Answer) → a ≡ linkAnswer s report image
       → (report′ image′ answer′ rows′ : List ℕ) → report′ ≡ linkReport s report → image′ ≡ linkImage s image → (n : ℕ) → Listed (flat-of u .entries) rows n rows′ → answer′ ≡ answerOf a n answer
       → Told (a .number) report′ image′ answer′ rows′
   unfolding numberTold reportTold imageTold answerTold rowsTold
-  told h k t u e w a aq report′ image′ answer′ rows′ rq iq n l q =
-      let c = comes u s image t e w in
+  told h k u w a aq report′ image′ answer′ rows′ rq iq n l q =
+      let c = comes u s image w in
       let b : length (linkEntries s image) ≤ 1024 = subst (λ (es : List Entry). length es ≤ 1024) (c .are) (rw (length-tab (row-of (view u)) (getD (u .opened) 9 0)) (c .small)) in
       let z : roomy answer rows ≡ true = rw (le-leb answer-length (length answer) h) (le-leb rows-length (length rows) k) in
       rw z (

@@ -185,7 +185,7 @@ pub extern "C" fn gontsamy_link(
     if rows.len() < ROWS {
         return 14;
     }
-    let l = linker::link(s, report, image, scopes::empty());
+    let l = linker::link_new(s, report, image);
     let a = l.answer;
     let number = a.number;
     let entries = scopes_c::put_rows(

@@ -10,14 +10,11 @@ returns c = let x = (c .before .before .before .before .before .before .args) in
 returns-2 : tie.Need-returns-2
 returns-2 c = let x = (c .before .before .before .before .before .before .before .args) in short-rows (x .s .now) (x .report .now) (x .image .now) (x .answer .now) (x .rows .now) ((c .if2) .taken)
 
-empty-requires : tie.Need-empty-requires
-empty-requires c κs = search needs
-
-link-requires : tie.Need-link-requires
-link-requires c κs = search needs
+link-new-requires : tie.Need-link-new-requires
+link-new-requires c κs = search needs
 
 put-rows-requires : tie.Need-put-rows-requires
-put-rows-requires c κs = let x = (c .before .before .before .before .before .before .before .before .before .before .before .before .before .before .before .before .before .before .before .before .before .before .before .before .before .before .before .args) in let e = (c .before .before .before .before .before .before .before .before .before .before .before .before .before .before .before .before .before .empty) in let l = (c .before .before .before .before .before .before .before .before .before .before .before .before .before .before .before .before .link) in comes (l .result .tree) (x .s .now) (x .image .now) (e .result) (e .ensures) (l .ensures .1 .1 .1) .small
+put-rows-requires c κs = let x = (c .before .before .before .before .before .before .before .before .before .before .before .before .before .before .before .before .before .before .before .before .before .before .before .before .before .before .args) in let l = (c .before .before .before .before .before .before .before .before .before .before .before .before .before .before .before .before .link-new) in comes (l .result .tree) (x .s .now) (x .image .now) (l .ensures .1 .1 .1) .small
 
 tell-link-requires : tie.Need-tell-link-requires
 tell-link-requires c κs = search needs
@@ -35,7 +32,7 @@ same-length-4 : tie.Need-same-length-4
 same-length-4 c = search needs
 
 returns-3 : tie.Need-returns-3
-returns-3 c = let x = (c .before .before .before .before .before .before .before .before .before .before .before .before .before .before .before .before .before .before .before .before .before .before .before .before .before .before .before .before .before .before .before .before .before .before .args) in let e = (c .before .before .before .before .before .before .before .before .before .before .before .before .before .before .before .before .before .before .before .before .before .before .before .before .empty) in let l = (c .before .before .before .before .before .before .before .before .before .before .before .before .before .before .before .before .before .before .before .before .before .before .before .link) in let p = (c .before .before .before .before .before .before .put-rows) in told (x .s .now) (x .report .now) (x .image .now) (x .answer .now) (x .rows .now) ((c .before .before .before .before .before .before .before .before .before .before .before .before .before .before .before .before .before .before .before .before .before .before .before .before .before .before .before .before .if1) .left) ((c .before .before .before .before .before .before .before .before .before .before .before .before .before .before .before .before .before .before .before .before .before .before .before .before .before .before .before .if2) .left) (e .result) (l .result .tree) (e .ensures) (l .ensures .1 .1 .1) (l .result .answer) (l .ensures .0) _ _ _ _ (l .ensures .1 .0) (l .ensures .1 .1 .0) (p .result) (p .ensures) ((c .before .before .tell-link) .ensures)
+returns-3 c = let x = (c .before .before .before .before .before .before .before .before .before .before .before .before .before .before .before .before .before .before .before .before .before .before .before .before .before .before .before .before .before .before .before .before .before .args) in let l = (c .before .before .before .before .before .before .before .before .before .before .before .before .before .before .before .before .before .before .before .before .before .before .before .link-new) in let p = (c .before .before .before .before .before .before .put-rows) in told (x .s .now) (x .report .now) (x .image .now) (x .answer .now) (x .rows .now) ((c .before .before .before .before .before .before .before .before .before .before .before .before .before .before .before .before .before .before .before .before .before .before .before .before .before .before .before .if1) .left) ((c .before .before .before .before .before .before .before .before .before .before .before .before .before .before .before .before .before .before .before .before .before .before .before .before .before .before .if2) .left) (l .result .tree) (l .ensures .1 .1 .1) (l .result .answer) (l .ensures .0) _ _ _ _ (l .ensures .1 .0) (l .ensures .1 .1 .0) (p .result) (p .ensures) ((c .before .before .tell-link) .ensures)
 
 pub gontsamy-link-spec : {M : Type 1} → statement M
-gontsamy-link-spec = tie.close (tie.spec returns returns-2 empty-requires link-requires put-rows-requires tell-link-requires same-length same-length-2 same-length-3 same-length-4 returns-3)
+gontsamy-link-spec = tie.close (tie.spec returns returns-2 link-new-requires put-rows-requires tell-link-requires same-length same-length-2 same-length-3 same-length-4 returns-3)
