@@ -6,7 +6,7 @@ use mathlib.Core.Bool.{Bool, true, false, cond}
 use mathlib.Core.List.{List, [], _∷_, map}
 use lib.Dec.{eqb, leb}
 use lib.ListN.{length, take}
-use borrow.Author.Tests.{eq-eqb, ne-eqb}
+use borrow.Author.Tests.{eq-eqb, ne-eqb, eqb-true, eqb-false}
 use Rattle.bundle.specs.Bundle.{Bundle}
 use Rattle.bundle.specs.Decode.{decode}
 use Rattle.bundle.specs.Read.{Reading, value, refused, read, verdict}
@@ -37,32 +37,26 @@ use Rattle.assembly.specs.declared.Imaged.the-variants as imaged
 use Rattle.linker.specs.Link.{Made, Outcome, faulty, closed, ended, result, linked, step6, linkAfter, linkBundle}
 use Rattle.linker.specs.Call.{recordsOf, builtOf, answering, imageAfter, TreeWith, TreeOfMade, TreeAfter, TreeTo, answerTo, linkAnswer, linkReport, linkImage, LinkTree}
 use Rattle.linker.specs.Steps.{reached}
-use Rattle.linker.specs.Units.{ScopedAs}
+use Rattle.linker.specs.Units.{treeBy, LinkedAs}
 use Rattle.linker.specs.declared.Linked.{Linked}
-use Rattle.linker.specs.declared.Scoped.{Scoped}
 
--- which tree comes back with an image
-abbrev pub treeBy : Imaged → Tree → Tree → Tree
-treeBy (imaged.Image n) made given = made
-treeBy (imaged.Refused n p) made given = given
-
--- and which where a tree was given: the one made, if the image has a length
+-- which tree comes back where one was given: the one made, if the image has a length
 abbrev pub treeGiven : ℕ → Tree → Tree → Tree
 treeGiven n made given = cond (eqb n 0) given made
 
 -- what is due of an answer, of both buffers and of the tree
-abbrev pub Due : (s report₀ image₀ : List ℕ) → Tree → (report₁ image₁ : List ℕ) → Linked → Type 0
-Due s report₀ image₀ t report₁ image₁ x =
-    (x .answer ≡ linkAnswer s report₀ image₀) × ((report₁ ≡ linkReport s report₀) × ((image₁ ≡ linkImage s image₀) × LinkTree s image₀ t (x .tree)))
+abbrev pub Due : (s report₀ image₀ report₁ image₁ : List ℕ) → Linked → Type 0
+Due s report₀ image₀ report₁ image₁ x =
+    (x .answer ≡ linkAnswer s report₀ image₀) × ((report₁ ≡ linkReport s report₀) × ((image₁ ≡ linkImage s image₀) × LinkTree s image₀ cleared (x .tree)))
 
-module _ (s out img : List ℕ) (t : Tree) where
+module _ (s out img : List ℕ) where
   abbrev b : Bundle
   b = decode s
 
   -- BY THE OUTCOME of a bundle that is read
   module _ (v : verdict s ≡ Ok) (y : Outcome) (e : linkBundle b ≡ y) where
     pub due-by : (rep im : List ℕ) (x : Linked) → x .answer ≡ answering (unitFiles b) (length out) (length img) y → rep ≡ lentReport (recordsOf y) out → im ≡ imageAfter y img
-        → TreeAfter (length img) y t (x .tree) → Due s out img t rep im x
+        → TreeAfter (length img) y cleared (x .tree) → Due s out img rep im x
     unfolding linkAnswer linkReport linkImage LinkTree
     due-by rep im x f g h k =
         let r = accepted s v in
@@ -80,12 +74,12 @@ module _ (s out img : List ℕ) (t : Tree) where
 
   module _ (a : Answer) (rep : List ℕ) (is : a ≡ orderAnswer s out) (lent : rep ≡ orderReport s out) where
     -- WHERE THERE ARE NO UNITS the answer of steps 3 and 4 is the answer
-    pub no-units : a .units ≡ 0 → (x : Linked) → x ≡ record { answer = a; tree = t } → Due s out img t rep img x
+    pub no-units : a .units ≡ 0 → (x : Linked) → x ≡ record { answer = a; tree = cleared } → Due s out img rep img x
     unfolding linkAnswer linkReport linkImage LinkTree linkBundle linearizeAndAssemble
     no-units h x q =
         let y = carried s out a rep is lent linkBundle (λ c o. linkAfter (step5 (assemblyFaults c o) o (assembled c o))) (λ c. in-turn c (ordered c))
-        (λ c q. withImage (unitFiles c) (length img) (builtOf q)) (λ q i. lentImage (q .items) i) img (TreeOfMade (length img) t t) (t ≡ t) h in
-        subst (Due s out img t rep img) (sym q) (y .answer, (y .report, (y .held, y .kept refl)))
+        (λ c q. withImage (unitFiles c) (length img) (builtOf q)) (λ q i. lentImage (q .items) i) img (TreeOfMade (length img) cleared cleared) (cleared ≡ cleared) h in
+        subst (Due s out img rep img) (sym q) (y .answer, (y .report, (y .held, y .kept refl)))
 
     -- LINKED UNITS
     module _ (u : units.OrderedFilesGiven s (a .files) (a .ids) (a .units)) (kept : rep ≡ out) where
@@ -105,8 +99,8 @@ module _ (s out img : List ℕ) (t : Tree) where
       module _ (numbers places : List ℕ) (count : ℕ) (faults : faultsIn (take count numbers) (take count places) ≡ assemblyFaults b o) where
         -- faults of step 5
         pub faults-due : (report₂ : List ℕ) (r : Reported) (x : Linked) → count ≤ length numbers → count ≤ length places → 0 < count
-            → r ≡ reporting (faultRecords numbers places count) (length rep) → x ≡ record { answer = reportedTo r; tree = t } → report₂ ≡ lentReport (faultRecords numbers places count) rep
-            → Due s out img t report₂ img x
+            → r ≡ reporting (faultRecords numbers places count) (length rep) → x ≡ record { answer = reportedTo r; tree = cleared } → report₂ ≡ lentReport (faultRecords numbers places count) rep
+            → Due s out img report₂ img x
         faults-due report₂ r x hn hp some e g k =
             let n = faults-counted count numbers places hn hp in
             let q = told-faults (faultsIn (take count numbers) (take count places)) (omega arith) (sym faults) in
@@ -115,34 +109,40 @@ module _ (s out img : List ℕ) (t : Tree) where
             (k ∙ ap (lentReport (faultRecords numbers places count)) kept) refl (ap (λ (z : Linked). z .tree) g)
 
         -- none: STEP 6
-        module _ (z : count ≡ 0) (w : Scoped) (sc : ScopedAs (assembled b o) w) where
-          program-is : linkBundle b ≡ step6 o (assembled b o) (reached (record { number = w .number; place = w .place }) (flat-of (w .tree)))
+        module _ (z : count ≡ 0) (image₂ : List ℕ) (x : Linked) (w : LinkedAs (assembled b o) a img image₂ x) where
+          program-is : linkBundle b ≡ step6 o (assembled b o) (reached (w .stop) (flat-of (w .made)))
           unfolding faultsIn
           program-is =
               let none : assemblyFaults b o ≡ [] = sym faults ∙ ap (λ (n : ℕ). faultsIn (take n numbers) (take n places)) z in
-              step5-is ∙ (ap (λ (l : List Fault). linkAfter (step5 l o (assembled b o))) none ∙ ap (step6 o (assembled b o)) (sc .walked))
+              step5-is ∙ (ap (λ (l : List Fault). linkAfter (step5 l o (assembled b o))) none ∙ ap (step6 o (assembled b o)) (w .scoped .walked))
 
           -- a call is refused
-          pub ended-due : (w .number ≡ 0 → ⊥) → (x : Linked) → x ≡ record { answer = telling (w .number) (w .place) 0; tree = t } → Due s out img t rep img x
-          ended-due n x q =
-              due-by ok (ended (w .number) (w .place)) (program-is ∙ rw (ne-eqb (w .number) 0 n)) rep img x
-              (ap (λ (y : Linked). y .answer) q) (kept ∙ sym (nothing-lent out)) refl (ap (λ (y : Linked). y .tree) q)
+          ended-due : (w .stop .number ≡ 0 → ⊥) → Due s out img rep image₂ x
+          ended-due n =
+              let q = w .ended n in
+              due-by ok (ended (w .stop .number) (w .stop .place)) (program-is ∙ rw (ne-eqb (w .stop .number) 0 n)) rep image₂ x
+              (ap (λ (y : Linked). y .answer) (q .0)) (kept ∙ sym (nothing-lent out)) (q .1) (ap (λ (y : Linked). y .tree) (q .0))
 
           -- the image
-          pub image-due : w .number ≡ 0 → (image₂ : List ℕ) (r : Imaged) (x : Linked) → r ≡ imaging (assembled b o) (length img)
-              → x ≡ record { answer = imagedTo (a .units) (a .files) (a .ids) r; tree = treeBy r (w .tree) t } → image₂ ≡ lentImage (assembled b o) img → Due s out img t rep image₂ x
-          image-due n image₂ r x e q k =
+          image-due : w .stop .number ≡ 0 → Due s out img rep image₂ x
+          image-due n =
+              let q = w .linked n in
               let l : a ≡ call.linking (unitFiles b) (padded o) = is ∙ (order-read s out ok .0 ∙ ap (call.answering (unitFiles b) (length out)) (u .order)) in
-              due-by ok (linked o (assembled b o) (flat-of (w .tree))) (program-is ∙ rw (eq-eqb (w .number) 0 n)) rep image₂ x
-              (ap (λ (y : Linked). y .answer) q
-              ∙ (ap (imagedTo (a .units) (a .files) (a .ids)) e
-              ∙ ap (λ (y : Answer). imagedTo (y .units) (y .files) (y .ids) (imaging (assembled b o) (length img))) l))
-              (kept ∙ sym (nothing-lent out)) k
-              (subst (λ (i : Imaged). TreeWith i (flat-of (w .tree)) t (x .tree)) e (subst (λ (u' : Tree). TreeWith r (flat-of (w .tree)) t u') (sym (ap (λ (y : Linked). y .tree) q)) (by-image r)))
+              due-by ok (linked o (assembled b o) (flat-of (w .made))) (program-is ∙ rw (eq-eqb (w .stop .number) 0 n)) rep image₂ x
+              (ap (λ (y : Linked). y .answer) (q .0) ∙ ap (λ (y : Answer). imagedTo (y .units) (y .files) (y .ids) (imaging (assembled b o) (length img))) l)
+              (kept ∙ sym (nothing-lent out)) (q .1)
+              (subst (λ (u' : Tree). TreeWith (imaging (assembled b o) (length img)) (flat-of (w .made)) cleared u') (sym (ap (λ (y : Linked). y .tree) (q .0))) (by-image (imaging (assembled b o) (length img))))
             where
-              by-image : (i : Imaged) → TreeWith i (flat-of (w .tree)) t (treeBy i (w .tree) t)
-              by-image (imaged.Image m) = record { good = sc .good; is = refl }
+              by-image : (i : Imaged) → TreeWith i (flat-of (w .made)) cleared (treeBy i (w .made) cleared)
+              by-image (imaged.Image m) = record { good = w .scoped .good; is = refl }
               by-image (imaged.Refused m p) = refl
+
+          pub walked-due : Due s out img rep image₂ x
+          walked-due = go (eqb (w .stop .number) 0) refl
+            where
+              go : (c : Bool) → eqb (w .stop .number) 0 ≡ c → Due s out img rep image₂ x
+              go true e = image-due (eqb-true (w .stop .number) 0 e)
+              go false e = ended-due (eqb-false (w .stop .number) 0 e)
 
 -- FROM NO TREE GIVEN TO ANY
 module _ (t u : Tree) where

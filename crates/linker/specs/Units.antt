@@ -25,7 +25,13 @@ use Rattle.assembly.specs.Targets.{fileUses}
 use Rattle.linker.specs.Scopes.{Asked, asked, scopeCalls, walkFrom, scopeWalk}
 use Rattle.linker.specs.Steps.{Stop, Walks, reached, itemsCalls, Plain}
 use Rattle.linker.specs.Fit.{unit-plain}
-use Rattle.linker.specs.declared.Scoped.{Scoped}
+use Rattle.order.specs.Call.{refusing}
+use Rattle.order.specs.declared.Answer.{Answer}
+use Rattle.assembly.specs.Image.{imaging, lentImage}
+use Rattle.assembly.specs.Call.{imagedTo}
+use Rattle.assembly.specs.declared.Imaged.{Imaged}
+use Rattle.assembly.specs.declared.Imaged.the-variants as imaged
+use Rattle.linker.specs.declared.Linked.{Linked}
 
 -- the calls of a unit, and of units in an order
 unfoldable pub unitCalls : Bundle → ℕ → List Asked
@@ -67,16 +73,54 @@ order-step b ids units fit i h =
     ∙ program-one b (getD ids i 0) (drop (i + 1) (take units ids))
 
 -- FROM THE EMPTY TREE
--- step 6 of the program p came to r: 0 and the tree, or a number and a place
-pub record ScopedAs (p : Items) (r : Scoped) : Type 0 where
-  pub good : Good (r .tree)
-  pub walked : scopeWalk p ≡ reached (record { number = r .number; place = r .place }) (flat-of (r .tree))
+-- step 6 of the program p came to x: 0 and the tree u, or a number and a place
+pub record ScopedAs (p : Items) (x : Stop) (u : Tree) : Type 0 where
+  pub good : Good u
+  pub walked : scopeWalk p ≡ reached x (flat-of u)
 
-pub scoped-as : (b : Bundle) (o : List ℕ) (x : Stop) (u : Tree) (r : Scoped) → Walks cleared (programCalls b o) x u → r ≡ record { number = x .number; place = x .place; tree = u } → ScopedAs (assembled b o) r
+pub scoped-as : (b : Bundle) (o : List ℕ) (x : Stop) (u : Tree) → Walks cleared (programCalls b o) x u → ScopedAs (assembled b o) x u
 unfolding scopeWalk programCalls
-scoped-as b o x u r h e =
-    subst (ScopedAs (assembled b o)) (sym e)
-    (record {
+scoped-as b o x u h =
+    record {
       good = h .good first-good;
       walked = ap (λ y. walkFrom flat y (scopeCalls (assembled b o))) (sym first-is) ∙ h .walked first-good;
-    })
+    }
+
+-- which tree comes back with an image
+abbrev pub treeBy : Imaged → Tree → Tree → Tree
+treeBy (imaged.Image n) made given = made
+treeBy (imaged.Refused n p) made given = given
+
+-- the answer and the image buffer after step 6 of the program p, of whose units a tells: the number and the place that it came to; or
+-- the image and the tree
+pub record LinkedAs (p : Items) (a : Answer) (img img′ : List ℕ) (x : Linked) : Type 0 where
+  pub stop : Stop
+  pub made : Tree
+  pub scoped : ScopedAs p stop made
+  pub ended : (stop .number ≡ 0 → ⊥) → (x ≡ record { answer = refusing (stop .number) (stop .place); tree = cleared }) × (img′ ≡ img)
+  pub linked : stop .number ≡ 0
+      → (x ≡ record { answer = imagedTo (a .units) (a .files) (a .ids) (imaging p (length img)); tree = treeBy (imaging p (length img)) made cleared })
+      × (img′ ≡ lentImage p img)
+
+-- as the code has it
+module _ (p : Items) (a : Answer) (img img′ : List ℕ) (r : Linked) (x : Stop) (u : Tree) (h : ScopedAs p x u) where
+  pub linked-ended : (x .number ≡ 0 → ⊥) → (y : Answer) → y ≡ refusing (x .number) (x .place) → r ≡ record { answer = y; tree = cleared } → img′ ≡ img → LinkedAs p a img img′ r
+  linked-ended n y e q k =
+      record { stop = x; made = u; scoped = h; ended = λ z. (q ∙ ap (λ (w : Answer). record { answer = w; tree = cleared }) e, k); linked = λ z. absurd (n z) }
+
+  pub linked-imaged : x .number ≡ 0 → (i j : Imaged) → i ≡ imaging p (length img) → i ≡ j → (y : Answer) → y ≡ imagedTo (a .units) (a .files) (a .ids) i → r ≡ record { answer = y; tree = treeBy j u cleared }
+      → img′ ≡ lentImage p img → LinkedAs p a img img′ r
+  linked-imaged n i j e c y f q k =
+      record {
+        stop = x;
+        made = u;
+        scoped = h;
+        ended = λ z. absurd (z n);
+        linked = λ z. (
+          q
+              ∙ (ap (λ (w : Answer). record { answer = w; tree = treeBy j u cleared }) f
+              ∙ (ap (λ (w : Imaged). record { answer = imagedTo (a .units) (a .files) (a .ids) i; tree = treeBy w u cleared }) (sym c)
+              ∙ ap (λ (w : Imaged). record { answer = imagedTo (a .units) (a .files) (a .ids) w; tree = treeBy w u cleared }) e)),
+          k,
+        );
+      }

@@ -1,10 +1,8 @@
 // The answers of the operation: order's and assembly's, with a tree.
 ghost use mathlib.Core.Path.{_≡_};
 ghost use Rattle.scope_tree.specs.Trees.{cleared};
-ghost use Rattle.assembly.specs.Call.{imagedTo};
-ghost use Rattle.linker.specs.Join.{treeBy, treeGiven};
+ghost use Rattle.linker.specs.Join.{treeGiven};
 use crate::Linked;
-use assembly::Imaged;
 use order::Answer;
 use scopes::Tree;
 
@@ -15,20 +13,6 @@ pub fn told(answer: Answer) -> Linked
     Linked {
         answer: answer,
         tree: scopes::empty(),
-    }
-}
-
-// The image, with the units and the tree made; or 15, 14.
-pub fn imaged(linked: Answer, r: Imaged, made: Tree) -> Linked
-    ensures { λ x. ⌜ x ≡ record { answer = imagedTo (linked .units) (linked .files) (linked .ids) r; tree = treeBy r made cleared } ⌝ }
-{
-    let answer = assembly::with_image(linked, r);
-    match r {
-        Imaged::Refused(_, _) => told(answer),
-        Imaged::Image(_) => Linked {
-            answer: answer,
-            tree: made,
-        },
     }
 }
 

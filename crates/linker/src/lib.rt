@@ -11,13 +11,6 @@ use discovery::known::put_files;
 use order::Answer;
 use scopes::Tree;
 
-// What step 6 comes to: 0 and the tree, or a number from 40 to 51 and a place.
-pub struct Scoped {
-    pub number: u8,
-    pub place: usize,
-    pub tree: Tree,
-}
-
 // What is answered, and the tree: that of the program where it is linked, and otherwise the one that was given, or an empty one.
 pub struct Linked {
     pub answer: Answer,
@@ -53,13 +46,7 @@ pub fn link_new(s: &[u8], report: &mut [u8], image: &mut [u8]) -> Linked
             report,
         )));
     }
-    let w = walk::walk_program(s, &known, &ids, count);
-    if w.number != 0 {
-        return answers::told(order::refuse(w.number, w.place));
-    }
-    let made = w.tree;
-    let written = assembly::write_image(s, &known, &ids, count, image);
-    answers::imaged(a, written, made)
+    walk::link_units(s, &known, &ids, count, a, image)
 }
 
 // The same, with a tree given, which comes back where there is no image. Ruled out: an empty tree for the one that was given.

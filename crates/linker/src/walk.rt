@@ -1,4 +1,4 @@
-// Step 6, the scope walk: the tree calls of a linked program, up to the first that is refused.
+// Step 6, the scope walk: the tree calls of a linked program, up to the first that is refused; and the image.
 ghost use mathlib.Core.Path.{_≡_};
 ghost use Prim.Native.Nat.{_<_, _≤_};
 ghost use lib.ListN.{length, take};
@@ -9,15 +9,18 @@ ghost use Rattle.assembly.specs.Assemble.{fileOf, assembled};
 ghost use Rattle.assembly.specs.Given.{UnitsGiven, OrderGiven};
 ghost use Rattle.assembly.specs.Targets.{InFile};
 ghost use Rattle.linker.specs.Steps.{use-size};
-ghost use Rattle.linker.specs.Units.{ScopedAs};
+ghost use Rattle.linker.specs.Units.{LinkedAs};
 ghost use Rattle.linker.specs.Cursor.{callCode, callPublic, takenBytes, Fitting, Put};
-use crate::Scoped;
+use crate::Linked;
+use crate::answers::told;
 use crate::cursor::Step;
 use crate::cursor::UNIT;
 use crate::cursor::next;
 use crate::cursor::start;
+use assembly::Imaged;
 use bundle::limits::MODULE;
 use bundle::limits::USE;
+use order::Answer;
 use scopes::CELLS;
 use scopes::OPENED;
 use scopes::Tree;
@@ -113,11 +116,19 @@ fn call_bytes<'a>(s: &'a [u8], put: &'a [u8], n: usize, kind: usize, place: usiz
     bundle::string(s, place + 4)
 }
 
-// The tree of the units in their order, or the number and the place of the first call that is refused. Ruled out: the tree of the
-// entry's items alone; a unit's number told with the mark of its first item.
-pub fn walk_program<'a>(s: &[u8], files: &'a [usize], ids: &'a [u16], units: usize) -> Scoped
+// The units in their order, of which `a` tells: their tree and their image, the number and the place of the first call that is refused,
+// or 15, 14; without an image the tree is empty. Ruled out: the tree of the entry's items alone; a unit's number told with the mark of
+// its first item; an image where a call was refused.
+pub fn link_units<'a>(
+    s: &[u8],
+    files: &'a [usize],
+    ids: &'a [u16],
+    units: usize,
+    a: Answer,
+    image: &mut [u8],
+) -> Linked
     requires { ⌜ OrderGiven (now s) (now files) (now ids) units ⌝ }
-    ensures { λ r. ⌜ ScopedAs (assembled (decode (now (s .entry))) (take units (now (ids .entry)))) r ⌝ }
+    ensures { λ r. ⌜ LinkedAs (assembled (decode (now (s .entry))) (take units (now (ids .entry)))) a (now (image .entry)) (now (image .exit)) r ⌝ }
 {
     let mut opened = [0u16; OPENED];
     let mut cells = [0u16; CELLS];
@@ -172,19 +183,26 @@ pub fn walk_program<'a>(s: &[u8], files: &'a [usize], ids: &'a [u16], units: usi
             }
         }
     }
-    Scoped {
-        number: number,
-        place: place,
-        tree: Tree {
-            opened: opened,
-            cells: cells,
-            visible: visible,
-            scopes: scopes,
-            marks: marks,
-            n0: n0,
-            n1: n1,
-            n2: n2,
-            n3: n3,
+    if number != 0 {
+        return told(order::refuse(number, place));
+    }
+    let written = assembly::write_image(s, files, ids, units, image);
+    let answer = assembly::with_image(a, written);
+    match written {
+        Imaged::Refused(_, _) => told(answer),
+        Imaged::Image(_) => Linked {
+            answer: answer,
+            tree: Tree {
+                opened: opened,
+                cells: cells,
+                visible: visible,
+                scopes: scopes,
+                marks: marks,
+                n0: n0,
+                n1: n1,
+                n2: n2,
+                n3: n3,
+            },
         },
     }
 }
