@@ -7,6 +7,7 @@ use lib.ListN.{length}
 use denote.Ref.{now}
 use Rattle.order.specs.declared.Answer.{Answer}
 use Rattle.scope_tree.specs.Trees.{cleared}
+use Rattle.linker.specs.Call.{madeOf}
 use Rattle.discovery.specs.Places.{fresh}
 use Rattle.assembly.specs.GivenLaws.{known-linked}
 use Rattle.assembly.specs.Join.{units-linked}
@@ -53,7 +54,7 @@ returns-2 c = let l = units-linked (now ((c .before .before .before .before .bef
     let zn : length ((c .before .before .before .before .before .before .before .before .before .before .before .before .assembly-faults) .result .numbers) ≡ 1025 = search (needs, (c .before .before .before .before .before .before .before .before .before .before .before .before .assembly-faults)) in
     let zp : length ((c .before .before .before .before .before .before .before .before .before .before .before .before .assembly-faults) .result .places) ≡ 1025 = search (needs, (c .before .before .before .before .before .before .before .before .before .before .before .before .assembly-faults)) in
     let few = (c .before .before .before .before .before .before .before .before .before .before .before .before .assembly-faults) .ensures .1 in
-    faults-due (now ((c .before .before .before .before .before .before .before .before .before .before .before .before .before .before .before .before .before .before .before .before .before .before .before .before .before .before .before .before .args) .s)) (now ((c .before .before .before .before .before .before .before .before .before .before .before .before .before .before .before .before .before .before .before .before .before .before .before .before .before .before .before .before .args) .report)) (now ((c .before .before .before .before .before .before .before .before .before .before .before .before .before .before .before .before .before .before .before .before .before .before .before .before .before .before .before .before .args) .image)) ((c .before .before .before .before .before .before .before .before .before .before .before .before .before .before .before .before .before .before .before .before .before .before .order-known) .result) ((c .before .before .before .before .before .before .before .before .before .before .before .before .before .before .before .before .before .before .before .before .before .before .order-known) .last .1 .0) ((c .before .before .before .before .before .before .before .before .before .before .before .before .before .before .before .before .before .before .before .before .before .before .order-known) .ensures .0) ((c .before .before .before .before .before .before .before .before .before .before .before .before .before .before .before .before .before .before .before .before .before .before .order-known) .ensures .1 .0) (l .0) (l .1) ((c .before .before .before .before .before .before .before .before .before .before .before .before .assembly-faults) .result .numbers) ((c .before .before .before .before .before .before .before .before .before .before .before .before .assembly-faults) .result .places) ((c .before .before .before .before .before .before .before .before .before .before .before .before .assembly-faults) .result .count) ((c .before .before .before .before .before .before .before .before .before .before .before .before .assembly-faults) .ensures .0) ((c .before .before .before .before .write-faults) .last .1 .1 .1 .0) ((c .before .before .before .before .write-faults) .result) ((c .told2) .result) (omega arith) (omega arith) ((c .before .before .before .before .before .before .before .before .before .before .before .if2) .taken) ((c .before .before .before .before .write-faults) .ensures .0) ((c .told2) .ensures ∙ ap (λ (y : Answer). record { answer = y; tree = cleared }) ((c .before .report-told) .ensures)) ((c .before .before .before .before .write-faults) .ensures .1)
+    faults-due (now ((c .before .before .before .before .before .before .before .before .before .before .before .before .before .before .before .before .before .before .before .before .before .before .before .before .before .before .before .before .args) .s)) (now ((c .before .before .before .before .before .before .before .before .before .before .before .before .before .before .before .before .before .before .before .before .before .before .before .before .before .before .before .before .args) .report)) (now ((c .before .before .before .before .before .before .before .before .before .before .before .before .before .before .before .before .before .before .before .before .before .before .before .before .before .before .before .before .args) .image)) ((c .before .before .before .before .before .before .before .before .before .before .before .before .before .before .before .before .before .before .before .before .before .before .order-known) .result) ((c .before .before .before .before .before .before .before .before .before .before .before .before .before .before .before .before .before .before .before .before .before .before .order-known) .last .1 .0) ((c .before .before .before .before .before .before .before .before .before .before .before .before .before .before .before .before .before .before .before .before .before .before .order-known) .ensures .0) ((c .before .before .before .before .before .before .before .before .before .before .before .before .before .before .before .before .before .before .before .before .before .before .order-known) .ensures .1 .0) (l .0) (l .1) ((c .before .before .before .before .before .before .before .before .before .before .before .before .assembly-faults) .result .numbers) ((c .before .before .before .before .before .before .before .before .before .before .before .before .assembly-faults) .result .places) ((c .before .before .before .before .before .before .before .before .before .before .before .before .assembly-faults) .result .count) ((c .before .before .before .before .before .before .before .before .before .before .before .before .assembly-faults) .ensures .0) ((c .before .before .before .before .write-faults) .last .1 .1 .1 .0) ((c .before .before .before .before .write-faults) .result) ((c .told2) .result) (omega arith) (omega arith) ((c .before .before .before .before .before .before .before .before .before .before .before .if2) .taken) ((c .before .before .before .before .write-faults) .ensures .0) ((c .told2) .ensures ∙ ap (λ (y : Answer). madeOf y cleared) ((c .before .report-told) .ensures)) ((c .before .before .before .before .write-faults) .ensures .1)
 
 slice-aggregate-link-units : tie.Need-slice-aggregate-link-units
 slice-aggregate-link-units c = search needs
