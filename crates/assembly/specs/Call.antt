@@ -1,19 +1,24 @@
 -- The operation: bytes, a lent report buffer and a lent image buffer, and what is answered. Assumes nothing.
 use Prim.Native.Nat.{ℕ, _<_, _≤_}
 use mathlib.Core.Path.{_≡_}
-use mathlib.Core.List.{List}
+use mathlib.Core.List.{List, map}
 use lib.ListN.{length, take, drop}
-use Rattle.bundle.specs.Bundle.{Items}
+use Rattle.bundle.specs.Bundle.{Items, Bundle}
 use Rattle.bundle.specs.Read.{Reading, read}
 use Rattle.order.specs.Outcome.{resultOr}
 use Rattle.order.specs.Call.{padded, unitFiles, answerBy, answerFrom, reportFrom, heldFrom}
 use Rattle.order.specs.declared.Answer.{Answer}
+use Rattle.order.specs.Report.{Record, fault}
 pub use Rattle.order.specs.Report.{recordsOf}
 pub use Rattle.order.specs.Call.{telling, refusing, reportedTo}
-use Rattle.assembly.specs.Assemble.{Built, Outcome, linearizeAndAssemble}
+use Rattle.assembly.specs.Assemble.{Built, Outcome, assemblyFaults, linearizeAndAssemble}
 use Rattle.assembly.specs.Image.{small-buffer, long-image, image-limit, imageBytes, itemsLength, imageLength, imaging, lentImage}
 use Rattle.assembly.specs.declared.Imaged.{Imaged}
 use Rattle.assembly.specs.declared.Imaged.the-variants as imaged
+
+-- the records of step 5's faults
+abbrev pub faultsTold : Bundle → List ℕ → List Record
+faultsTold b o = map fault (assemblyFaults b o)
 
 -- an image: the units, their files and their order, in arrays, and its length; or 15, 14
 abbrev pub imagedTo : ℕ → List ℕ → List ℕ → Imaged → Answer

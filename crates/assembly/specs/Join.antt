@@ -2,6 +2,7 @@
 use Prim.Native.Nat.{ℕ, zero, suc, _≤_, _<_}
 use native.Mathlib.Omega.{arith}
 use mathlib.Core.Path.{_≡_, refl, sym, ap, subst, _∙_}
+use mathlib.Core.Bool.{true, false}
 use mathlib.Core.List.{List, [], _∷_, map}
 use lib.ListN.{length, take, drop, length-append, length-map, replicate}
 use lib.Seq.{take-at}
@@ -21,15 +22,14 @@ use Rattle.order.specs.Run.{linked, ordered, unitsOf}
 use Rattle.order.specs.Run as order
 use Rattle.order.specs.Call.{padded, unitFiles, orderAnswer, orderReport}
 use Rattle.order.specs.Call as call
-use Rattle.order.specs.Report.{lentReport, reporting, nothing-lent}
-use Rattle.order.specs.Writing.{faultRecords}
+use Rattle.order.specs.Report.{fault, lentReport, reporting, nothing-lent, tells, tells-some, tells-none}
 use Rattle.order.specs.Theorems.{first-half, order-count}
 use Rattle.order.specs.declared.Answer.{Answer}
 use Rattle.order.specs.declared.Reported.{Reported}
 use Rattle.order.specs.Carried.{order-read, not-refused, units-only, carried}
 use Rattle.assembly.specs.Assemble.{Outcome, faulty, closed, program, assembled, assemblyFaults, step5, assembleAfter, linearizeAndAssemble}
 use Rattle.assembly.specs.Image.{imaging, lentImage}
-use Rattle.assembly.specs.Call.{recordsOf, reportedTo, imagedTo, withImage, answering, imageAfter, assembleAnswer, assembleReport, assembleImage}
+use Rattle.assembly.specs.Call.{faultsTold, recordsOf, reportedTo, imagedTo, withImage, answering, imageAfter, assembleAnswer, assembleReport, assembleImage}
 use Rattle.assembly.specs.Given.{OrderedFilesGiven}
 use Rattle.assembly.specs.declared.Imaged.{Imaged}
 
@@ -107,33 +107,35 @@ module _ (s out img : List ℕ) where
       told-faults [] h e = absurd (omega arith)
       told-faults (f ∷ fs) h e = step5-is ∙ ap (λ (l : List Fault). step5 l o (assembled b o)) e
 
-      pub faults-told : (numbers places report₂ : List ℕ) (count : ℕ) (r : Reported) (d : Answer) → count ≤ length numbers → count ≤ length places → 0 < count
-          → faultsIn (take count numbers) (take count places) ≡ assemblyFaults b o
-          → r ≡ reporting (faultRecords numbers places count) (length out) → d ≡ reportedTo r → report₂ ≡ lentReport (faultRecords numbers places count) out
-          → Due s out img report₂ img d
-      faults-told numbers places report₂ count r d hn hp some f e g k =
-          let n = faults-counted count numbers places hn hp in
-          let q = told-faults (faultsIn (take count numbers) (take count places)) (omega arith) (sym f) in
-          let m = assemble-read ok in (
-            g ∙ (ap reportedTo e ∙ (ap (answering (unitFiles b) (length out) (length img)) (sym q) ∙ sym (m .0))),
-            (k ∙ (ap (λ (z : Outcome). lentReport (recordsOf z) out) (sym q) ∙ sym (m .1 .0)), ap (λ (z : Outcome). imageAfter z img) (sym q) ∙ sym (m .1 .1)),
-          )
+      -- faults of step 5
+      module _ (r : Reported) (report₂ : List ℕ) (told : r ≡ reporting (faultsTold b o) (length rep)) (kept : rep ≡ out) (is₂ : report₂ ≡ lentReport (faultsTold b o) rep) where
+        pub faults-told : (d : Answer) → tells r ≡ true → d ≡ reportedTo r → Due s out img report₂ img d
+        faults-told d some g =
+            let q = told-faults (assemblyFaults b o) (tells-some (assemblyFaults b o) (length rep) (ap tells (sym told) ∙ some)) refl in
+            let m = assemble-read ok in (
+              g ∙ (ap reportedTo (told ∙ ap (λ (z : List ℕ). reporting (faultsTold b o) (length z)) kept) ∙ (ap (answering (unitFiles b) (length out) (length img)) (sym q) ∙ sym (m .0))),
+              (is₂ ∙ (ap (lentReport (faultsTold b o)) kept ∙ (ap (λ (z : Outcome). lentReport (recordsOf z) out) (sym q) ∙ sym (m .1 .0))), ap (λ (z : Outcome). imageAfter z img) (sym q) ∙ sym (m .1 .1)),
+            )
 
-      pub image-told : (numbers places image₂ : List ℕ) (count : ℕ) (r : Imaged) (d : Answer) → count ≡ 0 → faultsIn (take count numbers) (take count places) ≡ assemblyFaults b o
-          → r ≡ imaging (assembled b o) (length img) → d ≡ imagedTo (a .units) (a .files) (a .ids) r → image₂ ≡ lentImage (assembled b o) img → rep ≡ out
-          → Due s out img rep image₂ d
-      unfolding faultsIn
-      image-told numbers places image₂ count r d z f e g k same =
-          let none : assemblyFaults b o ≡ [] = sym f ∙ ap (λ (n : ℕ). faultsIn (take n numbers) (take n places)) z in
-          let q : linearizeAndAssemble b ≡ program o (assembled b o) = step5-is ∙ ap (λ (l : List Fault). step5 l o (assembled b o)) none in
-          let m = assemble-read ok in
-          let t : a ≡ call.linking (unitFiles b) (padded o) = is ∙ (order-read s out ok .0 ∙ ap (call.answering (unitFiles b) (length out)) (x .order)) in (
-            g
-                ∙ (ap (imagedTo (a .units) (a .files) (a .ids)) e
-                ∙ (ap (λ (y : Answer). imagedTo (y .units) (y .files) (y .ids) (imaging (assembled b o) (length img))) t
-                ∙ (ap (answering (unitFiles b) (length out) (length img)) (sym q) ∙ sym (m .0)))),
-            (
-              same ∙ (sym (nothing-lent out) ∙ (ap (λ (y : Outcome). lentReport (recordsOf y) out) (sym q) ∙ sym (m .1 .0))),
-              k ∙ (ap (λ (y : Outcome). imageAfter y img) (sym q) ∙ sym (m .1 .1)),
-            ),
-          )
+        -- none
+        none-told : tells r ≡ false → assemblyFaults b o ≡ []
+        none-told e = tells-none (assemblyFaults b o) (length rep) (ap tells (sym told) ∙ e)
+
+        same-report : tells r ≡ false → report₂ ≡ out
+        same-report e = is₂ ∙ (ap (λ (l : List Fault). lentReport (map fault l) rep) (none-told e) ∙ (nothing-lent rep ∙ kept))
+
+        pub image-told : tells r ≡ false → (image₂ : List ℕ) (i : Imaged) (d : Answer) → i ≡ imaging (assembled b o) (length img) → d ≡ imagedTo (a .units) (a .files) (a .ids) i
+            → image₂ ≡ lentImage (assembled b o) img → Due s out img report₂ image₂ d
+        image-told z image₂ i d e g k =
+            let q : linearizeAndAssemble b ≡ program o (assembled b o) = step5-is ∙ ap (λ (l : List Fault). step5 l o (assembled b o)) (none-told z) in
+            let m = assemble-read ok in
+            let t : a ≡ call.linking (unitFiles b) (padded o) = is ∙ (order-read s out ok .0 ∙ ap (call.answering (unitFiles b) (length out)) (x .order)) in (
+              g
+                  ∙ (ap (imagedTo (a .units) (a .files) (a .ids)) e
+                  ∙ (ap (λ (y : Answer). imagedTo (y .units) (y .files) (y .ids) (imaging (assembled b o) (length img))) t
+                  ∙ (ap (answering (unitFiles b) (length out) (length img)) (sym q) ∙ sym (m .0)))),
+              (
+                same-report z ∙ (sym (nothing-lent out) ∙ (ap (λ (y : Outcome). lentReport (recordsOf y) out) (sym q) ∙ sym (m .1 .0))),
+                k ∙ (ap (λ (y : Outcome). imageAfter y img) (sym q) ∙ sym (m .1 .1)),
+              ),
+            )

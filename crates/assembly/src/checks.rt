@@ -1,25 +1,27 @@
 // The faults of step 5.
 ghost use mathlib.Core.Path.{_≡_};
-ghost use Prim.Native.Nat.{_+_, _-_, _≤_};
+ghost use Prim.Native.Nat.{_-_, _≤_};
 ghost use lib.ListN.{length, take};
-ghost use Rattle.bundle.specs.Limits.{item-limit};
 ghost use Rattle.bundle.specs.Decode.{decode};
-ghost use Rattle.discovery.specs.Meaning.{faultsIn};
+ghost use Rattle.order.specs.Report.{lentReport, reporting};
 ghost use Rattle.order.specs.Writing.{started};
-ghost use Rattle.assembly.specs.Assemble.{itemsOf, enumDeclarations, hasMain, assemblyFaults};
+ghost use Rattle.assembly.specs.Assemble.{itemsOf, enumDeclarations, hasMain};
+ghost use Rattle.assembly.specs.Call.{faultsTold};
 ghost use Rattle.assembly.specs.Faults.{enumsOf};
 ghost use Rattle.assembly.specs.Given.{PlacedUnit, OrderGiven};
-use crate::FAULTS;
-use crate::Faults;
 use crate::enums::enum_items;
 use crate::enums::has_main;
 use crate::units::unit_items;
 use bundle::limits::DEPTH;
+use order::Reported;
 
 // Document 01's numbers.
 const NO_MAIN: u8 = 27;
 
 const FOREIGN_ENUM: u8 = 28;
+
+// The most faults: every item an enum, and no main.
+const FAULTS: usize = bundle::limits::ITEMS + 1;
 
 fn wide(x: u16) -> usize
     ensures { λ r. ⌜ r ≡ x ⌝ }
@@ -67,27 +69,26 @@ fn main_there(s: &[u8], files: &[usize], u: usize) -> bool
     has_main(s, items.at, items.end)
 }
 
-// The faults of a linked order, in the order of the pushes: unit 0, which alone has a main, is linked last. Ruled out: 28 for an
-// enum of unit 0; 27 before a 28; a nested enum of another unit untold.
-pub fn assembly_faults<'a>(s: &[u8], files: &'a [usize], ids: &'a [u16], units: usize) -> Faults
+// The faults of a linked order, reported in the order of the pushes; no byte where there is none. Unit 0, which alone has a main, is
+// linked last. Ruled out: 28 for an enum of unit 0; 27 before a 28; a nested enum of another unit untold.
+pub fn report_faults<'a>(
+    s: &[u8],
+    files: &'a [usize],
+    ids: &'a [u16],
+    units: usize,
+    report: &mut [u8],
+) -> Reported
     requires { ⌜ OrderGiven (now s) (now files) (now ids) units ⌝ }
-    ensures { λ r. ⌜ (faultsIn (take (r .count) (r .numbers)) (take (r .count) (r .places)) ≡ assemblyFaults (decode (now (s .entry))) (take units (now (ids .entry)))) × (r .count ≤ item-limit + 1) ⌝ }
+    ensures { λ r. ⌜ r ≡ reporting (faultsTold (decode (now (s .entry))) (take units (now (ids .entry)))) (length (now (report .entry))) ⌝ }
+    ensures { λ r. ⌜ now (report .exit) ≡ lentReport (faultsTold (decode (now (s .entry))) (take units (now (ids .entry)))) (now (report .entry)) ⌝ }
 {
     let mut places = [0usize; FAULTS];
     let n = all_enums(s, files, ids, units, &mut places);
     let mut numbers = [FOREIGN_ENUM; FAULTS];
     if main_there(s, files, 0) {
-        return Faults {
-            numbers: numbers,
-            places: places,
-            count: n,
-        };
+        return order::write_faults(&numbers, &places, n, report);
     }
     numbers[n] = NO_MAIN;
     places[n] = 0;
-    Faults {
-        numbers: numbers,
-        places: places,
-        count: n + 1,
-    }
+    order::write_faults(&numbers, &places, n + 1, report)
 }

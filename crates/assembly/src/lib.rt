@@ -9,7 +9,7 @@ mod units;
 mod writing;
 
 pub use answers::with_image;
-pub use checks::assembly_faults;
+pub use checks::report_faults;
 pub use image::write_image;
 pub use units::unit_items;
 pub use writing::rewrite_use;
@@ -18,16 +18,6 @@ ghost use Rattle.assembly.specs.Call.{assembleAnswer, assembleReport, as
 use discovery::known::KNOWN;
 use discovery::known::put_files;
 use order::Answer;
-
-// The most faults of step 5: every item an enum, and no main.
-pub const FAULTS: usize = bundle::limits::ITEMS + 1;
-
-// The faults of step 5: the first `count` numbers and places, in the order of the pushes.
-pub struct Faults {
-    pub numbers: [u8; FAULTS],
-    pub places: [usize; FAULTS],
-    pub count: usize,
-}
 
 // What a use's path becomes: `crate`, the name of a unit, and the last so many segments; or no segment, where it fails.
 pub enum Target {
@@ -60,10 +50,9 @@ pub fn assemble(s: &[u8], report: &mut [u8], image: &mut [u8]) -> Answer
     let files = a.files;
     let ids = a.ids;
     put_files(&mut known, files);
-    let f = checks::assembly_faults(s, &known, &ids, units);
-    let count = f.count;
-    if count > 0 {
-        return order::report_told(order::write_faults(&f.numbers, &f.places, count, report));
+    let told = checks::report_faults(s, &known, &ids, units, report);
+    if order::tells(told) {
+        return order::report_told(told);
     }
     let written = image::write_image(s, &known, &ids, units, image);
     answers::with_image(a, written)

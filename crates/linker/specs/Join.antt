@@ -13,13 +13,11 @@ use Rattle.bundle.specs.Read.{Reading, value, refused, read, verdict}
 use Rattle.bundle.specs.Theorems.{accepted}
 use Rattle.bundle.specs.declared.Checked.the-variants.{Ok}
 use Rattle.discovery.specs.Discovery.{Fault}
-use Rattle.discovery.specs.Meaning.{faultsIn}
 use Rattle.order.specs.Run.{ordered}
 use Rattle.order.specs.Run as order
 use Rattle.order.specs.Call.{padded, unitFiles, orderAnswer, orderReport}
 use Rattle.order.specs.Call as call
-use Rattle.order.specs.Report.{fault, ring, lentReport, reporting, nothing-lent}
-use Rattle.order.specs.Writing.{faultRecords}
+use Rattle.order.specs.Report.{fault, ring, lentReport, reporting, nothing-lent, tells, tells-some, tells-none}
 use Rattle.order.specs.declared.Answer.{Answer}
 use Rattle.order.specs.declared.Reported.{Reported}
 use Rattle.order.specs.declared.Reported.the-variants as reported
@@ -29,8 +27,7 @@ use Rattle.scope_tree.specs.Trees.{flat-of, cleared}
 use Rattle.scope_tree.specs.declared.Tree.{Tree}
 use Rattle.assembly.specs.Assemble.{assembled, assemblyFaults, step5, assembleAfter, linearizeAndAssemble}
 use Rattle.assembly.specs.Image.{small-buffer, long-image, image-limit, itemsLength, imageLength, imaging, lentImage}
-use Rattle.assembly.specs.Call.{telling, reportedTo, imagedTo, withImage}
-use Rattle.assembly.specs.Join.{faults-counted}
+use Rattle.assembly.specs.Call.{faultsTold, telling, reportedTo, imagedTo, withImage}
 use Rattle.assembly.specs.Given as units
 use Rattle.assembly.specs.declared.Imaged.{Imaged}
 use Rattle.assembly.specs.declared.Imaged.the-variants as imaged
@@ -97,51 +94,51 @@ module _ (s out img : List ℕ) where
       told-faults [] h e = absurd (omega arith)
       told-faults (f ∷ fs) h e = step5-is ∙ ap (λ (l : List Fault). linkAfter (step5 l o (assembled b o))) e
 
-      module _ (numbers places : List ℕ) (count : ℕ) (faults : faultsIn (take count numbers) (take count places) ≡ assemblyFaults b o) where
+      module _ (r : Reported) (report₂ : List ℕ) (told : r ≡ reporting (faultsTold b o) (length rep)) (is₂ : report₂ ≡ lentReport (faultsTold b o) rep) where
         -- faults of step 5
-        pub faults-due : (report₂ : List ℕ) (r : Reported) (x : Record) → count ≤ length numbers → count ≤ length places → 0 < count
-            → r ≡ reporting (faultRecords numbers places count) (length rep) → x ≡ madeOf (reportedTo r) cleared → report₂ ≡ lentReport (faultRecords numbers places count) rep
-            → Due s out img report₂ img x
-        faults-due report₂ r x hn hp some e g k =
-            let n = faults-counted count numbers places hn hp in
-            let q = told-faults (faultsIn (take count numbers) (take count places)) (omega arith) (sym faults) in
-            due-by ok (faulty (faultsIn (take count numbers) (take count places))) q report₂ img x
-            (ap (λ (z : Record). z .answer) g ∙ ap reportedTo (e ∙ ap (λ (z : List ℕ). reporting (faultRecords numbers places count) (length z)) kept))
-            (k ∙ ap (lentReport (faultRecords numbers places count)) kept) refl (ap (λ (z : Record). treeOf z) g)
+        pub faults-due : tells r ≡ true → (x : Record) → x ≡ madeOf (reportedTo r) cleared → Due s out img report₂ img x
+        faults-due some x g =
+            let q = told-faults (assemblyFaults b o) (tells-some (assemblyFaults b o) (length rep) (ap tells (sym told) ∙ some)) refl in
+            due-by ok (faulty (assemblyFaults b o)) q report₂ img x
+            (ap (λ (z : Record). z .answer) g ∙ ap reportedTo (told ∙ ap (λ (z : List ℕ). reporting (faultsTold b o) (length z)) kept))
+            (is₂ ∙ ap (lentReport (faultsTold b o)) kept) refl (ap (λ (z : Record). treeOf z) g)
 
         -- none: STEP 6
-        module _ (z : count ≡ 0) (image₂ : List ℕ) (x : Record) (w : LinkedAs (assembled b o) a img image₂ x) where
+        module _ (none : tells r ≡ false) (image₂ : List ℕ) (x : Record) (w : LinkedAs (assembled b o) a img image₂ x) where
+          no-faults : assemblyFaults b o ≡ []
+          no-faults = tells-none (assemblyFaults b o) (length rep) (ap tells (sym told) ∙ none)
+
+          report-kept : report₂ ≡ out
+          report-kept = is₂ ∙ (ap (λ (l : List Fault). lentReport (map fault l) rep) no-faults ∙ (nothing-lent rep ∙ kept))
+
           program-is : linkBundle b ≡ step6 o (assembled b o) (reached (w .stop) (flat-of (w .made)))
-          unfolding faultsIn
-          program-is =
-              let none : assemblyFaults b o ≡ [] = sym faults ∙ ap (λ (n : ℕ). faultsIn (take n numbers) (take n places)) z in
-              step5-is ∙ (ap (λ (l : List Fault). linkAfter (step5 l o (assembled b o))) none ∙ ap (step6 o (assembled b o)) (w .scoped .walked))
+          program-is = step5-is ∙ (ap (λ (l : List Fault). linkAfter (step5 l o (assembled b o))) no-faults ∙ ap (step6 o (assembled b o)) (w .scoped .walked))
 
           -- a call is refused
-          ended-due : (w .stop .number ≡ 0 → ⊥) → Due s out img rep image₂ x
+          ended-due : (w .stop .number ≡ 0 → ⊥) → Due s out img report₂ image₂ x
           ended-due n =
               let q = w .ended n in
-              due-by ok (ended (w .stop .number) (w .stop .place)) (program-is ∙ rw (ne-eqb (w .stop .number) 0 n)) rep image₂ x
-              (ap (λ (y : Record). y .answer) (q .0)) (kept ∙ sym (nothing-lent out)) (q .1) (ap (λ (y : Record). treeOf y) (q .0))
+              due-by ok (ended (w .stop .number) (w .stop .place)) (program-is ∙ rw (ne-eqb (w .stop .number) 0 n)) report₂ image₂ x
+              (ap (λ (y : Record). y .answer) (q .0)) (report-kept ∙ sym (nothing-lent out)) (q .1) (ap (λ (y : Record). treeOf y) (q .0))
 
           -- the image
-          image-due : w .stop .number ≡ 0 → Due s out img rep image₂ x
+          image-due : w .stop .number ≡ 0 → Due s out img report₂ image₂ x
           image-due n =
               let q = w .linked n in
               let l : a ≡ call.linking (unitFiles b) (padded o) = is ∙ (order-read s out ok .0 ∙ ap (call.answering (unitFiles b) (length out)) (u .order)) in
-              due-by ok (linked o (assembled b o) (flat-of (w .made))) (program-is ∙ rw (eq-eqb (w .stop .number) 0 n)) rep image₂ x
+              due-by ok (linked o (assembled b o) (flat-of (w .made))) (program-is ∙ rw (eq-eqb (w .stop .number) 0 n)) report₂ image₂ x
               (ap (λ (y : Record). y .answer) (q .0) ∙ ap (λ (y : Answer). imagedTo (y .units) (y .files) (y .ids) (imaging (assembled b o) (length img))) l)
-              (kept ∙ sym (nothing-lent out)) (q .1)
+              (report-kept ∙ sym (nothing-lent out)) (q .1)
               (subst (λ (u' : Tree). TreeWith (imaging (assembled b o) (length img)) (flat-of (w .made)) cleared u') (sym (ap (λ (y : Record). treeOf y) (q .0))) (by-image (imaging (assembled b o) (length img))))
             where
               by-image : (i : Imaged) → TreeWith i (flat-of (w .made)) cleared (treeBy i (w .made) cleared)
               by-image (imaged.Image m) = record { good = w .scoped .good; is = refl }
               by-image (imaged.Refused m p) = refl
 
-          pub walked-due : Due s out img rep image₂ x
+          pub walked-due : Due s out img report₂ image₂ x
           walked-due = go (eqb (w .stop .number) 0) refl
             where
-              go : (c : Bool) → eqb (w .stop .number) 0 ≡ c → Due s out img rep image₂ x
+              go : (c : Bool) → eqb (w .stop .number) 0 ≡ c → Due s out img report₂ image₂ x
               go true e = image-due (eqb-true (w .stop .number) 0 e)
               go false e = ended-due (eqb-false (w .stop .number) 0 e)
 

@@ -52,15 +52,9 @@ pub fn link_new(s: &[u8], report: &mut [u8], image: &mut [u8]) -> Made
     let files = a.files;
     let ids = a.ids;
     put_files(&mut known, files);
-    let f = assembly::assembly_faults(s, &known, &ids, count);
-    let faults = f.count;
-    if faults > 0 {
-        return answers::told(order::report_told(order::write_faults(
-            &f.numbers,
-            &f.places,
-            faults,
-            report,
-        )));
+    let told = assembly::report_faults(s, &known, &ids, count, report);
+    if order::tells(told) {
+        return answers::told(order::report_told(told));
     }
     walk::link_units(s, &known, &ids, count, a, image)
 }

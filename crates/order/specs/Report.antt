@@ -2,13 +2,13 @@
 use Prim.Native.Nat.{ℕ, _+_, _/_, _%_, _<_, _≤_}
 use native.Mathlib.Nat.{mod-eq-of-lt, div-lt-iff-lt-mul}
 use native.Mathlib.Omega.{arith}
-use mathlib.Core.Bool.{Bool, true, false, cond}
-use mathlib.Core.Path.{_≡_, refl}
+use mathlib.Core.Bool.{Bool, true, false, cond, not, true≢false}
+use mathlib.Core.Path.{_≡_, refl, sym}
 use mathlib.Core.List.{List, [], _∷_, _++_, map}
-use lib.Dec.{leb}
+use lib.Dec.{leb, eqb}
 use lib.ListN.{length, take, drop, length-append, length-map, length-drop}
 use lib.Seq.{take-at, drop-at}
-use borrow.Author.Tests.{leb-true, leb-false, le-leb, lt-leb}
+use borrow.Author.Tests.{leb-true, leb-false, le-leb, lt-leb, ne-eqb}
 use Rattle.bundle.specs.Encode.{two, joined}
 use Rattle.discovery.specs.Discovery.{Fault}
 use Rattle.order.specs.Outcome.{Outcome, faulty, closed, ended, result}
@@ -70,6 +70,11 @@ lentReport rs out = cond (leb (reportLength rs) (length out)) (reportBytes rs ++
 -- the answer for a buffer of n bytes
 unfoldable pub reporting : List Record → ℕ → Reported
 reporting rs n = cond (leb (reportLength rs) n) (reported.Report (reportLength rs)) (reported.Refused small-buffer 0)
+
+-- whether something is told: a report of some bytes, or 14
+abbrev pub tells : Reported → Bool
+tells (reported.Report n) = not (eqb n 0)
+tells (reported.Refused n p) = true
 
 -- LAWS
 record-length : (r : Record) → length (recordBytes r) ≡ recordLength r
@@ -144,3 +149,18 @@ place-bytes p h = let q : p / 256 < 256 = div-lt-iff-lt-mul {k = 256} {x = p} {y
 
 pub id-byte : (u : ℕ) → u < 256 → low u ≡ u
 id-byte u h = mod-eq-of-lt h
+
+-- faults are told where there are some
+pub tells-some : (fs : List Fault) (n : ℕ) → tells (reporting (map fault fs) n) ≡ true → 0 < length fs
+unfolding reporting reportLength
+tells-some [] n e = absurd (true≢false (sym (rw (le-leb 0 n (omega arith)) at e)))
+tells-some (f ∷ fs) n e = omega arith
+
+pub tells-none : (fs : List Fault) (n : ℕ) → tells (reporting (map fault fs) n) ≡ false → fs ≡ []
+unfolding reporting reportLength recordLength
+tells-none [] n e = refl
+tells-none (f ∷ fs) n e = go (leb (3 + reportLength (map fault fs)) n) e
+  where
+    go : (t : Bool) → tells (cond t (reported.Report (3 + reportLength (map fault fs))) (reported.Refused small-buffer 0)) ≡ false → (f ∷ fs) ≡ []
+    go true k = absurd (true≢false (rw (ne-eqb (3 + reportLength (map fault fs)) 0 (λ z. omega arith)) at k))
+    go false k = absurd (true≢false k)

@@ -5,6 +5,7 @@ mod steps;
 pub use report::write_faults;
 pub use steps::refuse;
 pub use steps::report_told;
+pub use steps::tells;
 ghost use mathlib.Core.Path.{_≡_};
 ghost use Rattle.discovery.specs.Complete.{Carries};
 ghost use Rattle.discovery.specs.Places.{Fresh};

@@ -3,7 +3,7 @@ ghost use mathlib.Core.Path.{_≡_};
 ghost use Prim.Native.Nat.{_≤_};
 ghost use lib.ListN.{length, take};
 ghost use Rattle.bundle.specs.Limits.{file-limit};
-ghost use Rattle.order.specs.Report.{lentReport, recordsOf};
+ghost use Rattle.order.specs.Report.{lentReport, recordsOf, tells as Report·tells};
 ghost use Rattle.order.specs.Call.{refusing, reportedTo, linking};
 ghost use Rattle.order.specs.Steps.{Found, outcomeOf, answerOf};
 use crate::Answer;
@@ -42,6 +42,16 @@ pub fn report_told(r: Reported) -> Answer
             ids: [0; UNITS],
             image: 0,
         },
+    }
+}
+
+// Whether something is told: a report of some bytes, or 14.
+pub fn tells(r: Reported) -> bool
+    ensures { λ b. ⌜ b ≡ Report·tells r ⌝ }
+{
+    match r {
+        Reported::Refused(_, _) => true,
+        Reported::Report(length) => length != 0,
     }
 }
 
