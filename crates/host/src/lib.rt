@@ -189,15 +189,15 @@ pub extern "C" fn gontsamy_link(
     let a = l.answer;
     let number = a.number;
     let entries = scopes_c::put_rows(
-        &l.opened,
-        &l.cells,
-        &l.visible,
-        &l.scopes,
-        &l.marks,
-        &l.n0,
-        &l.n1,
-        &l.n2,
-        &l.n3,
+        &l.tree.opened,
+        &l.tree.cells,
+        &l.tree.visible,
+        &l.tree.scopes,
+        &l.tree.marks,
+        &l.tree.n0,
+        &l.tree.n1,
+        &l.tree.n2,
+        &l.tree.n3,
         rows,
     );
     tell_link(answer, a, entries);

@@ -14,10 +14,9 @@ use Rattle.assembly.specs.Call.{withImage}
 use Rattle.assembly.specs.declared.Imaged.{Imaged}
 use Rattle.assembly.specs.declared.Imaged.the-variants as imaged
 use Rattle.scope_tree.specs.Flat.{Flat}
-use Rattle.scope_tree.specs.Trees.{Good, flat-of, packed-in}
+use Rattle.scope_tree.specs.Trees.{Good, flat-of}
 use Rattle.scope_tree.specs.declared.Tree.{Tree}
 use Rattle.linker.specs.Link.{Made, Outcome, linkBundle}
-use Rattle.linker.specs.declared.Made as declared
 
 -- THE ANSWER for a report buffer of n bytes and an image buffer of m. 14 and 15 of the image come after 40 to 51
 abbrev pub builtOf : Made → Built
@@ -48,14 +47,6 @@ imageTo x out = heldFrom linkBundle (λ q out. lentImage (q .items) out) x out
 
 unfoldable pub linkImage : List ℕ → List ℕ → List ℕ
 linkImage s image = imageTo (read s) image
-
--- an answer and a tree as the record that comes back where none was given, and its tree
-abbrev pub madeOf : Answer → Tree → declared.Made
-madeOf a t =
-    record { answer = a; opened = t .opened; cells = t .cells; visible = t .visible; scopes = t .scopes; marks = t .marks; n0 = t .n0; n1 = t .n1; n2 = t .n2; n3 = t .n3 }
-
-abbrev pub treeOf : declared.Made → Tree
-treeOf x = packed-in (x .opened) (x .cells) (x .visible) (x .scopes) (x .marks) (x .n0) (x .n1) (x .n2) (x .n3)
 
 -- THE TREE: t was given, u comes back. Its entries and open modules are those of step 6's tree; array places past the count are free
 pub record TreeOf (x : Flat) (u : Tree) : Type 0 where

@@ -32,20 +32,19 @@ use Rattle.assembly.specs.Given as units
 use Rattle.assembly.specs.declared.Imaged.{Imaged}
 use Rattle.assembly.specs.declared.Imaged.the-variants as imaged
 use Rattle.linker.specs.Link.{Made, Outcome, faulty, closed, ended, result, linked, step6, linkAfter, linkBundle}
-use Rattle.linker.specs.Call.{recordsOf, builtOf, answering, imageAfter, TreeWith, TreeOfMade, TreeAfter, TreeTo, madeOf, treeOf, answerTo, linkAnswer, linkReport, linkImage, LinkTree}
+use Rattle.linker.specs.Call.{recordsOf, builtOf, answering, imageAfter, TreeWith, TreeOfMade, TreeAfter, TreeTo, answerTo, linkAnswer, linkReport, linkImage, LinkTree}
 use Rattle.linker.specs.Steps.{reached}
 use Rattle.linker.specs.Units.{treeBy, LinkedAs}
 use Rattle.linker.specs.declared.Linked.{Linked}
-use Rattle.linker.specs.declared.Made.{Made as Record}
 
 -- which tree comes back where one was given: the one made, if the image has a length
 abbrev pub treeGiven : ℕ → Tree → Tree → Tree
 treeGiven n made given = cond (eqb n 0) given made
 
 -- what is due of an answer, of both buffers and of the tree
-abbrev pub Due : (s report₀ image₀ report₁ image₁ : List ℕ) → Record → Type 0
+abbrev pub Due : (s report₀ image₀ report₁ image₁ : List ℕ) → Linked → Type 0
 Due s report₀ image₀ report₁ image₁ x =
-    (x .answer ≡ linkAnswer s report₀ image₀) × ((report₁ ≡ linkReport s report₀) × ((image₁ ≡ linkImage s image₀) × LinkTree s image₀ cleared (treeOf x)))
+    (x .answer ≡ linkAnswer s report₀ image₀) × ((report₁ ≡ linkReport s report₀) × ((image₁ ≡ linkImage s image₀) × LinkTree s image₀ cleared (x .tree)))
 
 module _ (s out img : List ℕ) where
   abbrev b : Bundle
@@ -53,8 +52,8 @@ module _ (s out img : List ℕ) where
 
   -- BY THE OUTCOME of a bundle that is read
   module _ (v : verdict s ≡ Ok) (y : Outcome) (e : linkBundle b ≡ y) where
-    pub due-by : (rep im : List ℕ) (x : Record) → x .answer ≡ answering (unitFiles b) (length out) (length img) y → rep ≡ lentReport (recordsOf y) out → im ≡ imageAfter y img
-        → TreeAfter (length img) y cleared (treeOf x) → Due s out img rep im x
+    pub due-by : (rep im : List ℕ) (x : Linked) → x .answer ≡ answering (unitFiles b) (length out) (length img) y → rep ≡ lentReport (recordsOf y) out → im ≡ imageAfter y img
+        → TreeAfter (length img) y cleared (x .tree) → Due s out img rep im x
     unfolding linkAnswer linkReport linkImage LinkTree
     due-by rep im x f g h k =
         let r = accepted s v in
@@ -72,7 +71,7 @@ module _ (s out img : List ℕ) where
 
   module _ (a : Answer) (rep : List ℕ) (is : a ≡ orderAnswer s out) (lent : rep ≡ orderReport s out) where
     -- WHERE THERE ARE NO UNITS the answer of steps 3 and 4 is the answer
-    pub no-units : a .units ≡ 0 → (x : Record) → x ≡ madeOf (a) cleared → Due s out img rep img x
+    pub no-units : a .units ≡ 0 → (x : Linked) → x ≡ record { answer = a; tree = cleared } → Due s out img rep img x
     unfolding linkAnswer linkReport linkImage LinkTree linkBundle linearizeAndAssemble
     no-units h x q =
         let y = carried s out a rep is lent linkBundle (λ c o. linkAfter (step5 (assemblyFaults c o) o (assembled c o))) (λ c. in-turn c (ordered c))
@@ -96,15 +95,15 @@ module _ (s out img : List ℕ) where
 
       module _ (r : Reported) (report₂ : List ℕ) (told : r ≡ reporting (faultsTold b o) (length rep)) (is₂ : report₂ ≡ lentReport (faultsTold b o) rep) where
         -- faults of step 5
-        pub faults-due : tells r ≡ true → (x : Record) → x ≡ madeOf (reportedTo r) cleared → Due s out img report₂ img x
+        pub faults-due : tells r ≡ true → (x : Linked) → x ≡ record { answer = reportedTo r; tree = cleared } → Due s out img report₂ img x
         faults-due some x g =
             let q = told-faults (assemblyFaults b o) (tells-some (assemblyFaults b o) (length rep) (ap tells (sym told) ∙ some)) refl in
             due-by ok (faulty (assemblyFaults b o)) q report₂ img x
-            (ap (λ (z : Record). z .answer) g ∙ ap reportedTo (told ∙ ap (λ (z : List ℕ). reporting (faultsTold b o) (length z)) kept))
-            (is₂ ∙ ap (lentReport (faultsTold b o)) kept) refl (ap (λ (z : Record). treeOf z) g)
+            (ap (λ (z : Linked). z .answer) g ∙ ap reportedTo (told ∙ ap (λ (z : List ℕ). reporting (faultsTold b o) (length z)) kept))
+            (is₂ ∙ ap (lentReport (faultsTold b o)) kept) refl (ap (λ (z : Linked). z .tree) g)
 
         -- none: STEP 6
-        module _ (none : tells r ≡ false) (image₂ : List ℕ) (x : Record) (w : LinkedAs (assembled b o) a img image₂ x) where
+        module _ (none : tells r ≡ false) (image₂ : List ℕ) (x : Linked) (w : LinkedAs (assembled b o) a img image₂ x) where
           no-faults : assemblyFaults b o ≡ []
           no-faults = tells-none (assemblyFaults b o) (length rep) (ap tells (sym told) ∙ none)
 
@@ -119,7 +118,7 @@ module _ (s out img : List ℕ) where
           ended-due n =
               let q = w .ended n in
               due-by ok (ended (w .stop .number) (w .stop .place)) (program-is ∙ rw (ne-eqb (w .stop .number) 0 n)) report₂ image₂ x
-              (ap (λ (y : Record). y .answer) (q .0)) (report-kept ∙ sym (nothing-lent out)) (q .1) (ap (λ (y : Record). treeOf y) (q .0))
+              (ap (λ (y : Linked). y .answer) (q .0)) (report-kept ∙ sym (nothing-lent out)) (q .1) (ap (λ (y : Linked). y .tree) (q .0))
 
           -- the image
           image-due : w .stop .number ≡ 0 → Due s out img report₂ image₂ x
@@ -127,9 +126,9 @@ module _ (s out img : List ℕ) where
               let q = w .linked n in
               let l : a ≡ call.linking (unitFiles b) (padded o) = is ∙ (order-read s out ok .0 ∙ ap (call.answering (unitFiles b) (length out)) (u .order)) in
               due-by ok (linked o (assembled b o) (flat-of (w .made))) (program-is ∙ rw (eq-eqb (w .stop .number) 0 n)) report₂ image₂ x
-              (ap (λ (y : Record). y .answer) (q .0) ∙ ap (λ (y : Answer). imagedTo (y .units) (y .files) (y .ids) (imaging (assembled b o) (length img))) l)
+              (ap (λ (y : Linked). y .answer) (q .0) ∙ ap (λ (y : Answer). imagedTo (y .units) (y .files) (y .ids) (imaging (assembled b o) (length img))) l)
               (report-kept ∙ sym (nothing-lent out)) (q .1)
-              (subst (λ (u' : Tree). TreeWith (imaging (assembled b o) (length img)) (flat-of (w .made)) cleared u') (sym (ap (λ (y : Record). treeOf y) (q .0))) (by-image (imaging (assembled b o) (length img))))
+              (subst (λ (u' : Tree). TreeWith (imaging (assembled b o) (length img)) (flat-of (w .made)) cleared u') (sym (ap (λ (y : Linked). y .tree) (q .0))) (by-image (imaging (assembled b o) (length img))))
             where
               by-image : (i : Imaged) → TreeWith i (flat-of (w .made)) cleared (treeBy i (w .made) cleared)
               by-image (imaged.Image m) = record { good = w .scoped .good; is = refl }
@@ -176,8 +175,8 @@ module _ (t u : Tree) where
   tree-given s out img a e h = rw e (to-given (read s) (length out) (length img) h)
 
   -- as the code has it
-  pub record-given : (x : Record) → x .answer .image ≡ 0 → _≡_ {A = Linked} (record { answer = x .answer; tree = t }) (record { answer = x .answer; tree = treeGiven (x .answer .image) (treeOf x) t })
+  pub record-given : (x : Linked) → x .answer .image ≡ 0 → _≡_ {A = Linked} (record { answer = x .answer; tree = t }) (record { answer = x .answer; tree = treeGiven (x .answer .image) (x .tree) t })
   record-given x e = rw (eq-eqb (x .answer .image) 0 e)
 
-  pub record-made : (x : Record) → (x .answer .image ≡ 0 → ⊥) → _≡_ {A = Linked} (record { answer = x .answer; tree = treeOf x }) (record { answer = x .answer; tree = treeGiven (x .answer .image) (treeOf x) t })
+  pub record-made : (x : Linked) → (x .answer .image ≡ 0 → ⊥) → x ≡ record { answer = x .answer; tree = treeGiven (x .answer .image) (x .tree) t }
   record-made x n = rw (ne-eqb (x .answer .image) 0 n)

@@ -31,8 +31,7 @@ use Rattle.assembly.specs.Image.{imaging, lentImage}
 use Rattle.assembly.specs.Call.{imagedTo}
 use Rattle.assembly.specs.declared.Imaged.{Imaged}
 use Rattle.assembly.specs.declared.Imaged.the-variants as imaged
-use Rattle.linker.specs.Call.{madeOf}
-use Rattle.linker.specs.declared.Made.{Made}
+use Rattle.linker.specs.declared.Linked.{Linked}
 
 -- the calls of a unit, and of units in an order
 unfoldable pub unitCalls : Bundle → ℕ → List Asked
@@ -94,22 +93,22 @@ treeBy (imaged.Refused n p) made given = given
 
 -- the answer and the image buffer after step 6 of the program p, of whose units a tells: the number and the place that it came to; or
 -- the image and the tree
-pub record LinkedAs (p : Items) (a : Answer) (img img′ : List ℕ) (x : Made) : Type 0 where
+pub record LinkedAs (p : Items) (a : Answer) (img img′ : List ℕ) (x : Linked) : Type 0 where
   pub stop : Stop
   pub made : Tree
   pub scoped : ScopedAs p stop made
-  pub ended : (stop .number ≡ 0 → ⊥) → (x ≡ madeOf (refusing (stop .number) (stop .place)) cleared) × (img′ ≡ img)
+  pub ended : (stop .number ≡ 0 → ⊥) → (x ≡ record { answer = refusing (stop .number) (stop .place); tree = cleared }) × (img′ ≡ img)
   pub linked : stop .number ≡ 0
-      → (x ≡ madeOf (imagedTo (a .units) (a .files) (a .ids) (imaging p (length img))) (treeBy (imaging p (length img)) made cleared))
+      → (x ≡ record { answer = imagedTo (a .units) (a .files) (a .ids) (imaging p (length img)); tree = treeBy (imaging p (length img)) made cleared })
       × (img′ ≡ lentImage p img)
 
 -- as the code has it
-module _ (p : Items) (a : Answer) (img img′ : List ℕ) (r : Made) (x : Stop) (u : Tree) (h : ScopedAs p x u) where
-  pub linked-ended : (x .number ≡ 0 → ⊥) → (y : Answer) → y ≡ refusing (x .number) (x .place) → r ≡ madeOf y cleared → img′ ≡ img → LinkedAs p a img img′ r
+module _ (p : Items) (a : Answer) (img img′ : List ℕ) (r : Linked) (x : Stop) (u : Tree) (h : ScopedAs p x u) where
+  pub linked-ended : (x .number ≡ 0 → ⊥) → (y : Answer) → y ≡ refusing (x .number) (x .place) → r ≡ record { answer = y; tree = cleared } → img′ ≡ img → LinkedAs p a img img′ r
   linked-ended n y e q k =
-      record { stop = x; made = u; scoped = h; ended = λ z. (q ∙ ap (λ (w : Answer). madeOf w cleared) e, k); linked = λ z. absurd (n z) }
+      record { stop = x; made = u; scoped = h; ended = λ z. (q ∙ ap (λ (w : Answer). record { answer = w; tree = cleared }) e, k); linked = λ z. absurd (n z) }
 
-  pub linked-imaged : x .number ≡ 0 → (i j : Imaged) → i ≡ imaging p (length img) → i ≡ j → (y : Answer) → y ≡ imagedTo (a .units) (a .files) (a .ids) i → r ≡ madeOf y (treeBy j u cleared)
+  pub linked-imaged : x .number ≡ 0 → (i j : Imaged) → i ≡ imaging p (length img) → i ≡ j → (y : Answer) → y ≡ imagedTo (a .units) (a .files) (a .ids) i → r ≡ record { answer = y; tree = treeBy j u cleared }
       → img′ ≡ lentImage p img → LinkedAs p a img img′ r
   linked-imaged n i j e c y f q k =
       record {
@@ -119,9 +118,9 @@ module _ (p : Items) (a : Answer) (img img′ : List ℕ) (r : Made) (x : Stop) 
         ended = λ z. absurd (z n);
         linked = λ z. (
           q
-              ∙ (ap (λ (w : Answer). madeOf w (treeBy j u cleared)) f
-              ∙ (ap (λ (w : Imaged). madeOf (imagedTo (a .units) (a .files) (a .ids) i) (treeBy w u cleared)) (sym c)
-              ∙ ap (λ (w : Imaged). madeOf (imagedTo (a .units) (a .files) (a .ids) w) (treeBy w u cleared)) e)),
+              ∙ (ap (λ (w : Answer). record { answer = w; tree = treeBy j u cleared }) f
+              ∙ (ap (λ (w : Imaged). record { answer = imagedTo (a .units) (a .files) (a .ids) i; tree = treeBy w u cleared }) (sym c)
+              ∙ ap (λ (w : Imaged). record { answer = imagedTo (a .units) (a .files) (a .ids) w; tree = treeBy w u cleared }) e)),
           k,
         );
       }

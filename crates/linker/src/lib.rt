@@ -5,43 +5,27 @@ mod walk;
 
 ghost use mathlib.Core.Path.{_≡_};
 ghost use Rattle.scope_tree.specs.Trees.{cleared};
-ghost use Rattle.linker.specs.Call.{linkAnswer, linkReport, linkImage, treeOf, LinkTree};
+ghost use Rattle.linker.specs.Call.{linkAnswer, linkReport, linkImage, LinkTree};
 use discovery::known::KNOWN;
 use discovery::known::put_files;
 use order::Answer;
-use scopes::CELLS;
-use scopes::OPENED;
 use scopes::Tree;
 
-// What is answered, and the tree: that of the program where it is linked, and otherwise the one that was given.
+// What is answered, and the tree: that of the program where it is linked, and otherwise the one that was given, or an empty one.
 pub struct Linked {
     pub answer: Answer,
     pub tree: Tree,
-}
-
-// The same where no tree was given: the tree's arrays, cleared where there is no image.
-pub struct Made {
-    pub answer: Answer,
-    pub opened: [u16; OPENED],
-    pub cells: [u16; CELLS],
-    pub visible: [u8; 1024],
-    pub scopes: [u16; 1024],
-    pub marks: [u16; 1024],
-    pub n0: [u64; 1024],
-    pub n1: [u64; 1024],
-    pub n2: [u64; 1024],
-    pub n3: [u64; 1024],
 }
 
 // A bundle linked, with no tree given: 1 to 13 of the bundle; the report of discovery's faults, of a ring or of step 5's faults, or 14
 // where it exceeds the lent buffer; 40 to 51 with the mark of the item that step 6 ends at; 15, then 14 of the image; or the units, their
 // order, the image and the tree. Where there is no image the tree is empty. Ruled out: an image written where step 6 refuses a use; a
 // tree without what an imported file declares.
-pub fn link_new(s: &[u8], report: &mut [u8], image: &mut [u8]) -> Made
+pub fn link_new(s: &[u8], report: &mut [u8], image: &mut [u8]) -> Linked
     ensures { λ r. ⌜ r .answer ≡ linkAnswer (now (s .entry)) (now (report .entry)) (now (image .entry)) ⌝ }
     ensures { λ r. ⌜ now (report .exit) ≡ linkReport (now (s .entry)) (now (report .entry)) ⌝ }
     ensures { λ r. ⌜ now (image .exit) ≡ linkImage (now (s .entry)) (now (image .entry)) ⌝ }
-    ensures { λ r. ⌜ LinkTree (now (s .entry)) (now (image .entry)) cleared (treeOf r) ⌝ }
+    ensures { λ r. ⌜ LinkTree (now (s .entry)) (now (image .entry)) cleared (r .tree) ⌝ }
 {
     let mut known = [0usize; KNOWN];
     let a = order::order_known(s, report, &mut known);

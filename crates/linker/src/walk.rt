@@ -11,7 +11,7 @@ ghost use Rattle.assembly.specs.Targets.{InFile};
 ghost use Rattle.linker.specs.Steps.{use-size};
 ghost use Rattle.linker.specs.Units.{LinkedAs};
 ghost use Rattle.linker.specs.Cursor.{callCode, callPublic, takenBytes, Fitting, Put};
-use crate::Made;
+use crate::Linked;
 use crate::answers::told;
 use crate::cursor::Step;
 use crate::cursor::UNIT;
@@ -23,6 +23,7 @@ use bundle::limits::USE;
 use order::Answer;
 use scopes::CELLS;
 use scopes::OPENED;
+use scopes::Tree;
 
 // Tree calls by their codes.
 const ENTER: u8 = 1;
@@ -125,7 +126,7 @@ pub fn link_units<'a>(
     units: usize,
     a: Answer,
     image: &mut [u8],
-) -> Made
+) -> Linked
     requires { ⌜ OrderGiven (now s) (now files) (now ids) units ⌝ }
     ensures { λ r. ⌜ LinkedAs (assembled (decode (now (s .entry))) (take units (now (ids .entry)))) a (now (image .entry)) (now (image .exit)) r ⌝ }
 {
@@ -189,17 +190,19 @@ pub fn link_units<'a>(
     let answer = assembly::with_image(a, written);
     match written {
         Imaged::Refused(_, _) => told(answer),
-        Imaged::Image(_) => Made {
+        Imaged::Image(_) => Linked {
             answer: answer,
-            opened: opened,
-            cells: cells,
-            visible: visible,
-            scopes: scopes,
-            marks: marks,
-            n0: n0,
-            n1: n1,
-            n2: n2,
-            n3: n3,
+            tree: Tree {
+                opened: opened,
+                cells: cells,
+                visible: visible,
+                scopes: scopes,
+                marks: marks,
+                n0: n0,
+                n1: n1,
+                n2: n2,
+                n3: n3,
+            },
         },
     }
 }

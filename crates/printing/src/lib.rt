@@ -20,7 +20,7 @@ pub fn tell(s: &[u8], out: &mut [u8]) -> usize
 {
     let mut report = [0u8; REPORT];
     let mut image = [0u8; IMAGE];
-    let r = linker::link(s, &mut report, &mut image, scopes::empty());
+    let r = linker::link_new(s, &mut report, &mut image);
     let a = r.answer;
     if a.image != 0 {
         let to = units::put_units(out, 0, s, &a.files, &a.ids, a.units);

@@ -6,7 +6,6 @@ use mathlib.Core.Path.{_≡_, ap, sym, _∙_}
 use denote.Ref.{now}
 use Rattle.order.specs.declared.Answer.{Answer}
 use Rattle.scope_tree.specs.Trees.{cleared}
-use Rattle.linker.specs.Call.{madeOf}
 use Rattle.discovery.specs.Places.{fresh}
 use Rattle.assembly.specs.GivenLaws.{known-linked}
 use Rattle.assembly.specs.Join.{units-linked}
@@ -49,7 +48,7 @@ same-length-2 : tie.Need-same-length-2
 same-length-2 c = search (needs, (c .before .before .before .before .before .before .before .before .before .before .before .before .before .before .before .before .before .order-known))
 
 returns-2 : tie.Need-returns-2
-returns-2 c = let l = units-linked (now ((c .before .before .before .before .before .before .before .before .before .before .before .before .before .before .before .before .before .before .before .before .before .before .before .args) .s)) (now ((c .before .before .before .before .before .before .before .before .before .before .before .before .before .before .before .before .before .before .before .before .before .before .before .args) .report)) (now ((c .before .before .before .before .before .before .before .before .before .before .before .before .before .before .before .before .before .before .before .before .before .before .before .args) .image)) ((c .before .before .before .before .before .before .before .before .before .before .before .before .before .before .before .before .before .order-known) .result) ((c .before .before .before .before .before .before .before .before .before .before .before .before .before .before .before .before .before .order-known) .last .1 .0) ((c .before .before .before .before .before .before .before .before .before .before .before .before .before .before .before .before .before .order-known) .ensures .0) ((c .before .before .before .before .before .before .before .before .before .before .before .before .before .before .before .before .before .order-known) .ensures .1 .0) ((c .before .before .before .before .before .before .before .before .before .before .before .before .before .before .if1) .left) in faults-due (now ((c .before .before .before .before .before .before .before .before .before .before .before .before .before .before .before .before .before .before .before .before .before .before .before .args) .s)) (now ((c .before .before .before .before .before .before .before .before .before .before .before .before .before .before .before .before .before .before .before .before .before .before .before .args) .report)) (now ((c .before .before .before .before .before .before .before .before .before .before .before .before .before .before .before .before .before .before .before .before .before .before .before .args) .image)) ((c .before .before .before .before .before .before .before .before .before .before .before .before .before .before .before .before .before .order-known) .result) ((c .before .before .before .before .before .before .before .before .before .before .before .before .before .before .before .before .before .order-known) .last .1 .0) ((c .before .before .before .before .before .before .before .before .before .before .before .before .before .before .before .before .before .order-known) .ensures .0) ((c .before .before .before .before .before .before .before .before .before .before .before .before .before .before .before .before .before .order-known) .ensures .1 .0) (l .0) (l .1) ((c .before .before .before .before .before .before .report-faults) .result) _ ((c .before .before .before .before .before .before .report-faults) .ensures .0) ((c .before .before .before .before .before .before .report-faults) .ensures .1) (sym ((c .before .before .before .tells) .ensures) ∙ (c .before .before .if2) .taken) ((c .told2) .result) ((c .told2) .ensures ∙ ap (λ (y : Answer). madeOf y cleared) ((c .before .report-told) .ensures))
+returns-2 c = let l = units-linked (now ((c .before .before .before .before .before .before .before .before .before .before .before .before .before .before .before .before .before .before .before .before .before .before .before .args) .s)) (now ((c .before .before .before .before .before .before .before .before .before .before .before .before .before .before .before .before .before .before .before .before .before .before .before .args) .report)) (now ((c .before .before .before .before .before .before .before .before .before .before .before .before .before .before .before .before .before .before .before .before .before .before .before .args) .image)) ((c .before .before .before .before .before .before .before .before .before .before .before .before .before .before .before .before .before .order-known) .result) ((c .before .before .before .before .before .before .before .before .before .before .before .before .before .before .before .before .before .order-known) .last .1 .0) ((c .before .before .before .before .before .before .before .before .before .before .before .before .before .before .before .before .before .order-known) .ensures .0) ((c .before .before .before .before .before .before .before .before .before .before .before .before .before .before .before .before .before .order-known) .ensures .1 .0) ((c .before .before .before .before .before .before .before .before .before .before .before .before .before .before .if1) .left) in faults-due (now ((c .before .before .before .before .before .before .before .before .before .before .before .before .before .before .before .before .before .before .before .before .before .before .before .args) .s)) (now ((c .before .before .before .before .before .before .before .before .before .before .before .before .before .before .before .before .before .before .before .before .before .before .before .args) .report)) (now ((c .before .before .before .before .before .before .before .before .before .before .before .before .before .before .before .before .before .before .before .before .before .before .before .args) .image)) ((c .before .before .before .before .before .before .before .before .before .before .before .before .before .before .before .before .before .order-known) .result) ((c .before .before .before .before .before .before .before .before .before .before .before .before .before .before .before .before .before .order-known) .last .1 .0) ((c .before .before .before .before .before .before .before .before .before .before .before .before .before .before .before .before .before .order-known) .ensures .0) ((c .before .before .before .before .before .before .before .before .before .before .before .before .before .before .before .before .before .order-known) .ensures .1 .0) (l .0) (l .1) ((c .before .before .before .before .before .before .report-faults) .result) _ ((c .before .before .before .before .before .before .report-faults) .ensures .0) ((c .before .before .before .before .before .before .report-faults) .ensures .1) (sym ((c .before .before .before .tells) .ensures) ∙ (c .before .before .if2) .taken) ((c .told2) .result) ((c .told2) .ensures ∙ ap (λ (y : Answer). record { answer = y; tree = cleared }) ((c .before .report-told) .ensures))
 
 slice-aggregate-link-units : tie.Need-slice-aggregate-link-units
 slice-aggregate-link-units c = search (needs, (c .before .before .before .before .before .before .before .before .before .put-files) .ensures .wide ∙ (c .before .before .before .before .before .before .before .before .before .before .before .before .before .before .before .before .order-known) .ensures .1 .1 .long)
