@@ -14,7 +14,7 @@ use Rattle.names.specs.Bytes.{same, same-refl, same-eq, equal-same, member, and
 use Rattle.names.specs.Path.{root, isPath}
 use Rattle.names.specs.PathSteps.{root-path}
 use Rattle.names.specs.Prefix.{directlyIn, parent}
-use Rattle.bundle.specs.Bundle.{Text, Bundle, File, Remapping}
+use Rattle.bundle.specs.Bundle.{Text, Bundle, File, Remapping, withSlash}
 use Rattle.bundle.specs.Limits.{header, remapping-limit}
 use Rattle.bundle.specs.Scan.{text}
 use Rattle.bundle.specs.Decode.{each, far, after, afterFile, afterRemapping, fileAt, remappingAt, folderCount, folderFirst, fileCount, fileFirst, remappingCount, remappingFirst, decode}
@@ -22,7 +22,7 @@ use Rattle.bundle.specs.Conflicts.{placedAt, placedRemappingAt, orElse, any, li
 use Rattle.bundle.specs.Lists.{skip}
 use Rattle.bundle.specs.ListLaws.{texts-each, member-append, each-length, each-at}
 use Rattle.bundle.specs.Free.{paths-each, conflicts-free}
-use Rattle.bundle.specs.Form.{Every, IsPath, FormedFile, InForm, Unconflicted, fresh, withSlash}
+use Rattle.bundle.specs.Form.{Every, IsPath, FormedFile, InForm, Unconflicted, fresh}
 use Rattle.bundle.specs.Members.{member-true, mem-member, getD-mem, mem-getD, mem-map}
 use Rattle.bundle.specs.Read.{form, verdict}
 use Rattle.bundle.specs.Stand.{Bytes}
@@ -147,14 +147,14 @@ module _ (b : Bundle) (u : Unconflicted b) where
   unfolding member
   once-listed zero zero h l e = refl
   once-listed zero (suc j) h l e =
-      absurd (false-true (sym (new-seen (root ∷ b .folders) (root ∷ []) (below-root b) (u .paths) j (le-of-suc-le-suc l)) ∙ rw (← e, same-refl root)))
+      absurd (false-true (sym (new-seen (withSlash (b .folders)) (root ∷ []) (below-root b) (u .paths) j (le-of-suc-le-suc l)) ∙ rw (← e, same-refl root)))
   once-listed (suc i) zero h l e =
-      absurd (false-true (sym (new-seen (root ∷ b .folders) (root ∷ []) (below-root b) (u .paths) i (le-of-suc-le-suc h)) ∙ rw (e, same-refl root)))
+      absurd (false-true (sym (new-seen (withSlash (b .folders)) (root ∷ []) (below-root b) (u .paths) i (le-of-suc-le-suc h)) ∙ rw (e, same-refl root)))
   once-listed (suc i) (suc j) h l e = go (decLt i j) (decLt j i)
     where
       go : Dec (i < j) → Dec (j < i) → suc i ≡ suc j
-      go (yes x) y = absurd (not-again (root ∷ b .folders) (root ∷ []) (below-root b) (u .paths) i j x (le-of-suc-le-suc l) e)
-      go (no x) (yes y) = absurd (not-again (root ∷ b .folders) (root ∷ []) (below-root b) (u .paths) j i y (le-of-suc-le-suc h) (sym e))
+      go (yes x) y = absurd (not-again (withSlash (b .folders)) (root ∷ []) (below-root b) (u .paths) i j x (le-of-suc-le-suc l) e)
+      go (no x) (yes y) = absurd (not-again (withSlash (b .folders)) (root ∷ []) (below-root b) (u .paths) j i y (le-of-suc-le-suc h) (sym e))
       go (no x) (no y) = omega arith
 
 -- CONFLICTS in three parts

@@ -7,13 +7,13 @@ ghost use Rattle.bundle.specs.Scan.{text};
 ghost use Rattle.bundle.specs.Decode.{each, after};
 ghost use Rattle.card.specs.Card.{CardIs};
 ghost use Rattle.resolution.specs.Resolution.{buildAndVerifyPath};
-ghost use Rattle.resolution.specs.Indices.{listsIn, pathIn, IsFolder, isFolder, located, Tells};
+ghost use Rattle.resolution.specs.Indices.{listsIn, pathIn, IsFolder, isFolderIndex, located, Tells};
 use crate::Lookup;
 use card::CARD;
 
 // Whether index i, where there are so many folders, is that of one.
 fn is_folder(i: usize, folders: usize) -> bool
-    ensures { λ r. ⌜ r ≡ isFolder i folders ⌝ }
+    ensures { λ r. ⌜ r ≡ isFolderIndex i folders ⌝ }
 {
     if i == 0 {
         return false;
