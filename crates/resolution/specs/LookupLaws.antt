@@ -12,6 +12,7 @@ use Rattle.names.specs.Bytes.{ascii, same, same-eq, same-refl, member, and-left
 use Rattle.names.specs.Prefix.{child, childFile}
 use Rattle.names.specs.FolderTheorems.{Plain}
 use Rattle.bundle.specs.Bundle.{Text}
+use Rattle.bundle.specs.Limits.{string-size}
 use Rattle.bundle.specs.Form.{Every, IsName}
 use Rattle.bundle.specs.Scan.{text}
 use Rattle.bundle.specs.Decode.{each, after}
@@ -121,7 +122,7 @@ module _ {s c : List ℕ} (C : CardIs s c) (d : ℕ) where
 -- THE LOOP: i segments name folders, and the folder of index dir was entered
 pub record Down (s u : List ℕ) (base first n dir a i : ℕ) : Type 0 where
   pub folder : IsFolder s dir
-  pub near : a ≤ first + i * 256
+  pub near : a ≤ first + i * string-size
   pub same : buildAndVerifyPath (listsIn s) (pathIn s dir) (each (after u) (text u) (n - i) a) ≡ buildAndVerifyPath (listsIn s) (pathIn s base) (each (after u) (text u) n first)
   pub named : Every IsName (each (after u) (text u) (n - i) a)
 
@@ -145,7 +146,7 @@ module _ {s c : List ℕ} (C : CardIs s c) {u : List ℕ} {base first n dir a i 
       turned true w h = ap not h
       turned false w h = ap not h
 
-  pub down-enters : i < n → (r a' k : ℕ) → Looked (sought (nodesIn s) dir (text u a ++ [])) (length (nodesIn s)) r → k ≡ foldersOf c → (v : Bool) → v ≡ isFolderIndex r k → not v ≡ false → a' ≡ after u a → a' ≤ a + 256
+  pub down-enters : i < n → (r a' k : ℕ) → Looked (sought (nodesIn s) dir (text u a ++ [])) (length (nodesIn s)) r → k ≡ foldersOf c → (v : Bool) → v ≡ isFolderIndex r k → not v ≡ false → a' ≡ after u a → a' ≤ a + string-size
       → Down s u base first n r a' (i + 1)
   unfolding Every buildAndVerifyPath
   down-enters h r a' k w kq v vq e q near =

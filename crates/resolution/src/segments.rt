@@ -3,8 +3,7 @@ ghost use mathlib.Core.Path.{_≡_};
 ghost use Rattle.bundle.specs.Scan.{times};
 ghost use Rattle.resolution.specs.Call.{scanSegment, scanSegments};
 use bundle::Scan;
-
-const SEGMENTS: usize = 16;
+use bundle::limits::SEGMENTS;
 
 pub fn wide(b: u8) -> usize
     ensures { λ r. ⌜ r ≡ b ⌝ }
