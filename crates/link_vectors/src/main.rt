@@ -28,24 +28,13 @@ fn read_some(buffer: &mut [u8], n: usize) -> usize {
     0
 }
 
-// A hexadecimal digit; 0 of what is none.
-fn digit(n: u8) -> u8 {
-    if n < 10 {
-        return 48 + n;
-    }
-    if n < 16 {
-        return 87 + n;
-    }
-    0
-}
-
 // A line `image` and the bytes in hexadecimal.
 fn put_image(out: &mut [u8], image: &[u8]) -> usize {
     let mut to = text::put_bytes(out, 0, b"image ");
     let mut i = 0;
     while i < image.len() {
-        to = text::put(out, to, digit(image[i] / 16));
-        to = text::put(out, to, digit(image[i] % 16));
+        to = text::put(out, to, lines::hex_digit(image[i] / 16));
+        to = text::put(out, to, lines::hex_digit(image[i] % 16));
         i += 1;
     }
     text::put(out, to, 10)
