@@ -1,12 +1,12 @@
 // Links stored bundles: standard input has each led by its length in 4 bytes, big-endian. For each the lines of the printing program
 // are written, the image in hexadecimal where there is one, and a line `--`.
 ghost use Prim.Native.Nat.{_<_, _^_};
+use printing::IMAGE;
+use printing::REPORT;
+use printing::TEXT;
 
 // No bundle that is longer is stored.
 const SIZE: usize = 131072;
-
-// Room for the lines of any bundle, and for the longest image.
-const TEXT: usize = 440000;
 
 fn wide(b: u8) -> usize
     ensures { λ r. ⌜ r < 256 ⌝ }
@@ -42,8 +42,8 @@ fn put_image(out: &mut [u8], image: &[u8]) -> usize {
 
 // The image of a bundle in hexadecimal, where it is linked; answers how many bytes that is.
 fn tell_image(s: &[u8], out: &mut [u8]) -> usize {
-    let mut report = [0u8; 4096];
-    let mut image = [0u8; 65538];
+    let mut report = [0u8; REPORT];
+    let mut image = [0u8; IMAGE];
     let r = linker::link(s, &mut report, &mut image, scopes::empty());
     let n = r.answer.image;
     if n == 0 {
