@@ -21,7 +21,6 @@ use Rattle.printing.proofs.tree.put_tree.Reads as put-tree-reads
 use Rattle.printing.proofs.units.put_units.Reads as put-units-reads
 use Rattle.scopes.proofs.empty.Reads as empty-reads
 use Rattle.text.proofs.put_no.Reads as put-no-reads
-use Rattle.printing.specs.Sizes.{report-size, image-size}
 
 slice-aggregate-link : tie.Need-slice-aggregate-link
 slice-aggregate-link c = search needs
@@ -45,7 +44,7 @@ same-length : tie.Need-same-length
 same-length c = search needs
 
 returns : tie.Need-returns
-returns c = tell-linked (now ((c .before .before .before .before .before .before .before .before .before .before .before .before .before .before .before .before .before .before .before .before .before .before .before .args) .s)) (replicate report-size 0) (replicate image-size 0) cleared ((c .before .before .before .before .before .before .before .before .before .before .before .before .before .before .before .before .before .link) .result .answer) ((c .before .before .before .before .before .before .before .before .before .before .before .before .before .before .before .before .before .link) .ensures .0) (now ((c .before .before .before .before .before .before .before .before .before .before .before .before .before .before .before .before .before .before .before .before .before .before .before .args) .out)) ((c .before .before .before .before .before .before .before .before .before .before .before .before .before .if1) .taken) ((c .before .before .before .before .before .before .before .before .before .before .before .before .before .before .before .before .before .link) .result .tree) (subst (λ (z : Tree). LinkTree (now ((c .before .before .before .before .before .before .before .before .before .before .before .before .before .before .before .before .before .before .before .before .before .before .before .args) .s)) (replicate image-size 0) z ((c .before .before .before .before .before .before .before .before .before .before .before .before .before .before .before .before .before .link) .result .tree)) ((c .before .before .before .before .before .before .before .before .before .before .before .before .before .before .before .before .before .before .empty) .ensures) ((c .before .before .before .before .before .before .before .before .before .before .before .before .before .before .before .before .before .link) .ensures .1 .1 .1)) ((c .before .before .before .before .before .before .put-units) .last .0) ((c .before .before .put-tree) .last .0) ((c .before .before .before .before .before .before .put-units) .result) ((c .before .before .put-tree) .result) ((c .before .before .before .before .before .before .put-units) .ensures) ((c .before .before .put-tree) .ensures) (reading-lines (read (now ((c .before .before .before .before .before .before .before .before .before .before .before .before .before .before .before .before .before .before .before .before .before .before .before .args) .s)))) (answer-lines (now ((c .before .before .before .before .before .before .before .before .before .before .before .before .before .before .before .before .before .before .before .before .before .before .before .args) .s)) (λ i. omega (arith, (c .before .before .before .before .before .before .before .before .before .before .before .before .before .before .before .before .before .before .before .before .before .before .shared-slice-known) .given i)))
+returns c = tell-linked (now ((c .before .before .before .before .before .before .before .before .before .before .before .before .before .before .before .before .before .before .before .before .before .before .before .args) .s)) (replicate 4096 0) (replicate 65538 0) cleared ((c .before .before .before .before .before .before .before .before .before .before .before .before .before .before .before .before .before .link) .result .answer) ((c .before .before .before .before .before .before .before .before .before .before .before .before .before .before .before .before .before .link) .ensures .0) (now ((c .before .before .before .before .before .before .before .before .before .before .before .before .before .before .before .before .before .before .before .before .before .before .before .args) .out)) ((c .before .before .before .before .before .before .before .before .before .before .before .before .before .if1) .taken) ((c .before .before .before .before .before .before .before .before .before .before .before .before .before .before .before .before .before .link) .result .tree) (subst (λ (z : Tree). LinkTree (now ((c .before .before .before .before .before .before .before .before .before .before .before .before .before .before .before .before .before .before .before .before .before .before .before .args) .s)) (replicate 65538 0) z ((c .before .before .before .before .before .before .before .before .before .before .before .before .before .before .before .before .before .link) .result .tree)) ((c .before .before .before .before .before .before .before .before .before .before .before .before .before .before .before .before .before .before .empty) .ensures) ((c .before .before .before .before .before .before .before .before .before .before .before .before .before .before .before .before .before .link) .ensures .1 .1 .1)) ((c .before .before .before .before .before .before .put-units) .last .0) ((c .before .before .put-tree) .last .0) ((c .before .before .before .before .before .before .put-units) .result) ((c .before .before .put-tree) .result) ((c .before .before .before .before .before .before .put-units) .ensures) ((c .before .before .put-tree) .ensures) (reading-lines (read (now ((c .before .before .before .before .before .before .before .before .before .before .before .before .before .before .before .before .before .before .before .before .before .before .before .args) .s)))) (answer-lines (now ((c .before .before .before .before .before .before .before .before .before .before .before .before .before .before .before .before .before .before .before .before .before .before .before .args) .s)) (λ i. omega (arith, (c .before .before .before .before .before .before .before .before .before .before .before .before .before .before .before .before .before .before .before .before .before .before .shared-slice-known) .given i)))
 
 slice-aggregate-put-report : tie.Need-slice-aggregate-put-report
 slice-aggregate-put-report c = search needs
@@ -57,7 +56,7 @@ same-length-2 : tie.Need-same-length-2
 same-length-2 c = search needs
 
 returns-2 : tie.Need-returns-2
-returns-2 c = tell-report (now ((c .before .before .before .before .before .before .before .before .before .before .before .before .before .before .before .before .args) .s)) (replicate report-size 0) (replicate image-size 0) cleared ((c .before .before .before .before .before .before .before .before .before .before .link) .result .answer) ((c .before .before .before .before .before .before .before .before .before .before .link) .ensures .0) (now ((c .before .before .before .before .before .before .before .before .before .before .before .before .before .before .before .before .args) .out)) ((c .before .before .before .before .before .before .if1) .left) ((c .before .before .before .before .before .if2) .taken) ((c .before .before .before .before .before .before .before .before .before .before .link) .last .1 .0) ((c .before .before .before .before .before .before .before .before .before .before .link) .ensures .1 .0) ((c .before .before .put-report) .last .0) ((c .before .before .put-report) .result) ((c .before .before .put-report) .ensures) (reading-lines (read (now ((c .before .before .before .before .before .before .before .before .before .before .before .before .before .before .before .before .args) .s)))) (answer-lines (now ((c .before .before .before .before .before .before .before .before .before .before .before .before .before .before .before .before .args) .s)) (λ i. omega (arith, (c .before .before .before .before .before .before .before .before .before .before .before .before .before .before .before .shared-slice-known) .given i)))
+returns-2 c = tell-report (now ((c .before .before .before .before .before .before .before .before .before .before .before .before .before .before .before .before .args) .s)) (replicate 4096 0) (replicate 65538 0) cleared ((c .before .before .before .before .before .before .before .before .before .before .link) .result .answer) ((c .before .before .before .before .before .before .before .before .before .before .link) .ensures .0) (now ((c .before .before .before .before .before .before .before .before .before .before .before .before .before .before .before .before .args) .out)) ((c .before .before .before .before .before .before .if1) .left) ((c .before .before .before .before .before .if2) .taken) ((c .before .before .before .before .before .before .before .before .before .before .link) .last .1 .0) ((c .before .before .before .before .before .before .before .before .before .before .link) .ensures .1 .0) ((c .before .before .put-report) .last .0) ((c .before .before .put-report) .result) ((c .before .before .put-report) .ensures) (reading-lines (read (now ((c .before .before .before .before .before .before .before .before .before .before .before .before .before .before .before .before .args) .s)))) (answer-lines (now ((c .before .before .before .before .before .before .before .before .before .before .before .before .before .before .before .before .args) .s)) (λ i. omega (arith, (c .before .before .before .before .before .before .before .before .before .before .before .before .before .before .before .shared-slice-known) .given i)))
 
 wide-requires : tie.Need-wide-requires
 wide-requires c κs = search needs
@@ -69,7 +68,7 @@ same-length-3 : tie.Need-same-length-3
 same-length-3 c = search needs
 
 returns-3 : tie.Need-returns-3
-returns-3 c = tell-number (now ((c .before .before .before .before .before .before .before .before .before .before .before .before .before .before .before .before .args) .s)) (replicate report-size 0) (replicate image-size 0) cleared ((c .before .before .before .before .before .before .before .before .before .before .link) .result .answer) ((c .before .before .before .before .before .before .before .before .before .before .link) .ensures .0) (now ((c .before .before .before .before .before .before .before .before .before .before .before .before .before .before .before .before .args) .out)) ((c .before .before .before .before .before .before .if1) .left) ((c .before .before .before .before .before .if2) .left) ((c .before .before .before .wide) .result) ((c .before .before .before .before .before .before .before .before .before .before .link) .result .answer .place) ((c .before .before .before .wide) .ensures .0) refl ((c .before .before .put-no) .last .0) ((c .before .before .put-no) .result) ((c .before .before .put-no) .ensures) (reading-lines (read (now ((c .before .before .before .before .before .before .before .before .before .before .before .before .before .before .before .before .args) .s)))) (answer-lines (now ((c .before .before .before .before .before .before .before .before .before .before .before .before .before .before .before .before .args) .s)) (λ i. omega (arith, (c .before .before .before .before .before .before .before .before .before .before .before .before .before .before .before .shared-slice-known) .given i)))
+returns-3 c = tell-number (now ((c .before .before .before .before .before .before .before .before .before .before .before .before .before .before .before .before .args) .s)) (replicate 4096 0) (replicate 65538 0) cleared ((c .before .before .before .before .before .before .before .before .before .before .link) .result .answer) ((c .before .before .before .before .before .before .before .before .before .before .link) .ensures .0) (now ((c .before .before .before .before .before .before .before .before .before .before .before .before .before .before .before .before .args) .out)) ((c .before .before .before .before .before .before .if1) .left) ((c .before .before .before .before .before .if2) .left) ((c .before .before .before .wide) .result) ((c .before .before .before .before .before .before .before .before .before .before .link) .result .answer .place) ((c .before .before .before .wide) .ensures .0) refl ((c .before .before .put-no) .last .0) ((c .before .before .put-no) .result) ((c .before .before .put-no) .ensures) (reading-lines (read (now ((c .before .before .before .before .before .before .before .before .before .before .before .before .before .before .before .before .args) .s)))) (answer-lines (now ((c .before .before .before .before .before .before .before .before .before .before .before .before .before .before .before .before .args) .s)) (λ i. omega (arith, (c .before .before .before .before .before .before .before .before .before .before .before .before .before .before .before .shared-slice-known) .given i)))
 
 pub tell-spec : {M : Type 1} → statement M
 tell-spec =
