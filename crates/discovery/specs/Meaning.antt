@@ -11,11 +11,10 @@ use lib.ListN.{length, getD, take, length-set}
 use lib.Seq.{take-suc-set, length-take-le}
 use borrow.Author.Tests.{lt-ltb, le-ltb}
 use Rattle.names.specs.Bytes.{member}
-use Rattle.bundle.specs.Bundle.{Text, Remapping}
+use Rattle.bundle.specs.Bundle.{Text}
 use Rattle.bundle.specs.Limits.{file-limit, use-limit}
 use Rattle.resolution.specs.Lists.{Lists}
 use Rattle.resolution.specs.Resolution.{Resolved, to, fails, number, resolvePathInternal}
-use Rattle.resolution.specs.Resolution as R
 use Rattle.resolution.specs.Theorems.{isListed}
 use Rattle.resolution.specs.Theorems as theorem
 use Rattle.resolution.specs.Call.{answer, position}

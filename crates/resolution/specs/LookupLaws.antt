@@ -22,7 +22,7 @@ use Rattle.card.specs.Index.{Looked}
 use Rattle.card.specs.Card.{CardIs, nodesIn, sought}
 use Rattle.card.specs.Laws.{in-none, in-folders, in-files}
 use Rattle.resolution.specs.Lists.{Lists}
-use Rattle.resolution.specs.Resolution.{found, missing, isFolder, exists, buildAndVerifyPath}
+use Rattle.resolution.specs.Resolution.{found, missing, isFolder, buildAndVerifyPath}
 use Rattle.resolution.specs.Theorems.{segment-plain, file-plain, isListed, folder-below, exists-below}
 use Rattle.resolution.specs.Indices.{listsIn, pathIn, IsFolder, isFolderIndex, Listed, located, Tells}
 use Rattle.resolution.specs.CardLaws.{total, folder-listed}
