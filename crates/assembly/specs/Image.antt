@@ -1,6 +1,6 @@
 -- The image of a program: its bytes, its length, and what a lent buffer holds afterwards. Items are written in the bundle's item
 -- form, which has no marks. Assumes nothing.
-use Prim.Native.Nat.{ℕ, _+_, _<_, _≤_}
+use Prim.Native.Nat.{ℕ, suc, _+_, _-_, _<_, _≤_}
 use native.Mathlib.Omega.{arith}
 use mathlib.Core.Bool.{Bool, true, false, cond}
 use mathlib.Core.Path.{_≡_, refl}
@@ -11,7 +11,8 @@ use lib.Seq.{take-at, drop-at}
 use borrow.Author.Tests.{leb-true, leb-false, le-leb, lt-leb}
 use Rattle.bundle.specs.Bundle.{Text, Element, Items, none, named, use-of, module-of, ignored}
 use Rattle.bundle.specs.Encode.{two, string, joined, counted, sized, element, items}
-use Rattle.bundle.specs.Limits.{version, header, use-kind, module-kind, ignored-kind}
+use Rattle.bundle.specs.Limits.{version, header, capacity, use-kind, module-kind, ignored-kind}
+use Rattle.bundle.specs.declared.Width.the-variants.{Word}
 use Rattle.assembly.specs.declared.Imaged.{Imaged}
 use Rattle.assembly.specs.declared.Imaged.the-variants as imaged
 
@@ -24,7 +25,11 @@ long-image = 15
 
 -- the most bytes after the header
 abbrev pub image-limit : ℕ
-image-limit = 65535
+image-limit = capacity Word - 1
+
+-- one byte more than that: a sum of lengths that passes it stays there
+abbrev pub length-cap : ℕ
+length-cap = suc image-limit
 
 -- BYTES
 -- version 1, a 2-byte length, and the unit items

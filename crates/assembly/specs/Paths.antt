@@ -3,14 +3,14 @@
 use Prim.Native.Nat.{ℕ, _+_, _/_, _≤_, _<_}
 use native.Mathlib.Omega.{arith}
 use native.Mathlib.Decide.{decLt}
-use mathlib.Core.Bool.{true, _||_}
+use mathlib.Core.Bool.{true}
 use mathlib.Core.Logic.{⊎-elim}
 use mathlib.Core.Path.{_≡_, refl, sym, ap, subst, _∙_}
 use mathlib.Core.Option.{Option}
 use mathlib.Core.Option as option
 use mathlib.Core.List.{List, [], _∷_, _++_, List·Memᴰ, List·Memᴰ·not-nil, List·Memᴰ·cases-cons, List·Memᴰ·append-cases}
 use lib.ListN.{length, length-append}
-use Rattle.names.specs.Bytes.{ascii, same, member, all}
+use Rattle.names.specs.Bytes.{ascii, same, all}
 use Rattle.names.specs.Decimal.{unitName, width, width-one, width-more}
 use Rattle.names.specs.Identifier.{isIdentifier, class, letter, digit}
 use Rattle.names.specs.Keywords.{isCrate}
@@ -20,7 +20,7 @@ use Rattle.bundle.specs.Bundle.{Text, Items, none, named, use-of, module-of, ig
 use Rattle.bundle.specs.Form.{Every, IsName, Formed, FormedFile}
 use Rattle.bundle.specs.Limits.{depth-limit, segment-limit}
 use Rattle.resolution.specs.Lists.{Lists}
-use Rattle.resolution.specs.Resolution.{Lookup, found, missing, buildAndVerifyPath, Resolved, to, fails, orItself, resolveBelow, resolveCratePath, checkLocalFileImportedAsExternal, external, resolveExternalPath, resolvePathInternal, getPackageRoot, remappingFor}
+use Rattle.resolution.specs.Resolution.{Lookup, found, missing, isFolder, exists, buildAndVerifyPath, Resolved, to, fails, orItself, resolveBelow, resolveCratePath, checkLocalFileImportedAsExternal, external, resolveExternalPath, resolvePathInternal, getPackageRoot, remappingFor}
 use Rattle.discovery.specs.Discovery.{Use, uses, programOf}
 use Rattle.discovery.specs.Facts.{cond-elim}
 
@@ -47,9 +47,9 @@ module _ (l : Lists) (file : Text) where
   unfolding buildAndVerifyPath
   lookup-leaves base [] = tt
   lookup-leaves base (part ∷ parts) =
-      cond-elim (LeftBy (part ∷ parts)) (member (child base part) (l .folders))
+      cond-elim (LeftBy (part ∷ parts)) (isFolder l (child base part))
       (λ e. one-more part parts (buildAndVerifyPath l (child base part) parts) (lookup-leaves (child base part) parts))
-      (λ e. cond-elim (LeftBy (part ∷ parts)) (member (childFile base part) (l .files) || member (childFile base part) (l .folders))
+      (λ e. cond-elim (LeftBy (part ∷ parts)) (exists l (childFile base part))
       (λ k. record { before = part ∷ []; is = refl }) (λ k. tt))
 
   module _ (parts : List Text) where

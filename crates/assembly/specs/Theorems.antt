@@ -12,6 +12,7 @@ use borrow.Author.Tests.{eqb-true, eqb-false}
 use Rattle.names.specs.Bytes.{ascii, same, same-refl, different}
 use Rattle.names.specs.Decimal.{unitName, unit-names-differ}
 use Rattle.bundle.specs.Bundle.{Text, Items, none, named, use-of, module-of, ignored, File, Bundle}
+use Rattle.bundle.specs.Limits.{file-limit}
 use Rattle.bundle.specs.Form.{WellFormed}
 use Rattle.bundle.specs.Read.{value, read}
 use Rattle.bundle.specs.Stand.{Bytes}
@@ -117,7 +118,7 @@ module _ (b : Bundle) (w : WellFormed b) (o : List ℕ) (e : ordered b ≡ linke
   linked-files : LinkedFiles b (filesOf b o)
   linked-files = half .order o e
 
-  pub few-units : length (unitsOf b) ≤ 64
+  pub few-units : length (unitsOf b) ≤ file-limit
   few-units =
       let n = pigeons (discovered b .once) (pathsOf b) (λ p m. reached-file b p (discovered b .sound p m)) in
       let k = w .form .file-count in

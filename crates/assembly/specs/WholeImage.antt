@@ -11,7 +11,7 @@ use Rattle.bundle.specs.Bundle.{Items, Bundle}
 use Rattle.bundle.specs.Encode.{two, sized, items}
 use Rattle.order.specs.Writing.{started}
 use Rattle.assembly.specs.Assemble.{assembled}
-use Rattle.assembly.specs.Image.{image-limit, small-buffer, long-image, imageBytes, itemsLength, imageLength, imaging, lentImage, items-length, small, long}
+use Rattle.assembly.specs.Image.{image-limit, length-cap, small-buffer, long-image, imageBytes, itemsLength, imageLength, imaging, lentImage, items-length, small, long}
 use Rattle.encoder.specs.Parts.{started-length, then-filled, kept-start, headed, set-three}
 use Rattle.assembly.specs.Given.{programBytes}
 use Rattle.assembly.specs.declared.Imaged.the-variants as imaged
@@ -25,15 +25,15 @@ module _ (b : Bundle) (o out : List ℕ) where
   bytes-length = items-length p
 
   -- 15
-  pub too-long : (n : ℕ) → n ≡ min (length (programBytes b o)) 65536 → n ≡ 65536 → (imaged.Refused long-image 0 ≡ imaging p (length out)) × (out ≡ lentImage p out)
+  pub too-long : (n : ℕ) → n ≡ min (length (programBytes b o)) length-cap → n ≡ length-cap → (imaged.Refused long-image 0 ≡ imaging p (length out)) × (out ≡ lentImage p out)
   too-long n e h = let l = bytes-length in let x = long p out (omega arith) in (sym (x .answered), sym (x .untouched))
 
   -- 14
-  pub too-small : (n : ℕ) → n ≡ min (length (programBytes b o)) 65536 → (n ≡ 65536 → ⊥) → length out < 3 + n → (imaged.Refused small-buffer 0 ≡ imaging p (length out)) × (out ≡ lentImage p out)
+  pub too-small : (n : ℕ) → n ≡ min (length (programBytes b o)) length-cap → (n ≡ length-cap → ⊥) → length out < 3 + n → (imaged.Refused small-buffer 0 ≡ imaging p (length out)) × (out ≡ lentImage p out)
   too-small n e h k = let l = bytes-length in let x = small p out (omega arith) (omega arith) in (sym (x .answered), sym (x .untouched))
 
   -- the items behind the header, then the header
-  module _ (last o₁ final : List ℕ) (n : ℕ) (count : n ≡ length (programBytes b o)) (short : length (programBytes b o) < 65536) (room : 3 + n ≤ length out)
+  module _ (last o₁ final : List ℕ) (n : ℕ) (count : n ≡ length (programBytes b o)) (short : length (programBytes b o) < length-cap) (room : 3 + n ≤ length out)
       (filled : last ≡ started (programBytes b o) (midOf 3 (length out - 3) out)) where
     behind : putMid 3 (length out - 3) out last ≡ started (take 3 out ++ programBytes b o) out
     behind =

@@ -10,6 +10,7 @@ use borrow.Rule.Slice.PartMut.{midOf, putMid}
 use Rattle.bundle.specs.Encode.{string}
 use Rattle.order.specs.Writing.{started}
 use Rattle.encoder.specs.Parts.{headBytes, put-length, started-length, Front, front-long, front-start, front-room, front-all}
+use Rattle.assembly.specs.Image.{length-cap}
 
 pub by-name : (item name t : List ℕ) (k v b : ℕ) → name ≡ t → v ≡ b → item ≡ headBytes (2 + length (string t)) k b ++ string t → item ≡ headBytes (2 + length (string name)) k v ++ string name
 by-name item name t k v b e f h = rw (e, f) h
@@ -23,7 +24,7 @@ pub record Begun (out cur name item : List ℕ) (k v a : ℕ) : Type 0 where
   pub start : cur ≡ started (take 2 out ++ (k ∷ v ∷ string name)) out
   pub is : a ≡ 4 + length (string name)
   pub few : length item ≤ length out
-  pub short : length item < 65536
+  pub short : length item < length-cap
 
 abbrev began : List ℕ → List ℕ → ℕ → ℕ → List ℕ
 began out name k v = take 2 out ++ (k ∷ v ∷ string name)
@@ -42,7 +43,7 @@ module _ {out cur name item : List ℕ} {k v a : ℕ} (f : Begun out cur name it
       let w = length-append (take 2 out) (k ∷ v ∷ string name) in
       record { starts = f .start; is = omega arith; room = omega (arith, length-append (began out name k v) []) }
 
-  pub leaf-length : (2 ≤ length cur) × (a - 2 < 65536)
+  pub leaf-length : (2 ≤ length cur) × (a - 2 < length-cap)
   leaf-length = let l = size in let n = front-long leaf-front in let h = f .few in let s = f .short in let i = f .is in (omega arith, omega arith)
 
   pub leaf-done : (final : List ℕ) → final ≡ set (set cur 0 ((a - 2) / 256)) 1 ((a - 2) % 256) → (a ≡ length item) × (final ≡ started item out)
@@ -80,14 +81,14 @@ module _ {out cur name item x : List ℕ} {k v a : ℕ} (f : Inside out cur name
   pub inside-room : length x ≤ length (midOf a (length cur - a) cur)
   inside-room = front-room inside-front
 
-  pub inside-short : length x < 65536
+  pub inside-short : length x < length-cap
   inside-short = let l = size-inside in let s = f .begun .short in omega arith
 
   module _ (last : List ℕ) (m : ℕ) (filled : (m ≡ length x) × (last ≡ started x (midOf a (length cur - a) cur))) where
     both : putMid a (length cur - a) cur last ≡ started (take 2 out ++ (k ∷ v ∷ (string name ++ x))) out
     both = front-all inside-front last (filled .1) ∙ ap (λ (l : List ℕ). started l out) (append-assoc (take 2 out) (k ∷ v ∷ string name) x)
 
-    pub inside-length : (2 ≤ length (putMid a (length cur - a) cur last)) × (a + m - 2 < 65536)
+    pub inside-length : (2 ≤ length (putMid a (length cur - a) cur last)) × (a + m - 2 < length-cap)
     inside-length =
         let l = size-inside in
         let c = filled .0 in

@@ -7,6 +7,7 @@ ghost use Rattle.discovery.specs.Walk.{UseMark, Small};
 ghost use Rattle.bundle.specs.Decode.{decode, itemsAt};
 ghost use lib.ListN.{take};
 ghost use Rattle.assembly.specs.Assemble.{fileOf};
+ghost use Rattle.assembly.specs.Image.{length-cap};
 ghost use Rattle.assembly.specs.Given.{UnitsGiven, OrderGiven, unitBytes, programBytes};
 ghost use Rattle.assembly.specs.Targets.{UnitOf, fileUses, pathBy, Within};
 ghost use Rattle.assembly.specs.Walk.{segmentsAt, elementsAt, oneAt, itemBytes, itemsBytes, Brief};
@@ -31,7 +32,7 @@ fn wide(x: u16) -> usize
 // The sum, or LIMIT.
 fn capped(a: usize, b: usize) -> usize
     requires { ⌜ (a < 2 ^ 32) × (b < 2 ^ 32) ⌝ }
-    ensures { λ r. ⌜ r ≡ min (a + b) 65536 ⌝ }
+    ensures { λ r. ⌜ r ≡ min (a + b) length-cap ⌝ }
 {
     let n = a + b;
     if n > LIMIT {
@@ -76,7 +77,7 @@ fn item_length(
     depth: usize,
 ) -> usize
     requires { ⌜ UnitOf (now s) (now files) units u × Small place depth × Brief (fileUses (now s) (fileOf (decode (now s)) u)) (oneAt depth (now s) place) ⌝ }
-    ensures { λ r. ⌜ r ≡ min (length (itemBytes (now (s .entry)) (fileOf (decode (now (s .entry))) u) depth place)) 65536 ⌝ }
+    ensures { λ r. ⌜ r ≡ min (length (itemBytes (now (s .entry)) (fileOf (decode (now (s .entry))) u) depth place)) length-cap ⌝ }
 {
     let kind = bundle::item_kind(s, place);
     if kind == IGNORED {
@@ -109,7 +110,7 @@ fn items_length(
     depth: usize,
 ) -> usize
     requires { ⌜ UnitOf (now s) (now files) units u × Small end depth × Brief (fileUses (now s) (fileOf (decode (now s)) u)) (itemsAt depth (now s) end from) ⌝ }
-    ensures { λ r. ⌜ r ≡ min (length (itemsBytes (now (s .entry)) (fileOf (decode (now (s .entry))) u) depth end from)) 65536 ⌝ }
+    ensures { λ r. ⌜ r ≡ min (length (itemsBytes (now (s .entry)) (fileOf (decode (now (s .entry))) u) depth end from)) length-cap ⌝ }
 {
     let mut sum = 0;
     let mut a = from;
@@ -124,7 +125,7 @@ fn items_length(
 // The unit u: a private module.
 fn unit_length(s: &[u8], files: &[usize], units: usize, u: usize) -> usize
     requires { ⌜ UnitsGiven (now s) (now files) units × (u < units) ⌝ }
-    ensures { λ r. ⌜ r ≡ min (length (unitBytes (decode (now (s .entry))) u)) 65536 ⌝ }
+    ensures { λ r. ⌜ r ≡ min (length (unitBytes (decode (now (s .entry))) u)) length-cap ⌝ }
 {
     let items = unit_items(s, files, u);
     let name = names::unit_name(u as u64);
@@ -135,7 +136,7 @@ fn unit_length(s: &[u8], files: &[usize], units: usize, u: usize) -> usize
 // The program: the units in their order.
 pub fn program_length<'a>(s: &[u8], files: &'a [usize], ids: &'a [u16], units: usize) -> usize
     requires { ⌜ OrderGiven (now s) (now files) (now ids) units ⌝ }
-    ensures { λ r. ⌜ r ≡ min (length (programBytes (decode (now (s .entry))) (take units (now (ids .entry))))) 65536 ⌝ }
+    ensures { λ r. ⌜ r ≡ min (length (programBytes (decode (now (s .entry))) (take units (now (ids .entry))))) length-cap ⌝ }
 {
     let mut sum = 0;
     let mut i = 0;

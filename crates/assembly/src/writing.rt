@@ -12,6 +12,7 @@ ghost use Rattle.bundle.specs.Decode.{itemsAt, decode};
 ghost use Rattle.discovery.specs.Walk.{UseMark, Small};
 ghost use Rattle.order.specs.Writing.{started};
 ghost use Rattle.assembly.specs.Assemble.{fileOf};
+ghost use Rattle.assembly.specs.Image.{length-cap};
 ghost use Rattle.assembly.specs.Given.{UnitsGiven, OrderGiven, unitBytes, programBytes};
 ghost use Rattle.encoder.specs.Parts.{headBytes};
 ghost use Rattle.assembly.specs.Targets.{UnitOf, InFile, fileUses, pathBy, Within};
@@ -94,7 +95,7 @@ fn write_use(
     place: usize,
     out: &mut [u8],
 ) -> usize
-    requires { ⌜ (UnitOf (now s) (now files) units u × UseMark (now s) place × InFile (now s) (fileOf (decode (now s)) u) place) × ((length (segmentsAt (now s) place) ≤ segment-limit) × ((4 + length (useBytes (now s) (fileOf (decode (now s)) u) place) ≤ length (now out)) × (4 + length (useBytes (now s) (fileOf (decode (now s)) u) place) < 65536))) ⌝ }
+    requires { ⌜ (UnitOf (now s) (now files) units u × UseMark (now s) place × InFile (now s) (fileOf (decode (now s)) u) place) × ((length (segmentsAt (now s) place) ≤ segment-limit) × ((4 + length (useBytes (now s) (fileOf (decode (now s)) u) place) ≤ length (now out)) × (4 + length (useBytes (now s) (fileOf (decode (now s)) u) place) < length-cap))) ⌝ }
     ensures { λ r. ⌜ (r ≡ 4 + length (useBytes (now (s .entry)) (fileOf (decode (now (s .entry))) u) place)) × (now (out .exit) ≡ started (headBytes (2 + length (useBytes (now (s .entry)) (fileOf (decode (now (s .entry))) u) place)) use-kind (byte (now (s .entry)) (place + 3)) ++ useBytes (now (s .entry)) (fileOf (decode (now (s .entry))) u) place) (now (out .entry))) ⌝ }
 {
     let n = rewrite_use(s, files, units, u, place, &mut out[4..]);
@@ -112,7 +113,7 @@ fn write_item(
     depth: usize,
     out: &mut [u8],
 ) -> usize
-    requires { ⌜ (UnitOf (now s) (now files) units u × Small place depth) × (Brief (fileUses (now s) (fileOf (decode (now s)) u)) (oneAt depth (now s) place) × ((length (itemBytes (now s) (fileOf (decode (now s)) u) depth place) ≤ length (now out)) × (length (itemBytes (now s) (fileOf (decode (now s)) u) depth place) < 65536))) ⌝ }
+    requires { ⌜ (UnitOf (now s) (now files) units u × Small place depth) × (Brief (fileUses (now s) (fileOf (decode (now s)) u)) (oneAt depth (now s) place) × ((length (itemBytes (now s) (fileOf (decode (now s)) u) depth place) ≤ length (now out)) × (length (itemBytes (now s) (fileOf (decode (now s)) u) depth place) < length-cap))) ⌝ }
     ensures { λ r. ⌜ (r ≡ length (itemBytes (now (s .entry)) (fileOf (decode (now (s .entry))) u) depth place)) × (now (out .exit) ≡ started (itemBytes (now (s .entry)) (fileOf (decode (now (s .entry))) u) depth place) (now (out .entry))) ⌝ }
 {
     let kind = bundle::item_kind(s, place);
@@ -158,7 +159,7 @@ fn write_items(
     depth: usize,
     out: &mut [u8],
 ) -> usize
-    requires { ⌜ (UnitOf (now s) (now files) units u × Small end depth) × (Brief (fileUses (now s) (fileOf (decode (now s)) u)) (itemsAt depth (now s) end from) × ((length (itemsBytes (now s) (fileOf (decode (now s)) u) depth end from) ≤ length (now out)) × (length (itemsBytes (now s) (fileOf (decode (now s)) u) depth end from) < 65536))) ⌝ }
+    requires { ⌜ (UnitOf (now s) (now files) units u × Small end depth) × (Brief (fileUses (now s) (fileOf (decode (now s)) u)) (itemsAt depth (now s) end from) × ((length (itemsBytes (now s) (fileOf (decode (now s)) u) depth end from) ≤ length (now out)) × (length (itemsBytes (now s) (fileOf (decode (now s)) u) depth end from) < length-cap))) ⌝ }
     ensures { λ r. ⌜ (r ≡ length (itemsBytes (now (s .entry)) (fileOf (decode (now (s .entry))) u) depth end from)) × (now (out .exit) ≡ started (itemsBytes (now (s .entry)) (fileOf (decode (now (s .entry))) u) depth end from) (now (out .entry))) ⌝ }
 {
     let mut sum = 0;
@@ -173,7 +174,7 @@ fn write_items(
 
 // The unit u: a private module.
 fn write_unit(s: &[u8], files: &[usize], units: usize, u: usize, out: &mut [u8]) -> usize
-    requires { ⌜ (UnitsGiven (now s) (now files) units × (u < units)) × ((length (unitBytes (decode (now s)) u) ≤ length (now out)) × (length (unitBytes (decode (now s)) u) < 65536)) ⌝ }
+    requires { ⌜ (UnitsGiven (now s) (now files) units × (u < units)) × ((length (unitBytes (decode (now s)) u) ≤ length (now out)) × (length (unitBytes (decode (now s)) u) < length-cap)) ⌝ }
     ensures { λ r. ⌜ (r ≡ length (unitBytes (decode (now (s .entry))) u)) × (now (out .exit) ≡ started (unitBytes (decode (now (s .entry))) u) (now (out .entry))) ⌝ }
 {
     let items = unit_items(s, files, u);
@@ -200,7 +201,7 @@ pub fn write_program<'a>(
     units: usize,
     out: &mut [u8],
 ) -> usize
-    requires { ⌜ OrderGiven (now s) (now files) (now ids) units × ((length (programBytes (decode (now s)) (take units (now ids))) ≤ length (now out)) × (length (programBytes (decode (now s)) (take units (now ids))) < 65536)) ⌝ }
+    requires { ⌜ OrderGiven (now s) (now files) (now ids) units × ((length (programBytes (decode (now s)) (take units (now ids))) ≤ length (now out)) × (length (programBytes (decode (now s)) (take units (now ids))) < length-cap)) ⌝ }
     ensures { λ r. ⌜ (r ≡ length (programBytes (decode (now (s .entry))) (take units (now (ids .entry))))) × (now (out .exit) ≡ started (programBytes (decode (now (s .entry))) (take units (now (ids .entry)))) (now (out .entry))) ⌝ }
 {
     let mut sum = 0;

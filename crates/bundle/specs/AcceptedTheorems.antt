@@ -14,14 +14,14 @@ use Rattle.names.specs.Prefix.{directlyIn, parent}
 use Rattle.names.specs.Identifier.{isIdentifier}
 use Rattle.names.specs.Keywords.{isCrate, isKeyword}
 use Rattle.names.specs.FolderTheorems.{directly-in-parent}
-use Rattle.bundle.specs.Bundle.{Text, Remapping, File, Bundle}
+use Rattle.bundle.specs.Bundle.{Text, Remapping, File, Bundle, withSlash}
 use Rattle.bundle.specs.Limits.{capacity, folder-limit, remapping-limit, file-limit, item-limit, use-limit, depth-limit}
 use Rattle.bundle.specs.declared.Width.the-variants.{Word}
 use Rattle.bundle.specs.Encode.{fields}
 use Rattle.bundle.specs.Conflicts.{any}
 use Rattle.bundle.specs.Stand.{Bytes}
 use Rattle.bundle.specs.Read.{value, read}
-use Rattle.bundle.specs.Form.{Every, IsPath, IsName, FormedRemapping, FormedFile, Formed, fileItems, fileUses, fresh, usable, alike, usableAll, withSlash, WellFormed}
+use Rattle.bundle.specs.Form.{Every, IsPath, IsName, FormedRemapping, FormedFile, Formed, fileItems, fileUses, fresh, usable, alike, usableAll, WellFormed}
 use Rattle.bundle.specs.Members.{member-true, mem-member, any-true, mem-any, every-mem, mem-getD}
 use Rattle.bundle.specs.Versions.{folders-within, files-within, uses-within}
 use Rattle.bundle.specs.Theorems.{sound}
@@ -56,11 +56,11 @@ pub record Accepted (b : Bundle) : Type 0 where
   pub path-once : (i j : ℕ) → i < length (pathsListed b) → j < length (pathsListed b) → getD (pathsListed b) i [] ≡ getD (pathsListed b) j [] → i ≡ j
   pub not-slash : List·Memᴰ slash-path (pathsListed b) → ⊥
   -- 8: every parent is `/` or a listed folder
-  pub parents : (p : Text) → List·Memᴰ p (pathsListed b) → List·Memᴰ (parent p) (withSlash b)
+  pub parents : (p : Text) → List·Memᴰ p (pathsListed b) → List·Memᴰ (parent p) (withSlash (b .folders))
   -- 9, 10: root, contexts and targets are `/` or listed folders
-  pub root-listed : List·Memᴰ (b .root) (withSlash b)
-  pub context-listed : (r : Remapping) → List·Memᴰ r (b .remappings) → List·Memᴰ (r .context) (withSlash b)
-  pub target-listed : (r : Remapping) → List·Memᴰ r (b .remappings) → List·Memᴰ (r .target) (withSlash b)
+  pub root-listed : List·Memᴰ (b .root) (withSlash (b .folders))
+  pub context-listed : (r : Remapping) → List·Memᴰ r (b .remappings) → List·Memᴰ (r .context) (withSlash (b .folders))
+  pub target-listed : (r : Remapping) → List·Memᴰ r (b .remappings) → List·Memᴰ (r .target) (withSlash (b .folders))
   -- 11, 12
   pub names : (r : Remapping) → List·Memᴰ r (b .remappings) → UsableName (r .name)
   -- 13: no context has a name twice
@@ -194,21 +194,21 @@ slash-form = refl
 
 -- OF EVERY WELL-FORMED BUNDLE
 module _ (b : Bundle) (w : WellFormed b) where
-  folder-form : (d : Text) → List·Memᴰ d (withSlash b) → IsPath d
+  folder-form : (d : Text) → List·Memᴰ d (withSlash (b .folders)) → IsPath d
   folder-form d m = ⊎-elim (λ e. rw e slash-form) (λ n. every-mem IsPath (w .form .folders) n) (List·Memᴰ·cases-cons m)
 
   path-form : (p : Text) → List·Memᴰ p (pathsListed b) → IsPath p
   path-form p m = ⊎-elim (λ n. every-mem IsPath (w .form .folders) n) (λ n. file-form (b .files) (w .form .files) p n) (List·Memᴰ·append-cases (b .folders) m)
 
-  parent-listed : (p : Text) → List·Memᴰ p (pathsListed b) → List·Memᴰ (parent p) (withSlash b)
+  parent-listed : (p : Text) → List·Memᴰ p (pathsListed b) → List·Memᴰ (parent p) (withSlash (b .folders))
   parent-listed p m =
-      let d = any-true (directlyIn p) (withSlash b) (fresh-below (withSlash b) (slash-path ∷ []) (pathsListed b) (w .free .paths) p m) in
+      let d = any-true (directlyIn p) (withSlash (b .folders)) (fresh-below (withSlash (b .folders)) (slash-path ∷ []) (pathsListed b) (w .free .paths) p m) in
       Memᴰ·cast (directly-in-parent p (d .0) (folder-form (d .0) (d .1 .0)) (d .1 .1)) (d .1 .0)
 
   pub accepted-implies : Accepted b
   accepted-implies =
       let each : (r : Remapping) → List·Memᴰ r (b .remappings) → FormedRemapping r = λ r m. every-mem FormedRemapping (w .form .remappings) m in
-      let one = usable-each (withSlash b) [] (b .remappings) (w .free .remappings) in
+      let one = usable-each (withSlash (b .folders)) [] (b .remappings) (w .free .remappings) in
       record {
         some-file = w .form .some-file;
         file-count = omega (arith, w .form .file-count, files-within (b .version));
@@ -222,14 +222,14 @@ module _ (b : Bundle) (w : WellFormed b) where
         context-path = λ r m. each r m .0;
         target-path = λ r m. each r m .1 .1;
         items = λ f m. every-mem FormedFile (w .form .files) m .1;
-        path-once = fresh-once (withSlash b) (slash-path ∷ []) (pathsListed b) (w .free .paths);
-        not-slash = λ m. fresh-new (withSlash b) (slash-path ∷ []) (pathsListed b) (w .free .paths) slash-path m (List·Memᴰ·head refl);
+        path-once = fresh-once (withSlash (b .folders)) (slash-path ∷ []) (pathsListed b) (w .free .paths);
+        not-slash = λ m. fresh-new (withSlash (b .folders)) (slash-path ∷ []) (pathsListed b) (w .free .paths) slash-path m (List·Memᴰ·head refl);
         parents = parent-listed;
-        root-listed = member-true (b .root) (withSlash b) (w .free .root);
+        root-listed = member-true (b .root) (withSlash (b .folders)) (w .free .root);
         context-listed = λ r m. one r m .context;
         target-listed = λ r m. one r m .target;
         names = λ r m. usable-name (r .name) (one r m .name);
-        remapping-once = usable-once (withSlash b) [] (b .remappings) (w .free .remappings);
+        remapping-once = usable-once (withSlash (b .folders)) [] (b .remappings) (w .free .remappings);
       }
 
 -- OF EVERY ACCEPTED BUNDLE

@@ -1,6 +1,7 @@
 -- A bundle as data. Assumes nothing.
 use Prim.Native.Nat.{ℕ}
-use mathlib.Core.List.{List}
+use mathlib.Core.List.{List, _∷_}
+use Rattle.names.specs.Path.{root as slash-path}
 
 -- a string: its bytes
 abbrev pub Text : Type 0
@@ -36,3 +37,7 @@ pub record Bundle : Type 0 where
   pub folders : List Text
   pub remappings : List Remapping
   pub files : List File
+
+-- `/` is always a folder, whether it is listed or not
+abbrev pub withSlash : List Text → List Text
+withSlash folders = slash-path ∷ folders

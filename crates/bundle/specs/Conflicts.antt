@@ -7,7 +7,7 @@ use Rattle.names.specs.Path.{root}
 use Rattle.names.specs.Prefix.{directlyIn}
 use Rattle.names.specs.Identifier.{isIdentifier}
 use Rattle.names.specs.Keywords.{isCrate, isKeyword}
-use Rattle.bundle.specs.Bundle.{Text}
+use Rattle.bundle.specs.Bundle.{Text, withSlash}
 use Rattle.bundle.specs.Limits.{header, folder-width, file-width}
 use Rattle.bundle.specs.Scan.{text, versionOf}
 use Rattle.bundle.specs.Decode.{countedBy, counted, after, afterRemapping, afterFile, foldersAt, remappingsAt, filesAt}
@@ -89,9 +89,9 @@ files s = countedBy (file-width (versionOf s)) (afterFile s) (placedAt s) s (fil
 abbrev pub remappings : List ℕ → List PlacedRemapping
 remappings s = counted (afterRemapping s) (placedRemappingAt s) s (remappingsAt s)
 
--- `/` is always a folder and counts as listed before all others
+-- `/` counts as listed before all others
 abbrev pub allFolders : List ℕ → List Text
-allFolders s = root ∷ texts (folders s)
+allFolders s = withSlash (texts (folders s))
 
 -- 7 and 8 path by path; then the remappings; then the root
 unfoldable pub conflicts : List ℕ → Checked

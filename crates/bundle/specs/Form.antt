@@ -11,7 +11,7 @@ use Rattle.names.specs.Path.{root as slash-path}
 use Rattle.names.specs.Prefix.{directlyIn}
 use Rattle.names.specs.Identifier.{isIdentifier}
 use Rattle.names.specs.Keywords.{isKeyword, isCrate}
-use Rattle.bundle.specs.Bundle.{Text, Element, Items, none, named, use-of, module-of, ignored, Remapping, File, Bundle}
+use Rattle.bundle.specs.Bundle.{Text, Element, Items, none, named, use-of, module-of, ignored, Remapping, File, Bundle, withSlash}
 use Rattle.bundle.specs.Limits.{defined, header, width, capacity, folder-width, file-width, most-folders, remapping-limit, most-files, item-limit, most-uses, segment-limit, element-limit, depth-limit, use-kind, module-kind, ignored-kind}
 use Rattle.bundle.specs.declared.Width.the-variants.{Byte, Word}
 use Rattle.bundle.specs.Encode.{string, countedBy, counted, sized, element, items, remapping, file, fields}
@@ -139,13 +139,10 @@ usableAll folders seen [] = true
 usableAll folders seen (r ∷ rs) =
     member (r .context) folders && (member (r .target) folders && (usable (r .name) && (not (any (alike r) seen) && usableAll folders (seen ++ (r ∷ [])) rs)))
 
-abbrev pub withSlash : Bundle → List Text
-withSlash b = slash-path ∷ b .folders
-
 pub record Unconflicted (b : Bundle) : Type 0 where
-  pub paths : fresh (slash-path ∷ []) (withSlash b) (b .folders ++ map (λ f. f .path) (b .files)) ≡ true
-  pub remappings : usableAll (withSlash b) [] (b .remappings) ≡ true
-  pub root : member (b .root) (withSlash b) ≡ true
+  pub paths : fresh (slash-path ∷ []) (withSlash (b .folders)) (b .folders ++ map (λ f. f .path) (b .files)) ≡ true
+  pub remappings : usableAll (withSlash (b .folders)) [] (b .remappings) ≡ true
+  pub root : member (b .root) (withSlash (b .folders)) ≡ true
 
 pub record WellFormed (b : Bundle) : Type 0 where
   pub form : InForm b

@@ -9,14 +9,14 @@ use Rattle.names.specs.Path.{root}
 use Rattle.names.specs.Prefix.{directlyIn}
 use Rattle.names.specs.Identifier.{isIdentifier}
 use Rattle.names.specs.Keywords.{isCrate, isKeyword}
-use Rattle.bundle.specs.Bundle.{Text, Remapping, File}
+use Rattle.bundle.specs.Bundle.{Text, Remapping, File, withSlash}
 use Rattle.bundle.specs.Scan.{text}
 use Rattle.bundle.specs.Decode.{each, after, afterRemapping, afterFile, remappingAt, fileAt, decode, folderCount, folderFirst, remappingCount, remappingFirst, fileCount, fileFirst}
 use Rattle.bundle.specs.Conflicts.{Placed, PlacedRemapping, placedAt, placedRemappingAt, texts, orElse, any, listed, located, sameRemapping, remapped, conflicts, remappings}
 use Rattle.bundle.specs.Conflicts.{named as nameTold}
 use Rattle.bundle.specs.ListLaws.{texts-each}
 use Rattle.bundle.specs.Steps.{both}
-use Rattle.bundle.specs.Form.{fresh, usable, alike, usableAll, withSlash, Unconflicted}
+use Rattle.bundle.specs.Form.{fresh, usable, alike, usableAll, Unconflicted}
 use Rattle.bundle.specs.declared.Checked.{Checked}
 use Rattle.bundle.specs.declared.Checked.the-variants.{Ok, Refused}
 
@@ -116,8 +116,8 @@ texts-append [] y = refl
 texts-append (p ∷ x) y = ap (λ (l : List Text). p .string ∷ l) (texts-append x y)
 
 conflicts-ok : (s : List ℕ) → ok (conflicts s)
-    ≡ (fresh (root ∷ []) (withSlash (decode s)) (decode s .folders ++ map (λ (f : File). f .path) (decode s .files))
-    && (usableAll (withSlash (decode s)) [] (decode s .remappings) && member (decode s .root) (withSlash (decode s))))
+    ≡ (fresh (root ∷ []) (withSlash (decode s .folders)) (decode s .folders ++ map (λ (f : File). f .path) (decode s .files))
+    && (usableAll (withSlash (decode s .folders)) [] (decode s .remappings) && member (decode s .root) (withSlash (decode s .folders))))
 unfolding conflicts decode plains placedAt
 conflicts-ok s =
     let F = texts-each s (after s) (folderCount s) (folderFirst s) in
@@ -128,8 +128,8 @@ conflicts-ok s =
 pub conflicts-free : (s : List ℕ) → conflicts s ≡ Ok → Unconflicted (decode s)
 conflicts-free s h =
     let e = sym (conflicts-ok s) ∙ (ap ok h ∙ ok-ok) in
-    let a = both (fresh (root ∷ []) (withSlash (decode s)) (decode s .folders ++ map (λ (f : File). f .path) (decode s .files))) _ e in
-    let b = both (usableAll (withSlash (decode s)) [] (decode s .remappings)) _ (a .1) in
+    let a = both (fresh (root ∷ []) (withSlash (decode s .folders)) (decode s .folders ++ map (λ (f : File). f .path) (decode s .files))) _ e in
+    let b = both (usableAll (withSlash (decode s .folders)) [] (decode s .remappings)) _ (a .1) in
     record { paths = a .0; remappings = b .0; root = b .1 }
 
 pub free-conflicts : (s : List ℕ) → Unconflicted (decode s) → conflicts s ≡ Ok

@@ -39,6 +39,7 @@ pub use bytes::count_at;
 pub use bytes::text_at;
 pub use bytes::version_of;
 pub use bytes::word_at;
+pub use steps::next_path;
 pub use steps::next_remapping;
 
 // What the check of a bundle answers: a refusal has document 01's number, 1 to 13, and the place.

@@ -9,11 +9,7 @@ fn tell(s: &[u8]) {
             io::write_all(1, b"ok\n");
         }
         Checked::Refused(n, p) => {
-            io::write_all(1, b"no ");
-            io::print_decimal(1, n as u64);
-            io::write_all(1, b" ");
-            io::print_decimal(1, p as u64);
-            io::write_all(1, b"\n");
+            lines::tell_refusal(n, p);
         }
     }
 }

@@ -13,8 +13,7 @@ use Rattle.names.specs.Path.{root, isPath, component-limit}
 use Rattle.names.specs.Prefix.{startsWith, stemOf, child, childFile}
 use Rattle.names.specs.PathTheorems.{form}
 use Rattle.names.specs.FolderTheorems.{Plain}
-use Rattle.bundle.specs.Bundle.{Text, Bundle, File, Remapping}
-use Rattle.bundle.specs.Form.{withSlash}
+use Rattle.bundle.specs.Bundle.{Text, Bundle, File, Remapping, withSlash}
 use Rattle.bundle.specs.Scan.{text}
 use Rattle.bundle.specs.Decode.{decode, fileAt, remappingAt}
 use Rattle.card.specs.Layout.{node-limit, bucket-limit, card-size, key-limit, parentAt, startAt, hashAt, nextAt, markAt, headAt, contextAt, targetAt, placeAt, foldersOf, remappingsOf, filesOf, rootOf, keyOf}
@@ -69,7 +68,7 @@ pub record FolderAt (b : Bundle) (p : Text) (i : ℕ) : Type 0 where
 -- what is found of a folder's path
 abbrev pub InFolder : Bundle → Text → Near → Type 0
 InFolder b t (At i) = FolderAt b t i
-InFolder b t Nothing = member t (withSlash b) ≡ false
+InFolder b t Nothing = member t (withSlash (b .folders)) ≡ false
 
 -- of each remapping its position and the folders of its context and its target
 pub record Maps (s : List ℕ) (c : List ℕ) : Type 0 where
@@ -93,9 +92,9 @@ pub record CardIs (s : List ℕ) (c : List ℕ) : Type 0 where
   pub entry : FolderAt (decode s) (decode s .root) (rootOf c)
 
 -- THE HASH OF A NAME IN A FOLDER
-child-long : (d n : Text) → Plain n → length (child d n) ≡ 1 → ⊥
+pub child-long : (d n : Text) → 1 ≤ length n → length (child d n) ≡ 1 → ⊥
 unfolding child
-child-long d n p e = omega (arith, simp length-append at e, p .some-byte)
+child-long d n l e = omega (arith, simp length-append at e)
 
 -- one byte that leads a path is `/`
 pub one-byte : (p : Text) → getD p 0 0 ≡ slash → length p ≡ 1 → p ≡ root
@@ -125,7 +124,7 @@ module _ (m : ℕ) where
       go false e = rw (different p root (λ q. eqb-false _ _ e (ap length q)))
 
   pub hash-child : (d n : Text) → isPath d ≡ true → Plain n → hashOf m (child d n) ≡ hashed m (hashOf m d) (slash ∷ n)
-  hash-child d n h p = hash-long (child d n) (child-long d n p) ∙ hash-whole d n ∙ ap (λ (x : ℕ). hashed m x (slash ∷ n)) (sym (hash-stem d h))
+  hash-child d n h p = hash-long (child d n) (child-long d n (p .some-byte)) ∙ hash-whole d n ∙ ap (λ (x : ℕ). hashed m x (slash ∷ n)) (sym (hash-stem d h))
 
 -- ONE LOOKUP
 -- the code's test of an index by the hash, the parent and the start that the card has of it

@@ -11,7 +11,6 @@ use Rattle.names.specs.Bytes.{same, same-eq, equal-same, different, member, mem
 use Rattle.names.specs.Path.{root}
 use Rattle.bundle.specs.Bundle.{Text, Bundle, File}
 use Rattle.bundle.specs.Decode.{decode}
-use Rattle.bundle.specs.Form.{withSlash}
 use Rattle.card.specs.Index.{Looked}
 use Rattle.card.specs.Card.{nodesOf, isUpTo, FolderAt, InFolder}
 use Rattle.card.specs.Laws.{node-folder}

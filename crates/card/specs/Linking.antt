@@ -14,11 +14,10 @@ use Rattle.names.specs.Bytes.{same, same-eq, same-refl, equal-same, different, 
 use Rattle.names.specs.Path.{root, isPath}
 use Rattle.names.specs.Prefix.{directlyIn, parent}
 use Rattle.names.specs.FolderTheorems.{directly-in-parent, parent-directly-in, parent-prefix}
-use Rattle.bundle.specs.Bundle.{Text, Bundle, File}
+use Rattle.bundle.specs.Bundle.{Text, Bundle, File, withSlash}
 use Rattle.bundle.specs.Scan.{text}
 use Rattle.bundle.specs.Decode.{each, after, afterFile, fileAt, folderCount, folderFirst, fileCount, fileFirst, decode}
 use Rattle.bundle.specs.Conflicts.{Placed, placedAt, any, listed, folders, files}
-use Rattle.bundle.specs.Form.{withSlash}
 use Rattle.bundle.specs.Members.{mem-getD, any-true, mem-any, mem-member, getD-mem}
 use Rattle.bundle.specs.declared.Checked.{Checked}
 use Rattle.bundle.specs.declared.Checked.the-variants.{Ok, Refused}
@@ -127,7 +126,7 @@ module _ {s : List ℕ} {ps : List Text} {c : List ℕ} (I : IndexOf s ps c) (i 
 -- 8: THE FOLDER THAT A PATH LIES IN
 module _ (s : List ℕ) (paths : (i : ℕ) → i < length (nodesIn s) → isPath (getD (nodesIn s) i []) ≡ true) (p : Text) (hp : isPath p ≡ true) (np : p ≡ root → ⊥) where
   abbrev F : List Text
-  F = withSlash (decode s)
+  F = withSlash (decode s .folders)
 
   abbrev G : List Text
   G = map (λ (f : File). f .path) (decode s .files)
@@ -216,7 +215,7 @@ pub record Parents (s c : List ℕ) (n : ℕ) : Type 0 where
   pub small : (j : ℕ) → j < node-limit → parentAt c j < node-limit
 
 abbrev pub allTold : List ℕ → Checked
-allTold s = listed (root ∷ []) (withSlash (decode s)) (map (placedAt s) (spots s))
+allTold s = listed (root ∷ []) (withSlash (decode s .folders)) (map (placedAt s) (spots s))
 
 -- what 7 and 8 leave of the card c₀
 pub record Linked (s c₀ c : List ℕ) (r : Checked) : Type 0 where
@@ -233,7 +232,7 @@ pub record Linking (s c₀ c : List ℕ) (folders n i : ℕ) : Type 0 where
   pub from : 1 ≤ i
   pub to : i ≤ n
   pub parents : Parents s c i
-  pub told : allTold s ≡ onFrom s (spots s) (withSlash (decode s)) i
+  pub told : allTold s ≡ onFrom s (spots s) (withSlash (decode s .folders)) i
 
 pub linking-start : (s c : List ℕ) (folders n : ℕ) → Indexed s c folders n → Linking s c c folders n 1
 linking-start s c folders n R = record {
@@ -259,7 +258,7 @@ module _ (s c₀ c : List ℕ) (folders n i : ℕ) (w : Linking s c₀ c folders
       record {
         size = w .size;
         kept = w .kept;
-        told = sym (w .told ∙ told-all s (spots s) (withSlash (decode s)) i (omega (arith, ap length (nodes-at s))));
+        told = sym (w .told ∙ told-all s (spots s) (withSlash (decode s .folders)) i (omega (arith, ap length (nodes-at s))));
         parents = λ e. rw z at (w .parents);
       }
 
@@ -302,7 +301,7 @@ module _ (s c₀ c : List ℕ) (folders n i : ℕ) (w : Linking s c₀ c folders
         link-twice e = record {
           size = w .size;
           kept = w .kept;
-          told = sym (w .told ∙ told-twice s (spots s) (withSlash (decode s)) i in-list link-first a link-spot (seen e));
+          told = sym (w .told ∙ told-twice s (spots s) (withSlash (decode s .folders)) i in-list link-first a link-spot (seen e));
           parents = λ q. absurd (refused-not-ok q);
         }
 
@@ -318,7 +317,7 @@ module _ (s c₀ c : List ℕ) (folders n i : ℕ) (w : Linking s c₀ c folders
               size = w .size;
               kept = w .kept;
               told =
-                  sym (w .told ∙ told-orphan s (spots s) (withSlash (decode s)) i in-list link-first a link-spot (seen f)
+                  sym (w .told ∙ told-orphan s (spots s) (withSlash (decode s .folders)) i in-list link-first a link-spot (seen f)
                   (rw (← pq) (no-folder s (w .indexed .paths) p link-path not-root (rw e at R))));
               parents = λ q. absurd (refused-not-ok q);
             }
@@ -328,7 +327,7 @@ module _ (s c₀ c : List ℕ) (folders n i : ℕ) (w : Linking s c₀ c folders
               found = rw e at R
 
               pub link-small : d < node-limit
-              link-small = omega (arith, found .folder, length-append (withSlash (decode s)) (map (λ (g : File). g .path) (decode s .files)), link-index .count)
+              link-small = omega (arith, found .folder, length-append (withSlash (decode s .folders)) (map (λ (g : File). g .path) (decode s .files)), link-index .count)
 
               pub link-more : Linking s c₀ (set c (0 + i) d) folders n (i + 1)
               link-more = record {
@@ -343,7 +342,7 @@ module _ (s c₀ c : List ℕ) (folders n i : ℕ) (w : Linking s c₀ c folders
                   small = λ j k. less j k (decEq j i);
                 };
                 told =
-                    w .told ∙ told-on s (spots s) (withSlash (decode s)) i in-list link-first a link-spot (seen f)
+                    w .told ∙ told-on s (spots s) (withSlash (decode s .folders)) i in-list link-first a link-spot (seen f)
                     (rw (← pq) (has-folder s (w .indexed .paths) p link-path not-root d found));
               }
                 where

@@ -14,15 +14,15 @@ use Rattle.names.specs.Bytes.{same, same-refl, same-eq, equal-same, member, and
 use Rattle.names.specs.Path.{root, isPath}
 use Rattle.names.specs.PathSteps.{root-path}
 use Rattle.names.specs.Prefix.{directlyIn, parent}
-use Rattle.bundle.specs.Bundle.{Text, Bundle, File, Remapping}
-use Rattle.bundle.specs.Limits.{header, remapping-limit}
+use Rattle.bundle.specs.Bundle.{Text, Bundle, File, Remapping, withSlash}
+use Rattle.bundle.specs.Limits.{header, count-limit, remapping-limit}
 use Rattle.bundle.specs.Scan.{text}
 use Rattle.bundle.specs.Decode.{each, far, after, afterFile, afterRemapping, fileAt, remappingAt, folderCount, folderFirst, fileCount, fileFirst, remappingCount, remappingFirst, decode}
 use Rattle.bundle.specs.Conflicts.{placedAt, placedRemappingAt, orElse, any, listed, located, remapped, conflicts}
 use Rattle.bundle.specs.Lists.{skip}
 use Rattle.bundle.specs.ListLaws.{texts-each, member-append, each-length, each-at}
 use Rattle.bundle.specs.Free.{paths-each, conflicts-free}
-use Rattle.bundle.specs.Form.{Every, IsPath, FormedFile, InForm, Unconflicted, fresh, withSlash}
+use Rattle.bundle.specs.Form.{Every, IsPath, FormedFile, InForm, Unconflicted, fresh}
 use Rattle.bundle.specs.Members.{member-true, mem-member, getD-mem, mem-getD, mem-map}
 use Rattle.bundle.specs.Read.{form, verdict}
 use Rattle.bundle.specs.Stand.{Bytes}
@@ -47,7 +47,7 @@ pub record Listing (s : List ℕ) (f m g n : ℕ) : Type 0 where
   pub folders-count : m ≡ folderCount s
   pub files-first : g ≡ fileFirst s
   pub files-count : n ≡ fileCount s
-  pub low : ((f < 1048576) × (g < 1048576)) × ((m < 256) × (n < 256))
+  pub low : ((f < 1048576) × (g < 1048576)) × ((m < count-limit) × (n < count-limit))
   pub room : 1 + m + n ≤ node-limit
 
 -- the paths are indexed, and all else is 0
@@ -57,11 +57,11 @@ pub record Begun (s c : List ℕ) (m n : ℕ) : Type 0 where
   pub others : (j : ℕ) → marks-at ≤ j → getD c j 0 ≡ 0
 
 module _ (s : List ℕ) (f m g n : ℕ) (L : Listing s f m g n) (c : List ℕ) (C : Cleared c) (key : ℕ) (kl : key < key-limit) where
-  pub first-fill : ((f < 1048576) × ((m < 256) × (1 + m ≤ node-limit))) × Keyed (begun c key)
+  pub first-fill : ((f < 1048576) × ((m < count-limit) × (1 + m ≤ node-limit))) × Keyed (begun c key)
   first-fill = ((L .low .0 .0, (L .low .1 .0, omega (arith, L .room))), begun-keyed c key C kl)
 
   module _ (c1 : List ℕ) (F : Filled s (begun c key) c1 (skip false s) f m 1) where
-    pub second-fill : ((g < 1048576) × ((n < 256) × (m + 1 + n ≤ node-limit))) × Keyed c1
+    pub second-fill : ((g < 1048576) × ((n < count-limit) × (m + 1 + n ≤ node-limit))) × Keyed c1
     second-fill = (
       (L .low .0 .1, (L .low .1 .1, omega (arith, L .room))),
       (F .kept .size, rw (F .kept .high key-at (omega arith)) (begun-keyed c key C kl .1)),
@@ -147,14 +147,14 @@ module _ (b : Bundle) (u : Unconflicted b) where
   unfolding member
   once-listed zero zero h l e = refl
   once-listed zero (suc j) h l e =
-      absurd (false-true (sym (new-seen (root ∷ b .folders) (root ∷ []) (below-root b) (u .paths) j (le-of-suc-le-suc l)) ∙ rw (← e, same-refl root)))
+      absurd (false-true (sym (new-seen (withSlash (b .folders)) (root ∷ []) (below-root b) (u .paths) j (le-of-suc-le-suc l)) ∙ rw (← e, same-refl root)))
   once-listed (suc i) zero h l e =
-      absurd (false-true (sym (new-seen (root ∷ b .folders) (root ∷ []) (below-root b) (u .paths) i (le-of-suc-le-suc h)) ∙ rw (e, same-refl root)))
+      absurd (false-true (sym (new-seen (withSlash (b .folders)) (root ∷ []) (below-root b) (u .paths) i (le-of-suc-le-suc h)) ∙ rw (e, same-refl root)))
   once-listed (suc i) (suc j) h l e = go (decLt i j) (decLt j i)
     where
       go : Dec (i < j) → Dec (j < i) → suc i ≡ suc j
-      go (yes x) y = absurd (not-again (root ∷ b .folders) (root ∷ []) (below-root b) (u .paths) i j x (le-of-suc-le-suc l) e)
-      go (no x) (yes y) = absurd (not-again (root ∷ b .folders) (root ∷ []) (below-root b) (u .paths) j i y (le-of-suc-le-suc h) (sym e))
+      go (yes x) y = absurd (not-again (withSlash (b .folders)) (root ∷ []) (below-root b) (u .paths) i j x (le-of-suc-le-suc l) e)
+      go (no x) (yes y) = absurd (not-again (withSlash (b .folders)) (root ∷ []) (below-root b) (u .paths) j i y (le-of-suc-le-suc h) (sym e))
       go (no x) (no y) = omega arith
 
 -- CONFLICTS in three parts
@@ -276,7 +276,7 @@ module _ (s : List ℕ) (B : Bytes s) (formed : form s ≡ Ok) where
   unfolding decode
   remappings-long = each-length (afterRemapping s) (remappingAt s) (remappingCount s) (remappingFirst s)
 
-  pub listing : (f m g n : ℕ) → (f ≡ folderFirst s) × (m ≡ folderCount s) → (g ≡ fileFirst s) × (n ≡ fileCount s) → (f < 1048576) × (m < 256) → (g < 1048576) × (n < 256) → Listing s f m g n
+  pub listing : (f m g n : ℕ) → (f ≡ folderFirst s) × (m ≡ folderCount s) → (g ≡ fileFirst s) × (n ≡ fileCount s) → (f < 1048576) × (m < count-limit) → (g < 1048576) × (n < count-limit) → Listing s f m g n
   listing f m g n p q x y = record {
     folders-first = p .0;
     folders-count = p .1;

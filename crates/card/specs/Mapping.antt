@@ -9,13 +9,12 @@ use lib.Seq.{getD-set-same, getD-set-other}
 use native.Mathlib.Decide.{decLt}
 use Rattle.names.specs.Bytes.{same, same-eq, equal-same, different, member, member-found, member-none, false-true, not-true}
 use Rattle.names.specs.Path.{root}
-use Rattle.bundle.specs.Bundle.{Text, Bundle, File}
+use Rattle.bundle.specs.Bundle.{Text, Bundle, File, withSlash}
 use Rattle.bundle.specs.Limits.{remapping-limit}
 use Rattle.bundle.specs.Scan.{text}
 use Rattle.bundle.specs.Decode.{each, far, after, afterRemapping, decode}
 use Rattle.bundle.specs.Conflicts.{Placed, PlacedRemapping, placedAt, placedRemappingAt, orElse, any, located, named, sameRemapping, remapped}
 use Rattle.bundle.specs.ListLaws.{each-more, far-more}
-use Rattle.bundle.specs.Form.{withSlash}
 use Rattle.bundle.specs.declared.Checked.{Checked}
 use Rattle.bundle.specs.declared.Checked.the-variants.{Ok, Refused}
 use Rattle.card.specs.Layout.{node-limit, card-size, marks-at, contexts-at, targets-at, places-at, folders-at, markAt, contextAt, targetAt, placeAt}
@@ -32,7 +31,7 @@ use Rattle.card.specs.declared.maps.Mapped.the-variants.{To, Not}
 
 -- `/` and the folders; the files
 abbrev pub foldersIn : List ℕ → List Text
-foldersIn s = withSlash (decode s)
+foldersIn s = withSlash (decode s .folders)
 
 abbrev pub filesIn : List ℕ → List Text
 filesIn s = map (λ (f : File). f .path) (decode s .files)

@@ -2,6 +2,7 @@
 ghost use mathlib.Core.Path.{_≡_};
 ghost use Prim.Native.Nat.{_+_, _<_, _≤_, _^_};
 ghost use lib.ListN.{length};
+ghost use Rattle.bundle.specs.Limits.{count-limit};
 ghost use Rattle.bundle.specs.Lists.{skip};
 ghost use Rattle.card.specs.Layout.{node-limit, card-size, key-limit};
 ghost use Rattle.card.specs.Build.{filed, Keyed, Filled, Cleared};
@@ -54,17 +55,6 @@ pub fn clear(card: &mut [u32; CARD])
     }
 }
 
-// Past the file, or the folder, at a.
-fn next(s: &[u8], files: bool, a: usize) -> usize
-    requires { ⌜ a < 2 ^ 61 ⌝ }
-    ensures { λ r. ⌜ (r ≡ skip files (now (s .entry)) a) × (r ≤ a + 66000) ⌝ }
-{
-    if files {
-        return bundle::next_file(s, a);
-    }
-    bundle::next_string(s, a)
-}
-
 // Index k has its path at a, of hash h, and is the last of its chain.
 fn file_path(card: &mut [u32; CARD], k: usize, a: usize, h: usize)
     requires { ⌜ (length (now card) ≡ card-size) × ((k < node-limit) × ((a < 2 ^ 26) × (h < 2 ^ 32))) ⌝ }
@@ -80,7 +70,7 @@ fn file_path(card: &mut [u32; CARD], k: usize, a: usize, h: usize)
 
 // The index with n paths more, those from first on, after the first k.
 pub fn fill(s: &[u8], card: &mut [u32; CARD], files: bool, first: usize, n: usize, k: usize)
-    requires { ⌜ ((first < 2 ^ 20) × ((n < 256) × (k + n ≤ node-limit))) × Keyed (now card) ⌝ }
+    requires { ⌜ ((first < 2 ^ 20) × ((n < count-limit) × (k + n ≤ node-limit))) × Keyed (now card) ⌝ }
     ensures { λ r. ⌜ Filled (now (s .entry)) (now (card .entry)) (now (card .exit)) (skip files (now (s .entry))) first n k ⌝ }
 {
     let key = far(card[KEY]);
@@ -89,7 +79,7 @@ pub fn fill(s: &[u8], card: &mut [u32; CARD], files: bool, first: usize, n: usiz
     while i < n {
         let h = hash_of(key, bundle::string(s, a));
         file_path(&mut *card, k + i, a, h);
-        a = next(s, files, a);
+        a = bundle::next_path(s, files, a);
         i += 1;
     }
 }

@@ -4,7 +4,7 @@ ghost use Prim.Native.Nat.{_+_, _<_, _≤_, _^_};
 ghost use lib.ListN.{length};
 ghost use Rattle.bundle.specs.Decode.{each, afterRemapping, decode};
 ghost use Rattle.bundle.specs.Conflicts.{any, named, sameRemapping, placedAt, placedRemappingAt};
-ghost use Rattle.bundle.specs.Limits.{remapping-limit};
+ghost use Rattle.bundle.specs.Limits.{count-limit, remapping-limit};
 ghost use Rattle.card.specs.Layout.{node-limit, card-size};
 ghost use Rattle.card.specs.Card.{IndexOf, nodesIn};
 ghost use Rattle.card.specs.Mapping.{Located, MapsTo, put, Unmapped, MapsOf};
@@ -73,7 +73,7 @@ fn same_remapping(s: &[u8], a: usize, b: usize) -> bool
 
 // Whether the remapping at r repeats one of the n from `at` on.
 fn repeats(s: &[u8], at: usize, n: usize, r: usize) -> bool
-    requires { ⌜ ((at < 2 ^ 60) × (n < 256)) × (r < 2 ^ 61) ⌝ }
+    requires { ⌜ ((at < 2 ^ 60) × (n < count-limit)) × (r < 2 ^ 61) ⌝ }
     ensures { λ q. ⌜ q ≡ any (sameRemapping (placedRemappingAt (now (s .entry)) r)) (each (afterRemapping (now (s .entry))) (placedRemappingAt (now (s .entry))) n at) ⌝ }
 {
     let mut a = at;
@@ -103,7 +103,7 @@ fn map_one<'a>(
     j: usize,
     a: usize,
 ) -> Mapped
-    requires { ⌜ (IndexOf (now s) (nodesIn (now s)) (now card) × (folders ≡ length (decode (now s) .folders))) × ((first < 2 ^ 60) × ((j < 256) × (a < 2 ^ 60))) ⌝ }
+    requires { ⌜ (IndexOf (now s) (nodesIn (now s)) (now card) × (folders ≡ length (decode (now s) .folders))) × ((first < 2 ^ 60) × ((j < count-limit) × (a < 2 ^ 60))) ⌝ }
     ensures { λ r. ⌜ MapsTo (now (s .entry)) first j a r ⌝ }
 {
     let context = locate(s, card, folders, bundle::string(s, a));

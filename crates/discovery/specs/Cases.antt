@@ -16,7 +16,7 @@ use Rattle.bundle.specs.Conflicts.{placedAt, placedRemappingAt, any, listed, lo
 use Rattle.bundle.specs.Conflicts as conflict
 use Rattle.bundle.specs.Read.{Reading, value, refused, form, lists, files, verdict, read}
 use Rattle.resolution.specs.Longest.{insert, longestFirst, firstOf}
-use Rattle.resolution.specs.Resolution.{getPackageRoot, applies, remappingFor, buildAndVerifyPath, resolveCratePath, checkLocalFileImportedAsExternal, resolvePathInternal}
+use Rattle.resolution.specs.Resolution.{getPackageRoot, applies, remappingFor, isFolder, isFile, buildAndVerifyPath, resolveCratePath, checkLocalFileImportedAsExternal, resolvePathInternal}
 use Rattle.resolution.specs.Call.{position}
 use Rattle.discovery.specs.Discovery.{Fault, uses, programOf, useCache, lookupFaults, validImports, holds, addOnce, load, loadAll, Graph, turn, turns, discoverDependencies}
 
@@ -93,5 +93,5 @@ rows =
     ∷ []
 
 pub rows-hold : map (λ r. discovery (read (encode (r .bundle)))) rows ≡ map (λ r. r .expected) rows
-unfolding rows discovery telling ascii encode fields sized two string counted joined remapping file items element read verdict form lists files scanHeader scanString scanFormed scanCount scanList times scanField scanFiles scanFile scanLength siblings scanItemWith scanModule scanHead scanMark scanBody scanUse scanAlias scanEnd isPath isIdentifier class letter digit all same components split onto wellFormed isComponent conflicts listed located conflict.named remapped sameRemapping placedAt placedRemappingAt each far any member directlyIn startsWith begins child childFile stemOf isCrate isKeyword keywords decode fileAt itemsAt itemsBy itemAt elementAt remappingAt insert longestFirst firstOf getPackageRoot applies remappingFor buildAndVerifyPath resolveCratePath checkLocalFileImportedAsExternal resolvePathInternal uses programOf useCache lookupFaults validImports position holds addOnce load loadAll turn turns discoverDependencies
+unfolding rows discovery telling ascii encode fields sized two string counted joined remapping file items element read verdict form lists files scanHeader scanString scanFormed scanCount scanList times scanField scanFiles scanFile scanLength siblings scanItemWith scanModule scanHead scanMark scanBody scanUse scanAlias scanEnd isPath isIdentifier class letter digit all same components split onto wellFormed isComponent conflicts listed located conflict.named remapped sameRemapping placedAt placedRemappingAt each far any member directlyIn startsWith begins child childFile stemOf isCrate isKeyword keywords decode fileAt itemsAt itemsBy itemAt elementAt remappingAt insert longestFirst firstOf getPackageRoot applies remappingFor isFolder isFile buildAndVerifyPath resolveCratePath checkLocalFileImportedAsExternal resolvePathInternal uses programOf useCache lookupFaults validImports position holds addOnce load loadAll turn turns discoverDependencies
 rows-hold = refl

@@ -3,7 +3,6 @@ use Prim.Native.Nat.{ℕ, zero, suc, _+_, _-_, _≤_, _<_}
 use native.Mathlib.Numerals.{add-one}
 use native.Mathlib.Omega.{arith}
 use mathlib.Core.Bool.{Bool, true, false, cond, _||_}
-use mathlib.Core.Option.{Option, none, some}
 use mathlib.Core.Logic.{⊎-elim}
 use mathlib.Core.Path.{_≡_, refl, sym, ap, subst, _∙_}
 use mathlib.Core.List.{List, [], _∷_, _++_, map, append-nil, append-assoc, List·Memᴰ}
@@ -12,62 +11,35 @@ use lib.ListN.{length, getD, take, length-set}
 use lib.Seq.{take-suc-set, length-take-le}
 use borrow.Author.Tests.{lt-ltb, le-ltb}
 use Rattle.names.specs.Bytes.{member}
-use Rattle.names.specs.Prefix.{child, childFile, directlyIn}
-use Rattle.names.specs.Keywords.{isCrate}
-use Rattle.bundle.specs.Bundle.{Text, Remapping}
+use Rattle.bundle.specs.Bundle.{Text}
 use Rattle.bundle.specs.Limits.{file-limit, use-limit}
 use Rattle.resolution.specs.Lists.{Lists}
-use Rattle.resolution.specs.Resolution.{Lookup, found, missing, Resolved, to, fails, number, buildAndVerifyPath, orItself, resolveBelow, resolveCratePath, getPackageRoot, external, checkLocalFileImportedAsExternal, resolveExternalPath, remappingFor, resolvePathInternal}
-use Rattle.resolution.specs.Resolution as R
+use Rattle.resolution.specs.Resolution.{Resolved, to, fails, number, resolvePathInternal}
+use Rattle.resolution.specs.Theorems.{isListed}
+use Rattle.resolution.specs.Theorems as theorem
 use Rattle.resolution.specs.Call.{answer, position}
 use Rattle.resolution.specs.declared.Resolution.the-variants.{File, Folder}
 use Rattle.discovery.specs.declared.Graph.{Graph}
 use Rattle.discovery.specs.Discovery.{Use, Fault, Import, faultOf, importOf, lookupFaults, validImports, resolveSingle}
-use Rattle.discovery.specs.Facts.{cond-elim, member-true, mem-snoc, id-found}
+use Rattle.discovery.specs.Facts.{member-true, mem-snoc, id-found}
 use Rattle.discovery.specs.Record.{pushedFault, pushedImport, looked, lookedUse, lookedAll, looked-faults, looked-imports}
 
 -- WHAT A USE RESOLVES TO IS LISTED
 abbrev pub Listed : Lists → Text → Type 0
-Listed b p = (member p (b .files) || member p (b .folders)) ≡ true
-
-abbrev LookupListed : Lists → Lookup → Type 0
-LookupListed b (found p rest) = Listed b p
-LookupListed b (missing m) = Unit {0}
+Listed b p = isListed b p ≡ true
 
 abbrev pub ResolvedListed : Lists → Resolved → Type 0
 ResolvedListed b (to p rest) = Listed b p
 ResolvedListed b (fails f) = Unit {0}
 
-build-listed : (b : Lists) (path : Text) (parts : List Text) → LookupListed b (buildAndVerifyPath b path parts)
-unfolding buildAndVerifyPath
-build-listed b path [] = tt
-build-listed b path (part ∷ parts) =
-    cond-elim (LookupListed b) (member (child path part) (b .folders))
-    (λ e. build-listed b (child path part) parts)
-    (λ e. cond-elim (LookupListed b) (member (childFile path part) (b .files) || member (childFile path part) (b .folders)) (λ h. h) (λ h. tt))
-
-module _ (b : Lists) (file : Text) (known : member file (b .files) ≡ true) where
-  itself-listed : (root : Text) (parts : List Text) (x : Lookup) → LookupListed b x → ResolvedListed b (orItself root file parts x)
-  itself-listed root parts (found p rest) h = h
-  itself-listed root parts (missing m) h = cond-elim (ResolvedListed b) (directlyIn file root) (λ e. rw known) (λ e. tt)
-
-  crate-listed : (parts : List Text) (x : Option Text) → ResolvedListed b (resolveBelow b file parts x)
-  crate-listed parts none = tt
-  crate-listed parts (some root) = itself-listed root parts (buildAndVerifyPath b root parts) (build-listed b root parts)
-
-  external-listed : (x : Lookup) → LookupListed b x → ResolvedListed b (external b file x)
-  external-listed (found p rest) h = cond-elim (ResolvedListed b) (checkLocalFileImportedAsExternal b file p) (λ e. tt) (λ e. h)
-  external-listed (missing m) h = tt
-
-  library-listed : (parts : List Text) (x : Option Remapping) → ResolvedListed b (resolveExternalPath b file parts x)
-  library-listed parts none = tt
-  library-listed parts (some r) = external-listed (buildAndVerifyPath b (r .target) parts) (build-listed b (r .target) parts)
-
-  pub resolved-listed : (segments : List Text) → ResolvedListed b (resolvePathInternal b file segments)
-  unfolding resolvePathInternal resolveCratePath
-  resolved-listed [] = tt
-  resolved-listed (name ∷ parts) =
-      cond-elim (ResolvedListed b) (isCrate name) (λ e. crate-listed parts (getPackageRoot b file)) (λ e. library-listed parts (remappingFor b file name))
+pub resolved-listed : (b : Lists) (file : Text) → member file (b .files) ≡ true → (segments : List Text) → ResolvedListed b (resolvePathInternal b file segments)
+unfolding resolvePathInternal
+resolved-listed b file known [] = tt
+resolved-listed b file known (name ∷ parts) = go (resolvePathInternal b file (name ∷ parts)) refl
+  where
+    go : (r : Resolved) → resolvePathInternal b file (name ∷ parts) ≡ r → ResolvedListed b r
+    go (to p rest) e = theorem.resolved-listed b file parts p rest name e (rw known)
+    go (fails f) e = tt
 
 -- THE RECORD'S FAULTS AND IMPORTS
 abbrev fault : ℕ → ℕ → Fault

@@ -13,7 +13,7 @@ use borrow.Author.Tests.{eq-eqb, ne-eqb}
 use Rattle.bundle.specs.Bundle.{Items, none, named, use-of, module-of, ignored, File, Bundle}
 use Rattle.bundle.specs.Form.{Every, IsName, Formed, FormedFile, WellFormed}
 use Rattle.bundle.specs.Members.{every-mem}
-use Rattle.bundle.specs.Limits.{depth-limit, use-limit, use-kind, module-kind}
+use Rattle.bundle.specs.Limits.{file-size, depth-limit, use-limit, use-kind, module-kind}
 use Rattle.bundle.specs.Scan.{byte, text}
 use Rattle.bundle.specs.Decode.{each, counted, after, afterLength, itemsAt}
 use Rattle.bundle.specs.Access.{insideOf, items-end, items-step, by-kind, kindOf, restOf, innerOf, first-kind, first-rest, first-inner, first-segments, segmentsOf}
@@ -101,7 +101,7 @@ module _ (s : List ℕ) where
 -- THE TWO FUNCTIONS
 -- positions that the sums of the code cannot pass
 abbrev pub Small : ℕ → ℕ → Type 0
-Small at depth = at + depth * 66000 < 2 ^ 58
+Small at depth = at + depth * file-size < 2 ^ 58
 
 -- the uses of the items passed, and those that are left
 pub record SoFar (depth : ℕ) (s : List ℕ) (end : ℕ) (u w : Uses) (at a : ℕ) : Type 0 where

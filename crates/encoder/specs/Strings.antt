@@ -9,6 +9,8 @@ use lib.Seq.{take-suc, take-length, drop-set-lt, length-take-le}
 use Rattle.names.specs.Bytes.{ascii}
 use Rattle.names.specs.Decimal.{unitName}
 use Rattle.bundle.specs.Bundle.{Text}
+use Rattle.bundle.specs.Limits.{capacity}
+use Rattle.bundle.specs.declared.Width.the-variants.{Byte}
 use Rattle.bundle.specs.Encode.{string, joined, element}
 use Rattle.bundle.specs.Scan.{byte, text}
 use Rattle.bundle.specs.Stand.{Bytes}
@@ -22,7 +24,7 @@ unfoldable pub stringBytes : List ℕ → ℕ → ℕ → List ℕ
 stringBytes s n first = joined string (stringsAt s n first)
 
 -- a string that was read is short
-pub text-short : (s : List ℕ) → Bytes s → (at : ℕ) → length (text s at) < 256
+pub text-short : (s : List ℕ) → Bytes s → (at : ℕ) → length (text s at) < capacity Byte
 text-short s B at = let b = B at in omega (arith, length-take (byte s at) (drop (at + 1) s))
 
 -- from the i-th of n on

@@ -3,6 +3,8 @@ ghost use mathlib.Core.Path.{_≡_};
 ghost use Prim.Native.Nat.{_+_, _*_, _/_, _%_, _<_, _≤_, _^_};
 ghost use mathlib.Core.List.{_++_};
 ghost use lib.ListN.{length, set, drop};
+ghost use Rattle.bundle.specs.Limits.{capacity, string-size};
+ghost use Rattle.bundle.specs.declared.Width.the-variants.{Byte, Word};
 ghost use Rattle.bundle.specs.Encode.{string};
 ghost use Rattle.bundle.specs.Decode.{after, far};
 ghost use Rattle.order.specs.Writing.{started};
@@ -18,7 +20,7 @@ pub fn put(out: &mut [u8], at: usize, v: usize)
 
 // A number in two bytes.
 pub fn put_two(out: &mut [u8], at: usize, v: usize)
-    requires { ⌜ (at + 2 ≤ length (now out)) × (v < 65536) ⌝ }
+    requires { ⌜ (at + 2 ≤ length (now out)) × (v < capacity Word) ⌝ }
     ensures { λ r. ⌜ now (out .exit) ≡ set (set (now (out .entry)) at (v / 256)) (at + 1) (v % 256) ⌝ }
 {
     put(out, at, v / 256);
@@ -27,7 +29,7 @@ pub fn put_two(out: &mut [u8], at: usize, v: usize)
 
 // An item's head: the 2-byte length of what follows, the kind and the visibility.
 pub fn put_head(out: &mut [u8], n: usize, kind: usize, visibility: usize)
-    requires { ⌜ (4 ≤ length (now out)) × ((n < 65536) × ((kind < 256) × (visibility < 256))) ⌝ }
+    requires { ⌜ (4 ≤ length (now out)) × ((n < capacity Word) × ((kind < 256) × (visibility < 256))) ⌝ }
     ensures { λ r. ⌜ now (out .exit) ≡ headBytes n kind visibility ++ drop 4 (now (out .entry)) ⌝ }
 {
     put_two(out, 0, n);
@@ -37,7 +39,7 @@ pub fn put_head(out: &mut [u8], n: usize, kind: usize, visibility: usize)
 
 // A string: its length byte, then its bytes.
 pub fn put_string(out: &mut [u8], t: &[u8]) -> usize
-    requires { ⌜ (length (now t) < 256) × (1 + length (now t) ≤ length (now out)) ⌝ }
+    requires { ⌜ (length (now t) < capacity Byte) × (1 + length (now t) ≤ length (now out)) ⌝ }
     ensures { λ r. ⌜ (r ≡ length (string (now (t .entry)))) × (now (out .exit) ≡ started (string (now (t .entry))) (now (out .entry))) ⌝ }
 {
     let n = t.len();
@@ -70,7 +72,7 @@ pub fn put_strings(s: &[u8], first: usize, n: usize, out: &mut [u8]) -> usize
 // How many bytes n strings of s from `first` on take.
 pub fn strings_length(s: &[u8], first: usize, n: usize) -> usize
     requires { ⌜ (first < 2 ^ 60) × (n < 1024) ⌝ }
-    ensures { λ r. ⌜ (r ≡ length (stringBytes (now (s .entry)) n first)) × (r ≤ 256 * n) ⌝ }
+    ensures { λ r. ⌜ (r ≡ length (stringBytes (now (s .entry)) n first)) × (r ≤ string-size * n) ⌝ }
 {
     let mut at = first;
     let mut a = 0;
@@ -86,7 +88,7 @@ pub fn strings_length(s: &[u8], first: usize, n: usize) -> usize
 // Past n strings of s from `first` on.
 pub fn strings_end(s: &[u8], first: usize, n: usize) -> usize
     requires { ⌜ (first < 2 ^ 59) × (n < 1024) ⌝ }
-    ensures { λ r. ⌜ (r ≡ far (after (now (s .entry))) n first) × (r ≤ first + 256 * n) ⌝ }
+    ensures { λ r. ⌜ (r ≡ far (after (now (s .entry))) n first) × (r ≤ first + string-size * n) ⌝ }
 {
     let mut at = first;
     let mut i = 0;

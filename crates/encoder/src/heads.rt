@@ -5,7 +5,8 @@ ghost use mathlib.Core.List.{_∷_, _++_};
 ghost use lib.ListN.{length, take};
 ghost use Rattle.names.specs.Decimal.{unitName};
 ghost use Rattle.bundle.specs.Encode.{string};
-ghost use Rattle.bundle.specs.Limits.{module-kind};
+ghost use Rattle.bundle.specs.Limits.{capacity, module-kind};
+ghost use Rattle.bundle.specs.declared.Width.the-variants.{Byte};
 ghost use Rattle.order.specs.Writing.{started};
 use crate::bytes::put;
 use crate::bytes::put_string;
@@ -13,7 +14,7 @@ use bundle::limits::MODULE;
 
 // The start of an item but for its length: the kind, the visibility and the name.
 pub fn put_start(out: &mut [u8], kind: usize, visibility: usize, name: &[u8]) -> usize
-    requires { ⌜ ((kind < 256) × (visibility < 256)) × ((length (now name) < 256) × (4 + length (string (now name)) ≤ length (now out))) ⌝ }
+    requires { ⌜ ((kind < 256) × (visibility < 256)) × ((length (now name) < capacity Byte) × (4 + length (string (now name)) ≤ length (now out))) ⌝ }
     ensures { λ r. ⌜ (r ≡ 4 + length (string (now (name .entry)))) × (now (out .exit) ≡ started (take 2 (now (out .entry)) ++ (kind ∷ visibility ∷ string (now (name .entry)))) (now (out .entry))) ⌝ }
 {
     put(out, 2, kind);

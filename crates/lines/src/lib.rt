@@ -1,6 +1,16 @@
-// Lines and words of a text, and parts led by their length, for the programs that replay stored answers.
+// Lines and words of a text, parts led by their length, and what is written of a refusal and of a report, for the programs that
+// replay stored answers.
+mod report;
+
 ghost use Prim.Native.Nat.{_+_, _<_, _≤_, _^_};
 ghost use lib.ListN.{length};
+pub use report::is_ring;
+pub use report::tell_faults;
+pub use report::tell_refusal;
+pub use report::tell_ring;
+
+// The number of a report that has a ring.
+pub const RING: u8 = 26;
 
 // Where the first byte `stop` from `at` on is, or the end.
 pub fn end_of(s: &[u8], at: usize, stop: u8) -> usize
@@ -41,6 +51,17 @@ pub fn digit(b: u8) -> u8
     }
     if b <= 102 {
         return b - 87;
+    }
+    0
+}
+
+// A hexadecimal digit; 0 of what is none.
+pub fn hex_digit(n: u8) -> u8 {
+    if n < 10 {
+        return 48 + n;
+    }
+    if n < 16 {
+        return 87 + n;
     }
     0
 }

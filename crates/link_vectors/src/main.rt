@@ -1,12 +1,12 @@
 // Links stored bundles: standard input has each led by its length in 4 bytes, big-endian. For each the lines of the printing program
 // are written, the image in hexadecimal where there is one, and a line `--`.
 ghost use Prim.Native.Nat.{_<_, _^_};
+use printing::IMAGE;
+use printing::REPORT;
+use printing::TEXT;
 
 // No bundle that is longer is stored.
 const SIZE: usize = 131072;
-
-// Room for the lines of any bundle, and for the longest image.
-const TEXT: usize = 440000;
 
 fn wide(b: u8) -> usize
     ensures { λ r. ⌜ r < 256 ⌝ }
@@ -28,24 +28,13 @@ fn read_some(buffer: &mut [u8], n: usize) -> usize {
     0
 }
 
-// A hexadecimal digit; 0 of what is none.
-fn digit(n: u8) -> u8 {
-    if n < 10 {
-        return 48 + n;
-    }
-    if n < 16 {
-        return 87 + n;
-    }
-    0
-}
-
 // A line `image` and the bytes in hexadecimal.
 fn put_image(out: &mut [u8], image: &[u8]) -> usize {
     let mut to = text::put_bytes(out, 0, b"image ");
     let mut i = 0;
     while i < image.len() {
-        to = text::put(out, to, digit(image[i] / 16));
-        to = text::put(out, to, digit(image[i] % 16));
+        to = text::put(out, to, lines::hex_digit(image[i] / 16));
+        to = text::put(out, to, lines::hex_digit(image[i] % 16));
         i += 1;
     }
     text::put(out, to, 10)
@@ -53,8 +42,8 @@ fn put_image(out: &mut [u8], image: &[u8]) -> usize {
 
 // The image of a bundle in hexadecimal, where it is linked; answers how many bytes that is.
 fn tell_image(s: &[u8], out: &mut [u8]) -> usize {
-    let mut report = [0u8; 4096];
-    let mut image = [0u8; 65538];
+    let mut report = [0u8; REPORT];
+    let mut image = [0u8; IMAGE];
     let r = linker::link(s, &mut report, &mut image, scopes::empty());
     let n = r.answer.image;
     if n == 0 {

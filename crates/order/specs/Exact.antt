@@ -9,7 +9,8 @@ use lib.ListN.{length, length-append, length-drop, length-map}
 use Rattle.names.specs.Bytes.{same}
 use Rattle.bundle.specs.Bundle.{Text, Items, none, named, use-of, module-of, ignored, File, Bundle}
 use Rattle.bundle.specs.Encode.{two, string, counted, element, sized, fields, encode}
-use Rattle.bundle.specs.Limits.{file-limit}
+use Rattle.bundle.specs.Limits.{capacity, file-limit}
+use Rattle.bundle.specs.declared.Width.the-variants.{Word}
 use Rattle.bundle.specs.Form.{WellFormed}
 use Rattle.bundle.specs.Marks.{Begins, Found, FoundFiles}
 use Rattle.bundle.specs.Theorems.{marks-are-offsets}
@@ -74,7 +75,7 @@ encode-length b = omega arith
 
 -- THE BYTES
 module _ (b : Bundle) (w : WellFormed b) where
-  pub place-small : (f : Fault) → List·Memᴰ f (faultsOf b) → f .place < 65536
+  pub place-small : (f : Fault) → List·Memᴰ f (faultsOf b) → f .place < capacity Word
   place-small f m =
       let a = fault-told b f m in
       let e = a .place in

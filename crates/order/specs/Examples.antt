@@ -11,7 +11,7 @@ use Rattle.names.specs.Keywords.{isCrate}
 use Rattle.bundle.specs.Bundle.{Text, Items, none, use-of, Bundle}
 use Rattle.resolution.specs.Lists.{listsOf}
 use Rattle.resolution.specs.Longest.{insert, longestFirst, firstOf}
-use Rattle.resolution.specs.Resolution.{to, getPackageRoot, applies, remappingFor, buildAndVerifyPath, resolveCratePath, checkLocalFileImportedAsExternal, resolvePathInternal}
+use Rattle.resolution.specs.Resolution.{to, getPackageRoot, applies, remappingFor, isFolder, isFile, buildAndVerifyPath, resolveCratePath, checkLocalFileImportedAsExternal, resolvePathInternal}
 use Rattle.resolution.specs.Call.{position}
 use Rattle.discovery.specs.Discovery.{Use, uses, programOf, useCache, lookupFaults, validImports, holds, addOnce, load, loadAll, turn, turns, discoverDependencies}
 use Rattle.discovery.specs.Facts.{pathsAt}
@@ -65,7 +65,7 @@ record Computed : Type 0 where
   fault : ordered with-fault ≡ faulty (record { number = 21; place = 7 } ∷ [])
 
 computed : Computed
-unfolding ascii same member split onto components directlyIn startsWith begins child childFile stemOf isCrate insert longestFirst firstOf getPackageRoot applies remappingFor buildAndVerifyPath resolveCratePath checkLocalFileImportedAsExternal resolvePathInternal position uses programOf useCache lookupFaults validImports holds addOnce load loadAll turn turns discoverDependencies linearize visit each memb from ordered pathsAt
+unfolding ascii same member split onto components directlyIn startsWith begins child childFile stemOf isCrate insert longestFirst firstOf getPackageRoot applies remappingFor isFolder isFile buildAndVerifyPath resolveCratePath checkLocalFileImportedAsExternal resolvePathInternal position uses programOf useCache lookupFaults validImports holds addOnce load loadAll turn turns discoverDependencies linearize visit each memb from ordered pathsAt
 computed = record { order = refl; order-files = refl; its-uses = refl; itself = refl; ring = refl; ring-files = refl; fault = refl }
 
 -- two files in order

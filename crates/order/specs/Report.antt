@@ -9,6 +9,8 @@ use lib.Dec.{leb, eqb}
 use lib.ListN.{length, take, drop, length-append, length-map, length-drop}
 use lib.Seq.{take-at, drop-at}
 use borrow.Author.Tests.{leb-true, leb-false, le-leb, lt-leb, ne-eqb}
+use Rattle.bundle.specs.Limits.{capacity}
+use Rattle.bundle.specs.declared.Width.the-variants.{Word}
 use Rattle.bundle.specs.Encode.{two, joined}
 use Rattle.discovery.specs.Discovery.{Fault}
 use Rattle.order.specs.Outcome.{Outcome, faulty, closed, ended, result}
@@ -143,7 +145,7 @@ unfolding reportLength
 nothing-lent out = let f = fits [] out (omega arith) in f .rest
 
 -- a place of a bundle is the two bytes of the bundle's own numbers, and an id of a unit is its byte
-pub place-bytes : (p : ℕ) → p < 65536 → placeBytes p ≡ two p
+pub place-bytes : (p : ℕ) → p < capacity Word → placeBytes p ≡ two p
 unfolding two
 place-bytes p h = let q : p / 256 < 256 = div-lt-iff-lt-mul {k = 256} {x = p} {y = 256} (omega arith) .1 (omega arith) in rw (mod-eq-of-lt q)
 

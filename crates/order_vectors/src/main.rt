@@ -1,20 +1,10 @@
 // Replays stored bundles as the oracle's mode `--discover` does (docs/ORACLE.md): standard input has each led by its length in 4
 // bytes, big-endian. For each the units with their lists and the linked order or the ring are written, or a line for each fault.
-ghost use Prim.Native.Nat.{_<_};
-ghost use lib.ListN.{length};
 ghost use mathlib.Core.Path.{_≡_};
 ghost use Rattle.bundle.specs.Read.{verdict};
 ghost use Rattle.bundle.specs.declared.Checked.the-variants.{Ok};
 use bundle::Checked;
 use discovery::UNITS;
-
-const RING: u8 = 26;
-
-fn wide(b: u8) -> u64
-    ensures { λ r. ⌜ r < 256 ⌝ }
-{
-    b as u64
-}
 
 fn id(x: u16) -> u64 {
     x as u64
@@ -22,46 +12,6 @@ fn id(x: u16) -> u64 {
 
 fn count(x: u16) -> usize {
     x as usize
-}
-
-// The byte at `at`; 0 where there is none.
-fn byte(s: &[u8], at: usize) -> u8 {
-    if at < s.len() {
-        return s[at];
-    }
-    0
-}
-
-fn tell_refusal(n: u8, p: u64) {
-    io::write_all(1, b"no ");
-    io::print_decimal(1, n as u64);
-    io::write_all(1, b" ");
-    io::print_decimal(1, p);
-    io::write_all(1, b"\n");
-}
-
-// A report of faults.
-fn tell_faults(report: &[u8]) {
-    let mut at = 0;
-    while at < report.len() {
-        tell_refusal(
-            byte(report, at),
-            wide(byte(report, at + 1)) * 256 + wide(byte(report, at + 2)),
-        );
-        at += 3;
-    }
-}
-
-// The ids of a ring, in its record.
-fn tell_ring(report: &[u8]) {
-    io::write_all(1, b"ring");
-    let mut at = 4;
-    while at < report.len() {
-        io::write_all(1, b" ");
-        io::print_decimal(1, wide(byte(report, at)));
-        at += 1;
-    }
-    io::write_all(1, b"\n");
 }
 
 // So many ids from `first` on.
@@ -113,7 +63,7 @@ fn tell_order(s: &[u8], report: &mut [u8; 1024])
 {
     let a = order::order(s, report);
     if a.number != 0 {
-        tell_refusal(a.number, a.place as u64);
+        lines::tell_refusal(a.number, a.place);
         return;
     }
     let told = lines::part(report, 0, a.report);
@@ -124,12 +74,12 @@ fn tell_order(s: &[u8], report: &mut [u8; 1024])
         io::write_all(1, b"\n");
         return;
     }
-    if byte(told, 0) == RING {
+    if lines::is_ring(told) {
         tell_units(s);
-        tell_ring(told);
+        lines::tell_ring(told);
         return;
     }
-    tell_faults(told);
+    lines::tell_faults(told);
 }
 
 fn tell(s: &[u8]) {
@@ -140,7 +90,7 @@ fn tell(s: &[u8]) {
             tell_order(s, &mut report);
         }
         Checked::Refused(n, p) => {
-            tell_refusal(n, p as u64);
+            lines::tell_refusal(n, p);
         }
     }
 }

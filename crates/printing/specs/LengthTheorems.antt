@@ -54,6 +54,7 @@ use Rattle.printing.specs.ReadTheorems.{verdict-enough}
 use Rattle.printing.specs.DepthTheorems.{Limited, Declares, AllDeclare, tree-limited}
 use Rattle.printing.specs.Room.{discovery-few, step5-few, read-roomy}
 use Rattle.printing.specs.Lengths.{width-fits, five-digits, one-fits, faults-fit, ring-fits, linked-fits}
+use Rattle.printing.specs.Sizes.{text-size}
 
 -- KINDS AND MARKS of a program's calls
 abbrev pub Small : ℕ → ℕ → Type 0
@@ -288,7 +289,7 @@ printed-short s B = go (read s) refl
     go (value b) e = outcome-fits s B b e
 
 -- so the program's buffer of 440,000 bytes has room for it
-pub printed-fits : (s : List ℕ) → Bytes s → length (printed s) ≤ 440000
+pub printed-fits : (s : List ℕ) → Bytes s → length (printed s) ≤ text-size
 printed-fits s B = omega (arith, printed-short s B)
 
 -- and holds all of it once it is written there

@@ -1,5 +1,6 @@
--- DEFINITIONS: the printed lines
+-- DEFINITIONS: the printed lines; the sizes of the program's arrays
 pub mod Lines
+pub mod Sizes
 -- THEOREMS to cite: the lines of what the linker answers are these, of any bytes; the printed case; how long the text is; what is read
 pub mod Whole
 pub mod PrintedCase

@@ -18,7 +18,7 @@ use Rattle.bundle.specs.Conflicts.{placedAt, placedRemappingAt, any, listed, lo
 use Rattle.bundle.specs.Conflicts as conflict
 use Rattle.bundle.specs.Read.{form, lists, files, verdict, read}
 use Rattle.resolution.specs.Longest.{insert, longestFirst, firstOf}
-use Rattle.resolution.specs.Resolution.{getPackageRoot, applies, remappingFor, buildAndVerifyPath, resolveCratePath, checkLocalFileImportedAsExternal, resolvePathInternal}
+use Rattle.resolution.specs.Resolution.{getPackageRoot, applies, remappingFor, isFolder, isFile, buildAndVerifyPath, resolveCratePath, checkLocalFileImportedAsExternal, resolvePathInternal}
 use Rattle.resolution.specs.Call.{position}
 use Rattle.discovery.specs.Discovery.{uses, programOf, useCache, lookupFaults, validImports, holds, addOnce, load, loadAll, turn, turns, discoverDependencies}
 use Rattle.graph.specs.Linearize.{linearize, visit, memb, from}
@@ -53,5 +53,5 @@ text-of (s ∷ l) = ascii s ++ (10 ∷ text-of l)
 pub printed-case : (length (encode (of-files (main-file ∷ a-file ∷ []))) ≡ 71)
     × (printed (encode (of-files (main-file ∷ a-file ∷ []))) ≡ text-of ("ok 2" ∷ "unit 1 /r/a.simf" ∷ "unit 0 /r/main.simf" ∷ "has crate::unit_1 2 f 65" ∷ "has crate::unit_0 2 f 65" ∷ "has crate::unit_0 2 main 44" ∷ []))
     × (printed (encode (of-files (main-file ∷ []))) ≡ text-of ("no 41 27" ∷ []))
-unfolding line lines bytes-of spelled module-path has-lines outcome-lines reading-lines printed text-of ascii encode fields sized two string counted joined remapping file items element read verdict form lists files scanHeader scanString scanFormed scanCount scanList times scanField scanFiles scanFile scanLength siblings scanItemWith scanModule scanHead scanMark scanBody scanUse scanAlias scanEnd isPath isIdentifier class letter digit all same components split onto wellFormed isComponent conflicts listed located conflict.named remapped sameRemapping placedAt placedRemappingAt each far any member directlyIn startsWith begins child childFile stemOf isCrate isKeyword keywords decode fileAt itemsAt itemsBy itemAt elementAt remappingAt insert longestFirst firstOf getPackageRoot applies remappingFor buildAndVerifyPath resolveCratePath checkLocalFileImportedAsExternal resolvePathInternal uses programOf useCache lookupFaults validImports position holds addOnce load loadAll turn turns discoverDependencies ordered linearize visit graph.each memb from digits decimal unitName rewriteUse rewriteItems localItems assembled enumDeclarations forbidEnumDecInDeps hasMain mainFaults assemblyFaults linearizeAndAssemble isMain word packed sameName shared any-main nav tree.element stage step look stack-names request.string after-strings names-from local-name elements-from string-fault names-fault elements-fault after-elements rest-fault use-fault use-call call-of scopeCalls walkFrom scopeWalk linkBundle itemsLength segmentsLength elementsLength
+unfolding line lines bytes-of spelled module-path has-lines outcome-lines reading-lines printed text-of ascii encode fields sized two string counted joined remapping file items element read verdict form lists files scanHeader scanString scanFormed scanCount scanList times scanField scanFiles scanFile scanLength siblings scanItemWith scanModule scanHead scanMark scanBody scanUse scanAlias scanEnd isPath isIdentifier class letter digit all same components split onto wellFormed isComponent conflicts listed located conflict.named remapped sameRemapping placedAt placedRemappingAt each far any member directlyIn startsWith begins child childFile stemOf isCrate isKeyword keywords decode fileAt itemsAt itemsBy itemAt elementAt remappingAt insert longestFirst firstOf getPackageRoot applies remappingFor isFolder isFile buildAndVerifyPath resolveCratePath checkLocalFileImportedAsExternal resolvePathInternal uses programOf useCache lookupFaults validImports position holds addOnce load loadAll turn turns discoverDependencies ordered linearize visit graph.each memb from digits decimal unitName rewriteUse rewriteItems localItems assembled enumDeclarations forbidEnumDecInDeps hasMain mainFaults assemblyFaults linearizeAndAssemble isMain word packed sameName shared any-main nav tree.element stage step look stack-names request.string after-strings names-from local-name elements-from string-fault names-fault elements-fault after-elements rest-fault use-fault use-call call-of scopeCalls walkFrom scopeWalk linkBundle itemsLength segmentsLength elementsLength
 printed-case = (refl, refl, refl)

@@ -32,6 +32,7 @@ use Rattle.assembly.specs.Theorems.{assembly, FaultsFrom, of-discovery, of-step
 use Rattle.linker.specs.Link.{faulty, linkBundle}
 use Rattle.linker.specs.Theorems.{faults-only}
 use Rattle.printing.specs.Reported.{faults-length}
+use Rattle.printing.specs.Sizes.{report-size}
 
 -- DISCOVERY: each use fails or is an import
 one-each : (m : ℕ) (x : Resolved) → length (faultOf m x) + length (importOf m x) ≡ 1
@@ -132,10 +133,10 @@ pub read-roomy : (s : List ℕ) → Bytes s → (b : Bundle) → read s ≡ valu
 unfolding read
 read-roomy s B b v = let q = value-ok (verdict s) _ b v in subst Roomy (q .1) (bytes-roomy s B (q .0))
 
--- A REPORT OF FAULTS FITS IN 4,096 BYTES: 3 bytes a fault
-pub report-fits : (s : List ℕ) → Bytes s → (b : Bundle) → read s ≡ value b → (l : List Fault) → linkBundle b ≡ faulty l → reportLength (map fault l) ≤ 4096
+-- A REPORT OF FAULTS FITS in the program's: 3 bytes a fault
+pub report-fits : (s : List ℕ) → Bytes s → (b : Bundle) → read s ≡ value b → (l : List Fault) → linkBundle b ≡ faulty l → reportLength (map fault l) ≤ report-size
 report-fits s B b v l e = go (faults-only s b v l e .from)
   where
-    go : FaultsFrom b l → reportLength (map fault l) ≤ 4096
+    go : FaultsFrom b l → reportLength (map fault l) ≤ report-size
     go (of-discovery q) = let z = ap length q in omega (arith, faults-length l, discovery-few b (read-roomy s B b v))
     go (of-step5 o h q) = let z = ap length q in omega (arith, faults-length l, step5-few b (sound s B b v .1) o h)

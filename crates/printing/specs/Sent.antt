@@ -12,6 +12,7 @@ use Rattle.printing.specs.Lines.{reading-lines, printed}
 use Rattle.printing.specs.Answers.{Shows}
 use Rattle.printing.specs.ReadTheorems.{read-enough}
 use Rattle.printing.specs.LengthTheorems.{printed-fits}
+use Rattle.printing.specs.Sizes.{text-size, read-size}
 
 -- there are so many
 pub told-counts : (ls : List (List Text)) (o o₁ : List ℕ) (r : ℕ) → Shows ls o o₁ r → (r ≤ length o₁) × (r ≡ length (take r o₁))
@@ -34,10 +35,10 @@ sent-whole s o o₁ r room x =
     let n : r ≡ length w = x .1 ∙ a .1 in
     ap (take r) e ∙ (take-append-le r w (drop (length w) o) (omega arith) ∙ take-all r w (omega arith))
 
--- THE PROGRAM: of a file of whatever bytes it reads the first 66,048, and its buffer has 440,000 bytes. What it sends is all that is
--- printed of the file
-pub program-sends : (s : List ℕ) → Bytes s → (o₁ : List ℕ) (r : ℕ) → Shows (reading-lines (read (take 66048 s))) (replicate 440000 0) o₁ r → take r o₁ ≡ printed s
+-- THE PROGRAM: of a file of whatever bytes it reads the first read-size, and its buffer has text-size. What it sends is all that
+-- is printed of the file
+pub program-sends : (s : List ℕ) → Bytes s → (o₁ : List ℕ) (r : ℕ) → Shows (reading-lines (read (take read-size s))) (replicate text-size 0) o₁ r → take r o₁ ≡ printed s
 program-sends s B o₁ r x =
-    sent-whole s (replicate 440000 0) o₁ r
-    (omega (arith, printed-fits s B, length-replicate {A = ℕ} 440000 0))
-    (subst (λ (z : Reading). Shows (reading-lines z) (replicate 440000 0) o₁ r) (read-enough s B 66048 (omega arith)) x)
+    sent-whole s (replicate text-size 0) o₁ r
+    (omega (arith, printed-fits s B, length-replicate {A = ℕ} text-size 0))
+    (subst (λ (z : Reading). Shows (reading-lines z) (replicate text-size 0) o₁ r) (read-enough s B read-size (omega arith)) x)

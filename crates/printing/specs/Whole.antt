@@ -58,6 +58,7 @@ use Rattle.printing.specs.Reports.{ReportAt, lines-append}
 use Rattle.printing.specs.Reported.{Tellable, faults-length, faults-reported, ring-length, ring-reported}
 use Rattle.printing.specs.Room.{report-fits}
 use Rattle.printing.specs.Answers.{LinkedLines, Lined, AnswerLines}
+use Rattle.printing.specs.Sizes.{report-size, image-size}
 
 -- a number and a place alone
 number-alone : (s : List ℕ) (n p : ℕ) (rep : List ℕ) (T : Tree → Type 0) → Lined s (refusing n p) rep T (no-line n p ∷ [])
@@ -167,7 +168,7 @@ reported-lines s rs rep T ls h some x =
     (record { linked = λ k. absurd (k refl); report = λ e k. x; number = λ e k. absurd (omega arith) })
 
 -- OF ACCEPTED BYTES, in buffers of the program's sizes
-module _ (s : List ℕ) (B : Bytes s) (rep img : List ℕ) (rep-size : length rep ≡ 4096) (img-size : length img ≡ 65538) (t : Tree) (v : verdict s ≡ Ok) where
+module _ (s : List ℕ) (B : Bytes s) (rep img : List ℕ) (rep-size : length rep ≡ report-size) (img-size : length img ≡ image-size) (t : Tree) (v : verdict s ≡ Ok) where
   well : WellFormed (decode s)
   well = sound s B (decode s) (accepted s v) .1
 
@@ -240,7 +241,7 @@ module _ (s : List ℕ) (B : Bytes s) (rep img : List ℕ) (rep-size : length re
   accepted-lines = rw (accepted s v) (due (linkBundle (decode s)) refl)
 
 -- THE LINES OF THE ANSWER for any bytes, in a report buffer of 4,096 bytes and an image buffer of 65,538, are document 01's
-pub answer-lines-in : (s : List ℕ) → Bytes s → (rep img : List ℕ) → length rep ≡ 4096 → length img ≡ 65538 → (t : Tree) → AnswerLines s rep img t (reading-lines (read s))
+pub answer-lines-in : (s : List ℕ) → Bytes s → (rep img : List ℕ) → length rep ≡ report-size → length img ≡ image-size → (t : Tree) → AnswerLines s rep img t (reading-lines (read s))
 answer-lines-in s B rep img hr hi t = go (verdict s) refl
   where
     go : (c : Checked) → verdict s ≡ c → AnswerLines s rep img t (reading-lines (read s))
@@ -248,5 +249,5 @@ answer-lines-in s B rep img hr hi t = go (verdict s) refl
     go (Refused n p) v = turned-back s rep img t n p (told s n p v)
 
 -- in the program's buffers
-pub answer-lines : (s : List ℕ) → Bytes s → AnswerLines s (replicate 4096 0) (replicate 65538 0) cleared (reading-lines (read s))
-answer-lines s B = answer-lines-in s B (replicate 4096 0) (replicate 65538 0) (length-replicate {A = ℕ} 4096 0) (length-replicate {A = ℕ} 65538 0) cleared
+pub answer-lines : (s : List ℕ) → Bytes s → AnswerLines s (replicate report-size 0) (replicate image-size 0) cleared (reading-lines (read s))
+answer-lines s B = answer-lines-in s B (replicate report-size 0) (replicate image-size 0) (length-replicate {A = ℕ} report-size 0) (length-replicate {A = ℕ} image-size 0) cleared

@@ -8,12 +8,14 @@ mod report;
 mod tree;
 mod units;
 
-// The longest report: 1,025 faults. The longest image.
-const REPORT: usize = 4096;
+// Room for the longest report: 1,025 faults. The longest image. Room for the longest text.
+pub const REPORT: usize = 4096;
 
-const IMAGE: usize = 65538;
+pub const IMAGE: usize = 65538;
 
-// All that is printed of a bundle, written at the start of the buffer; answers how many bytes that is. 440,000 bytes are enough for
+pub const TEXT: usize = 440000;
+
+// All that is printed of a bundle, written at the start of the buffer; answers how many bytes that is. TEXT bytes are enough for
 // every bundle; a shorter buffer has as much as there is room for.
 pub fn tell(s: &[u8], out: &mut [u8]) -> usize
     ensures { λ r. ⌜ Shows (reading-lines (read (now (s .entry)))) (now (out .entry)) (now (out .exit)) r ⌝ }

@@ -20,7 +20,7 @@ use Rattle.bundle.specs.Read.{value, read}
 use Rattle.bundle.specs.Members.{member-true}
 use Rattle.bundle.specs.AcceptedTheorems.{Accepted, accepted-read}
 use Rattle.resolution.specs.Lists.{Lists, listsOf}
-use Rattle.resolution.specs.Resolution.{packageRoots, getPackageRoot, remappingFor, Lookup, found, missing, buildAndVerifyPath, to, fails, ownFile, orItself, resolveBelow, resolveCratePath, sameRoot, checkLocalFileImportedAsExternal, external, resolveExternalPath, resolvePathInternal}
+use Rattle.resolution.specs.Resolution.{packageRoots, getPackageRoot, remappingFor, Lookup, found, missing, isFolder, isFile, buildAndVerifyPath, to, fails, ownFile, orItself, resolveBelow, resolveCratePath, sameRoot, checkLocalFileImportedAsExternal, external, resolveExternalPath, resolvePathInternal}
 use Rattle.resolution.specs.Theorems.{Same, Taken, taken, none-taken, Distinct, taken-in-any-order, Rooted, rooted, none-rooted, rooted-in-any-order, same-roots, Paths, isListed, baseOf, resolved-listed, resolved-below}
 use Rattle.resolution.specs.Theorems as theorem
 
@@ -109,7 +109,7 @@ rooted-exactly b file w p = (rooted b file p, λ t. go t (getPackageRoot b file)
 
 -- IN WHATEVER ORDER
 lookup-order : (b : Lists) (k : List Remapping) (base : Text) (parts : List Text) → buildAndVerifyPath (reordered b k) base parts ≡ buildAndVerifyPath b base parts
-unfolding buildAndVerifyPath
+unfolding buildAndVerifyPath isFolder isFile
 lookup-order b k base [] = refl
 lookup-order b k base (part ∷ parts) = rw (lookup-order b k (child base part) parts)
 

@@ -7,7 +7,7 @@ use Rattle.names.specs.Bytes.{same, member}
 use Rattle.names.specs.Path.{isPath}
 use Rattle.bundle.specs.Bundle.{Text}
 use Rattle.bundle.specs.Limits.{segment-limit}
-use Rattle.bundle.specs.Scan.{text, andThen, scanField, scanList, scanEnd}
+use Rattle.bundle.specs.Scan.{text, andThen, scanList, scanEnd}
 use Rattle.bundle.specs.Decode.{after, counted}
 use Rattle.bundle.specs.Read.{Reading, value, refused, read}
 use Rattle.bundle.specs.declared.Width.the-variants.{Byte}
@@ -29,10 +29,6 @@ abbrev pub answer : Lists → Resolved → Resolution
 answer b (to p rest) =
     cond (member p (b .files)) (File (position p (b .files)) (length rest)) (Folder (position p (b .folders)) (length rest))
 answer b (fails e) = Refused (number e) 0
-
--- a segment of a use that is handed in
-abbrev pub scanSegment : List ℕ → ℕ → Scan
-scanSegment u = scanField Name u (length u)
 
 -- a use's segments as a bundle has them: a count, and as many names; nothing after them
 unfoldable pub scanSegments : List ℕ → Scan

@@ -17,7 +17,7 @@ use Rattle.bundle.specs.Conflicts.{placedAt, placedRemappingAt, any, listed, lo
 use Rattle.bundle.specs.Conflicts as conflict
 use Rattle.bundle.specs.Read.{form, lists, files, verdict, read}
 use Rattle.resolution.specs.Longest.{insert, longestFirst, firstOf}
-use Rattle.resolution.specs.Resolution.{getPackageRoot, applies, remappingFor, buildAndVerifyPath, resolveCratePath, checkLocalFileImportedAsExternal, resolvePathInternal}
+use Rattle.resolution.specs.Resolution.{getPackageRoot, applies, remappingFor, isFolder, isFile, buildAndVerifyPath, resolveCratePath, checkLocalFileImportedAsExternal, resolvePathInternal}
 use Rattle.resolution.specs.Call.{position, scanSegments, resolveIn, resolve}
 use Rattle.resolution.specs.declared.Resolution.{Resolution}
 use Rattle.resolution.specs.declared.Resolution.the-variants.{File, Folder, Refused}
@@ -137,5 +137,5 @@ number-rows =
 
 -- THE TABLE
 pub corner-cases : map (λ r. resolve (r .bundle) (r .importer) (r .use-bytes)) (corner-rows ++ number-rows) ≡ map (λ r. r .answer) (corner-rows ++ number-rows)
-unfolding corner-rows number-rows ascii encode fields sized two string counted joined remapping file items element read verdict form lists files scanHeader scanString scanFormed scanCount scanList times scanField scanFiles scanFile scanLength siblings scanItemWith scanModule scanHead scanMark scanBody scanUse scanAlias scanEnd isPath isIdentifier class letter digit all same components split onto wellFormed isComponent conflicts listed located conflict.named remapped sameRemapping placedAt placedRemappingAt each far any member directlyIn startsWith begins child childFile stemOf isCrate isKeyword keywords decode fileAt itemsAt itemsBy itemAt elementAt remappingAt insert longestFirst firstOf getPackageRoot applies remappingFor buildAndVerifyPath resolveCratePath checkLocalFileImportedAsExternal resolvePathInternal position scanSegments resolveIn resolve
+unfolding corner-rows number-rows ascii encode fields sized two string counted joined remapping file items element read verdict form lists files scanHeader scanString scanFormed scanCount scanList times scanField scanFiles scanFile scanLength siblings scanItemWith scanModule scanHead scanMark scanBody scanUse scanAlias scanEnd isPath isIdentifier class letter digit all same components split onto wellFormed isComponent conflicts listed located conflict.named remapped sameRemapping placedAt placedRemappingAt each far any member directlyIn startsWith begins child childFile stemOf isCrate isKeyword keywords decode fileAt itemsAt itemsBy itemAt elementAt remappingAt insert longestFirst firstOf getPackageRoot applies remappingFor isFolder isFile buildAndVerifyPath resolveCratePath checkLocalFileImportedAsExternal resolvePathInternal position scanSegments resolveIn resolve
 corner-cases = refl

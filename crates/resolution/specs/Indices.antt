@@ -6,7 +6,6 @@ use mathlib.Core.Option.{Option, none, some}
 use mathlib.Core.Path.{_≡_}
 use lib.Dec.{eqb, leb, ltb}
 use lib.ListN.{length, getD}
-use Rattle.names.specs.Bytes.{member}
 use Rattle.bundle.specs.Bundle.{Text, Remapping}
 use Rattle.bundle.specs.Limits.{remapping-limit}
 use Rattle.bundle.specs.Decode.{decode}
@@ -15,7 +14,7 @@ use Rattle.card.specs.Layout.{node-limit, parentAt, contextAt, foldersOf}
 use Rattle.card.specs.Tree.{ascends}
 use Rattle.card.specs.Card.{CardIs, nodesIn}
 use Rattle.resolution.specs.Lists.{Lists, listsOf}
-use Rattle.resolution.specs.Resolution.{applies, Lookup as Resolution·Lookup, found, missing}
+use Rattle.resolution.specs.Resolution.{applies, Lookup as Resolution·Lookup, found, missing, exists}
 use Rattle.resolution.specs.declared.Choice.{Choice}
 use Rattle.resolution.specs.declared.Choice.the-variants as choice
 use Rattle.resolution.specs.declared.Lookup.{Lookup}
@@ -49,8 +48,9 @@ pub record Importer (s : List ℕ) (f : ℕ) : Type 0 where
 abbrev pub IsFolder : List ℕ → ℕ → Type 0
 IsFolder s d = d ≤ length (decode s .folders)
 
-abbrev pub isFolder : ℕ → ℕ → Bool
-isFolder i folders = not (eqb i 0) && leb i folders
+-- index i, where there are so many folders, is that of one that is listed
+abbrev pub isFolderIndex : ℕ → ℕ → Bool
+isFolderIndex i folders = not (eqb i 0) && leb i folders
 
 -- WHAT IS FOUND, where there are so many folders: which file, or which folder, and how many segments are left
 abbrev pub resolvedAt : ℕ → ℕ → ℕ → Resolution
@@ -69,7 +69,7 @@ pub record Listed (s : List ℕ) (p : Text) (t : ℕ) : Type 0 where
 -- the path t, where so many segments are left
 abbrev pub located : List ℕ → Text → ℕ → Lookup → Type 0
 located s t left (lookup.At i l) = Listed s t i × (l ≡ left)
-located s t left lookup.Nothing = (member t (listsIn s .folders) ≡ false) × (member t (listsIn s .files) ≡ false)
+located s t left lookup.Nothing = exists (listsIn s) t ≡ false
 
 -- the code's answer to a lookup
 abbrev pub Tells : List ℕ → Lookup → Resolution·Lookup → Type 0

@@ -5,7 +5,7 @@ use Rattle.bundle.specs.Bundle.{Text, Remapping, Bundle}
 pub record Lists : Type 0 where
   -- the package root of the entry
   pub root : Text
-  -- the folders but `/`, which is below no folder, so that no segment leads to it
+  -- the folders that are listed, so without `/`
   pub folders : List Text
   pub remappings : List Remapping
   pub files : List Text

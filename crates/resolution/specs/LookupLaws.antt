@@ -12,6 +12,7 @@ use Rattle.names.specs.Bytes.{ascii, same, same-eq, same-refl, member, and-left
 use Rattle.names.specs.Prefix.{child, childFile}
 use Rattle.names.specs.FolderTheorems.{Plain}
 use Rattle.bundle.specs.Bundle.{Text}
+use Rattle.bundle.specs.Limits.{string-size}
 use Rattle.bundle.specs.Form.{Every, IsName}
 use Rattle.bundle.specs.Scan.{text}
 use Rattle.bundle.specs.Decode.{each, after}
@@ -21,9 +22,9 @@ use Rattle.card.specs.Index.{Looked}
 use Rattle.card.specs.Card.{CardIs, nodesIn, sought}
 use Rattle.card.specs.Laws.{in-none, in-folders, in-files}
 use Rattle.resolution.specs.Lists.{Lists}
-use Rattle.resolution.specs.Resolution.{found, missing, buildAndVerifyPath}
-use Rattle.resolution.specs.Theorems.{segment-plain, file-plain}
-use Rattle.resolution.specs.Indices.{listsIn, pathIn, IsFolder, isFolder, Listed, located, Tells}
+use Rattle.resolution.specs.Resolution.{found, missing, isFolder, buildAndVerifyPath}
+use Rattle.resolution.specs.Theorems.{segment-plain, file-plain, isListed, folder-below, exists-below}
+use Rattle.resolution.specs.Indices.{listsIn, pathIn, IsFolder, isFolderIndex, Listed, located, Tells}
 use Rattle.resolution.specs.CardLaws.{total, folder-listed}
 use Rattle.resolution.specs.declared.Lookup.{Lookup}
 use Rattle.resolution.specs.declared.Lookup.the-variants as lookup
@@ -55,14 +56,17 @@ module _ {s c : List ℕ} (C : CardIs s c) (d : ℕ) where
   Finds t r = Looked (λ i. same (pathIn s i) t) (length (nodesIn s)) r
 
   -- a segment that is a folder's name
-  module _ (part : Text) (r : ℕ) (w : Looked (sought (nodesIn s) d (part ++ [])) (length (nodesIn s)) r) where
+  module _ (part : Text) (some-byte : 1 ≤ length part) (r : ℕ) (w : Looked (sought (nodesIn s) d (part ++ [])) (length (nodesIn s)) r) where
     there : Finds (child (pathIn s d) part) r
     there = subst (λ (x : Text). Finds (child (pathIn s d) x) r) (nothing-after part) w
 
-    entered : (r ≡ 0 → ⊥) → r ≤ length (b .folders) → (member (child (pathIn s d) part) (b .folders) ≡ true) × (pathIn s r ≡ child (pathIn s d) part)
-    entered z h = (in-folders (b .folders) (b .files) (child (pathIn s d) part) r (C .tree .once) there z h .listed, same-eq _ _ (there .holds z))
+    asked : isFolder b (child (pathIn s d) part) ≡ member (child (pathIn s d) part) (b .folders)
+    asked = folder-below b (pathIn s d) part some-byte
 
-    pub is-entered : isFolder r (length (b .folders)) ≡ true → IsFolder s r × ((member (child (pathIn s d) part) (b .folders) ≡ true) × (pathIn s r ≡ child (pathIn s d) part))
+    entered : (r ≡ 0 → ⊥) → r ≤ length (b .folders) → (isFolder b (child (pathIn s d) part) ≡ true) × (pathIn s r ≡ child (pathIn s d) part)
+    entered z h = (asked ∙ in-folders (b .folders) (b .files) (child (pathIn s d) part) r (C .tree .once) there z h .listed, same-eq _ _ (there .holds z))
+
+    pub is-entered : isFolderIndex r (length (b .folders)) ≡ true → IsFolder s r × ((isFolder b (child (pathIn s d) part) ≡ true) × (pathIn s r ≡ child (pathIn s d) part))
     is-entered e =
         let z : r ≡ 0 → ⊥ = eqb-false r 0 (not-is (eqb r 0) (and-left (not (eqb r 0)) (leb r (length (b .folders))) e)) in
         let h = leb-true _ _ (and-right (not (eqb r 0)) (leb r (length (b .folders))) e) in
@@ -72,8 +76,8 @@ module _ {s c : List ℕ} (C : CardIs s c) (d : ℕ) where
         not-is true q = sym q
         not-is false q = refl
 
-    pub not-entered : isFolder r (length (b .folders)) ≡ false → member (child (pathIn s d) part) (b .folders) ≡ false
-    not-entered e = go (eqb r 0) refl (leb r (length (b .folders))) refl e
+    pub not-entered : isFolderIndex r (length (b .folders)) ≡ false → isFolder b (child (pathIn s d) part) ≡ false
+    not-entered e = asked ∙ go (eqb r 0) refl (leb r (length (b .folders))) refl e
       where
         go : (u : Bool) → eqb r 0 ≡ u → (v : Bool) → leb r (length (b .folders)) ≡ v → (not u && v) ≡ false → member (child (pathIn s d) part) (b .folders) ≡ false
         go true q v k e = in-none (b .folders) (b .files) (child (pathIn s d) part) r (C .tree .once) there (eqb-true r 0 q) .0
@@ -91,15 +95,15 @@ module _ {s c : List ℕ} (C : CardIs s c) (d : ℕ) where
     file-there = subst (λ (x : Text). Finds (child (pathIn s d) (part ++ x)) r) simf-is w
 
     pub located-none : r ≡ 0 → located s (childFile (pathIn s d) part) left lookup.Nothing
-    located-none z = in-none (b .folders) (b .files) (childFile (pathIn s d) part) r (C .tree .once) file-there z
+    located-none z = let n = in-none (b .folders) (b .files) (childFile (pathIn s d) part) r (C .tree .once) file-there z in exists-below b (pathIn s d) part ∙ rw (n .0, n .1)
 
     pub located-at : (r ≡ 0 → ⊥) → located s (childFile (pathIn s d) part) left (lookup.At r left)
     located-at z = (record { some = z; listed = file-there .within; path = same-eq _ _ (file-there .holds z) }, refl)
 
-  located-tells : (part : Text) (rest : List Text) (r : Lookup) → member (child (pathIn s d) part) (b .folders) ≡ false → located s (childFile (pathIn s d) part) (length rest) r
+  located-tells : (part : Text) (rest : List Text) (r : Lookup) → isFolder b (child (pathIn s d) part) ≡ false → located s (childFile (pathIn s d) part) (length rest) r
       → Tells s r (buildAndVerifyPath b (pathIn s d) (part ∷ rest))
   unfolding buildAndVerifyPath
-  located-tells part rest (lookup.At i l) e h = rw (e, is-listed (decLt (length (b .folders)) i)) h
+  located-tells part rest (lookup.At i l) e h = rw (e, exists-below b (pathIn s d) part ∙ is-listed (decLt (length (b .folders)) i)) h
     where
       or-right : (a : Bool) → (a || true) ≡ true
       or-right true = refl
@@ -108,17 +112,17 @@ module _ {s c : List ℕ} (C : CardIs s c) (d : ℕ) where
       at : Finds (childFile (pathIn s d) part) i
       at = record { within = h .0 .listed; holds = λ z. rw (h .0 .path) (same-refl (childFile (pathIn s d) part)); nothing = λ z. absurd (h .0 .some z) }
 
-      is-listed : Dec (length (b .folders) < i) → (member (childFile (pathIn s d) part) (b .files) || member (childFile (pathIn s d) part) (b .folders)) ≡ true
+      is-listed : Dec (length (b .folders) < i) → isListed b (childFile (pathIn s d) part) ≡ true
       is-listed (yes k) = rw (in-files (b .folders) (b .files) (childFile (pathIn s d) part) i (C .tree .once) at k .listed)
       is-listed (no k) =
           rw (in-folders (b .folders) (b .files) (childFile (pathIn s d) part) i (C .tree .once) at (h .0 .some) (omega arith) .listed)
           (or-right (member (childFile (pathIn s d) part) (b .files)))
-  located-tells part rest lookup.Nothing e h = rw (e, h .0, h .1) tt
+  located-tells part rest lookup.Nothing e h = rw (e, h) tt
 
 -- THE LOOP: i segments name folders, and the folder of index dir was entered
 pub record Down (s u : List ℕ) (base first n dir a i : ℕ) : Type 0 where
   pub folder : IsFolder s dir
-  pub near : a ≤ first + i * 256
+  pub near : a ≤ first + i * string-size
   pub same : buildAndVerifyPath (listsIn s) (pathIn s dir) (each (after u) (text u) (n - i) a) ≡ buildAndVerifyPath (listsIn s) (pathIn s base) (each (after u) (text u) n first)
   pub named : Every IsName (each (after u) (text u) (n - i) a)
 
@@ -135,18 +139,18 @@ module _ {s c : List ℕ} (C : CardIs s c) {u : List ℕ} {base first n dir a i 
   down-name h = subst (Every IsName) (cut h) (D .named) .0
 
   -- as the code has it: the count of folders, and whether r is one of them
-  folder-is : (r k : ℕ) → k ≡ foldersOf c → (v w : Bool) → v ≡ isFolder r k → not v ≡ w → isFolder r (length (listsIn s .folders)) ≡ not w
-  folder-is r k q v w e h = ap (isFolder r) (sym (q ∙ C .folders)) ∙ (sym e ∙ turned v w h)
+  folder-is : (r k : ℕ) → k ≡ foldersOf c → (v w : Bool) → v ≡ isFolderIndex r k → not v ≡ w → isFolderIndex r (length (listsIn s .folders)) ≡ not w
+  folder-is r k q v w e h = ap (isFolderIndex r) (sym (q ∙ C .folders)) ∙ (sym e ∙ turned v w h)
     where
       turned : (v w : Bool) → not v ≡ w → v ≡ not w
       turned true w h = ap not h
       turned false w h = ap not h
 
-  pub down-enters : i < n → (r a' k : ℕ) → Looked (sought (nodesIn s) dir (text u a ++ [])) (length (nodesIn s)) r → k ≡ foldersOf c → (v : Bool) → v ≡ isFolder r k → not v ≡ false → a' ≡ after u a → a' ≤ a + 256
+  pub down-enters : i < n → (r a' k : ℕ) → Looked (sought (nodesIn s) dir (text u a ++ [])) (length (nodesIn s)) r → k ≡ foldersOf c → (v : Bool) → v ≡ isFolderIndex r k → not v ≡ false → a' ≡ after u a → a' ≤ a + string-size
       → Down s u base first n r a' (i + 1)
   unfolding Every buildAndVerifyPath
   down-enters h r a' k w kq v vq e q near =
-      let f = is-entered C dir (text u a) r w (folder-is r k kq v false vq e) in
+      let f = is-entered C dir (text u a) (segment-plain (text u a) (down-name h) .some-byte) r w (folder-is r k kq v false vq e) in
       let m = D .near in
       record {
         folder = f .0;
@@ -155,16 +159,16 @@ module _ {s c : List ℕ} (C : CardIs s c) {u : List ℕ} {base first n dir a i 
         named = rw q (subst (Every IsName) (cut h) (D .named) .1);
       }
     where
-      step : member (child (pathIn s dir) (text u a)) (listsIn s .folders) ≡ true
+      step : isFolder (listsIn s) (child (pathIn s dir) (text u a)) ≡ true
           → buildAndVerifyPath (listsIn s) (pathIn s dir) (each (after u) (text u) (n - i) a) ≡ buildAndVerifyPath (listsIn s) (child (pathIn s dir) (text u a)) (each (after u) (text u) (n - (i + 1)) (after u a))
       step m = rw (cut h, m)
 
-  pub down-names : i < n → (r k : ℕ) → Looked (sought (nodesIn s) dir (text u a ++ [])) (length (nodesIn s)) r → k ≡ foldersOf c → (v : Bool) → v ≡ isFolder r k → not v ≡ true
+  pub down-names : i < n → (r k : ℕ) → Looked (sought (nodesIn s) dir (text u a ++ [])) (length (nodesIn s)) r → k ≡ foldersOf c → (v : Bool) → v ≡ isFolderIndex r k → not v ≡ true
       → (x : Lookup) → located s (childFile (pathIn s dir) (text u a)) (n - i - 1) x → Tells s x (buildAndVerifyPath (listsIn s) (pathIn s base) (each (after u) (text u) n first))
   down-names h r k w kq v vq e x l =
       let z : n - i - 1 ≡ length (each (after u) (text u) (n - (i + 1)) (after u a)) = omega (arith, each-length (after u) (text u) (n - (i + 1)) (after u a)) in
       subst (Tells s x) (ap (buildAndVerifyPath (listsIn s) (pathIn s dir)) (sym (cut h)) ∙ D .same)
-      (located-tells C dir (text u a) _ x (not-entered C dir (text u a) r w (folder-is r k kq v true vq e)) (subst (λ (k : ℕ). located s (childFile (pathIn s dir) (text u a)) k x) z l))
+      (located-tells C dir (text u a) _ x (not-entered C dir (text u a) (segment-plain (text u a) (down-name h) .some-byte) r w (folder-is r k kq v true vq e)) (subst (λ (k : ℕ). located s (childFile (pathIn s dir) (text u a)) k x) z l))
 
   pub down-ends : n ≤ i → Tells s lookup.Nothing (buildAndVerifyPath (listsIn s) (pathIn s base) (each (after u) (text u) n first))
   unfolding buildAndVerifyPath each

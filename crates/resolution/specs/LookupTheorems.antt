@@ -18,8 +18,8 @@ use Rattle.resolution.specs.Lists.{Lists}
 use Rattle.resolution.specs.LongestLaws.{none-some}
 use Rattle.resolution.specs.Call.{position, answer, resolveIn}
 use Rattle.resolution.specs.declared.Resolution.the-variants.{File, Folder, Refused}
-use Rattle.resolution.specs.Resolution.{packageRoots, getPackageRoot, remappingFor, Missing, inFolder, noPath, Lookup, found, missing, buildAndVerifyPath, Fault, emptyUse, unknownLibrary, noLibraryFile, noFile, ownFile, noRoot, number, Resolved, to, fails, orItself, resolveBelow, resolveCratePath, sameRoot, checkLocalFileImportedAsExternal, external, resolveExternalPath, resolvePathInternal}
-use Rattle.resolution.specs.Theorems.{taken, none-taken, rooted, none-rooted, isListed}
+use Rattle.resolution.specs.Resolution.{packageRoots, getPackageRoot, remappingFor, Missing, inFolder, noPath, Lookup, found, missing, isFolder, exists, buildAndVerifyPath, Fault, emptyUse, unknownLibrary, noLibraryFile, noFile, ownFile, noRoot, number, Resolved, to, fails, orItself, resolveBelow, resolveCratePath, sameRoot, checkLocalFileImportedAsExternal, external, resolveExternalPath, resolvePathInternal}
+use Rattle.resolution.specs.Theorems.{taken, none-taken, rooted, none-rooted}
 
 -- THE LOOKUP, IN WORDS
 -- the folder that the first k segments lead to from the base, each below the one before
@@ -32,30 +32,30 @@ abbrev pub fileNamed : Text → List Text → ℕ → Text
 fileNamed base parts k = childFile (folderAfter base parts k) (getD parts k [])
 
 module _ (b : Lists) (base : Text) (parts : List Text) where
-  -- segment k is the first that isn't a folder: all before it enter listed folders
+  -- segment k is the first that isn't a folder: all before it enter folders
   pub record FirstNoFolder (k : ℕ) : Type 0 where
     pub there : k < length parts
-    pub before : (i : ℕ) → i < k → member (folderAfter base parts (suc i)) (b .folders) ≡ true
-    pub itself : member (folderAfter base parts (suc k)) (b .folders) ≡ false
+    pub before : (i : ℕ) → i < k → isFolder b (folderAfter base parts (suc i)) ≡ true
+    pub itself : isFolder b (folderAfter base parts (suc k)) ≡ false
 
-  -- the first segment that isn't a folder names a listed path; the rest is module path
+  -- the first segment that isn't a folder names a file, or a folder of that name; the rest is module path
   pub record FoundAt (p : Text) (rest : List Text) : Type 0 where
     pub segment : ℕ
     pub first : FirstNoFolder segment
     pub names : p ≡ fileNamed base parts segment
-    pub listed : isListed b p ≡ true
+    pub listed : exists b p ≡ true
     pub left : rest ≡ drop (suc segment) parts
 
-  -- it names a path that isn't listed
+  -- it names a path that is neither
   pub record NotListed (p : Text) : Type 0 where
     pub segment : ℕ
     pub first : FirstNoFolder segment
     pub names : p ≡ fileNamed base parts segment
-    pub not-listed : isListed b p ≡ false
+    pub not-listed : exists b p ≡ false
 
   -- the segments ran out: all enter folders, and the last is this one
   pub record RanOut (p : Text) : Type 0 where
-    pub every : (i : ℕ) → i < length parts → member (folderAfter base parts (suc i)) (b .folders) ≡ true
+    pub every : (i : ℕ) → i < length parts → isFolder b (folderAfter base parts (suc i)) ≡ true
     pub last : p ≡ folderAfter base parts (length parts)
 
   abbrev Says : Lookup → Type 0
@@ -69,18 +69,18 @@ after-shift base part parts zero = refl
 after-shift base part parts (suc k) = ap (λ (d : Text). child d (getD parts k [])) (after-shift base part parts k)
 
 -- a first segment that enters a folder
-module _ (b : Lists) (base part : Text) (parts : List Text) (e : member (child base part) (b .folders) ≡ true) where
-  enters-shift : (k : ℕ) → ((i : ℕ) → i < k → member (folderAfter (child base part) parts (suc i)) (b .folders) ≡ true)
-      → (i : ℕ) → i < suc k → member (folderAfter base (part ∷ parts) (suc i)) (b .folders) ≡ true
+module _ (b : Lists) (base part : Text) (parts : List Text) (e : isFolder b (child base part) ≡ true) where
+  enters-shift : (k : ℕ) → ((i : ℕ) → i < k → isFolder b (folderAfter (child base part) parts (suc i)) ≡ true)
+      → (i : ℕ) → i < suc k → isFolder b (folderAfter base (part ∷ parts) (suc i)) ≡ true
   unfolding folderAfter
   enters-shift k f zero h = e
-  enters-shift k f (suc i) h = ap (λ (d : Text). member d (b .folders)) (after-shift base part parts (suc i)) ∙ f i (le-of-suc-le-suc h)
+  enters-shift k f (suc i) h = ap (isFolder b) (after-shift base part parts (suc i)) ∙ f i (le-of-suc-le-suc h)
 
   first-shift : (k : ℕ) → FirstNoFolder b (child base part) parts k → FirstNoFolder b base (part ∷ parts) (suc k)
   first-shift k f = record {
     there = omega (arith, f .there);
     before = enters-shift k (f .before);
-    itself = ap (λ (d : Text). member d (b .folders)) (after-shift base part parts (suc k)) ∙ f .itself;
+    itself = ap (isFolder b) (after-shift base part parts (suc k)) ∙ f .itself;
   }
 
   file-shift : (k : ℕ) → fileNamed base (part ∷ parts) (suc k) ≡ fileNamed (child base part) parts k
@@ -105,12 +105,12 @@ module _ (b : Lists) (base part : Text) (parts : List Text) (e : member (child b
 says : (b : Lists) (base : Text) (parts : List Text) → Says b base parts (buildAndVerifyPath b base parts)
 unfolding buildAndVerifyPath folderAfter
 says b base [] = record { every = λ i h. absurd (not-suc-le-zero h); last = refl }
-says b base (part ∷ parts) = go (member (child base part) (b .folders)) refl (isListed b (childFile base part)) refl (says b (child base part) parts)
+says b base (part ∷ parts) = go (isFolder b (child base part)) refl (exists b (childFile base part)) refl (says b (child base part) parts)
   where
-    here : member (child base part) (b .folders) ≡ false → FirstNoFolder b base (part ∷ parts) 0
+    here : isFolder b (child base part) ≡ false → FirstNoFolder b base (part ∷ parts) 0
     here e = record { there = omega arith; before = λ i h. absurd (not-suc-le-zero h); itself = e }
 
-    go : (t : Bool) → member (child base part) (b .folders) ≡ t → (u : Bool) → isListed b (childFile base part) ≡ u
+    go : (t : Bool) → isFolder b (child base part) ≡ t → (u : Bool) → exists b (childFile base part) ≡ u
         → Says b (child base part) parts (buildAndVerifyPath b (child base part) parts)
         → Says b base (part ∷ parts) (cond t (buildAndVerifyPath b (child base part) parts) (cond u (found (childFile base part) parts) (missing (noPath (childFile base part)))))
     go true e u f s = says-enter b base part parts e (buildAndVerifyPath b (child base part) parts) s
@@ -133,8 +133,8 @@ module _ (b : Lists) (base : Text) (parts : List Text) where
   ran-on : (p : Text) (k : ℕ) → FirstNoFolder b base parts k → RanOut b base parts p → ⊥
   ran-on p k f r = false-true (sym (f .itself) ∙ r .every k (f .there))
 
-  -- FOUND exactly where the first segment that isn't a folder names, with `.simf` added, a listed path: a file, or a folder
-  -- (C5). What follows that segment is left.
+  -- FOUND exactly where the first segment that isn't a folder names, with `.simf` added, a file or a folder (C5). What
+  -- follows that segment is left.
   pub found-exactly : (p : Text) (rest : List Text) → (buildAndVerifyPath b base parts ≡ found p rest) ↔ FoundAt b base parts p rest
   found-exactly p rest = (λ h. rw h at (says b base parts), λ f. go f (buildAndVerifyPath b base parts) (says b base parts))
     where
@@ -146,16 +146,16 @@ module _ (b : Lists) (base : Text) (parts : List Text) where
       go f (missing (inFolder q)) s = absurd (ran-on q (f .segment) (f .first) s)
       go f (missing (noPath q)) s =
           let x : q ≡ p = one-file (s .segment) (f .segment) (s .first) (f .first) (s .names) (f .names) in
-          absurd (false-true (sym (s .not-listed) ∙ (ap (isListed b) x ∙ f .listed)))
+          absurd (false-true (sym (s .not-listed) ∙ (ap (exists b) x ∙ f .listed)))
 
-  -- MISSING exactly where the path that it names isn't listed ..
+  -- MISSING exactly where the path that it names is neither a file nor a folder ..
   pub not-listed-exactly : (p : Text) → (buildAndVerifyPath b base parts ≡ missing (noPath p)) ↔ NotListed b base parts p
   not-listed-exactly p = (λ h. rw h at (says b base parts), λ f. go f (buildAndVerifyPath b base parts) (says b base parts))
     where
       go : NotListed b base parts p → (l : Lookup) → Says b base parts l → l ≡ missing (noPath p)
       go f (found q r) s =
           let x : q ≡ p = one-file (s .segment) (f .segment) (s .first) (f .first) (s .names) (f .names) in
-          absurd (false-true (sym (f .not-listed) ∙ (ap (isListed b) (sym x) ∙ s .listed)))
+          absurd (false-true (sym (f .not-listed) ∙ (ap (exists b) (sym x) ∙ s .listed)))
       go f (missing (inFolder q)) s = absurd (ran-on q (f .segment) (f .first) s)
       go f (missing (noPath q)) s =
           let x : q ≡ p = one-file (s .segment) (f .segment) (s .first) (f .first) (s .names) (f .names) in

@@ -7,7 +7,7 @@ use lib.ListN.{length}
 use Rattle.names.specs.Bytes.{same, member}
 use Rattle.names.specs.Prefix.{startsWith, directlyIn, child, childFile}
 use Rattle.names.specs.Keywords.{isCrate}
-use Rattle.bundle.specs.Bundle.{Text, Remapping}
+use Rattle.bundle.specs.Bundle.{Text, Remapping, withSlash}
 use Rattle.resolution.specs.Lists.{Lists}
 use Rattle.resolution.specs.Longest.{tried}
 
@@ -28,6 +28,16 @@ unfoldable pub remappingFor : Lists → Text → Text → Option Remapping
 remappingFor b file name = tried (λ r. length (r .context)) (applies file name) (b .remappings)
 
 -- STEP 2
+-- WHAT THE LOOKUP ASKS of a path: whether it is a folder, as `/` is without being listed; whether it is a file; whether it is either
+unfoldable pub isFolder : Lists → Text → Bool
+isFolder b p = member p (withSlash (b .folders))
+
+unfoldable pub isFile : Lists → Text → Bool
+isFile b p = member p (b .files)
+
+abbrev pub exists : Lists → Text → Bool
+exists b p = isFile b p || isFolder b p
+
 -- why a lookup finds nothing: the segments ran out in this folder; there is nothing of this path
 pub data Missing : Type 0 where
   inFolder : Text → Missing
@@ -43,9 +53,9 @@ pub data Lookup : Type 0 where
 unfoldable pub buildAndVerifyPath : Lists → Text → List Text → Lookup
 buildAndVerifyPath b path [] = missing (inFolder path)
 buildAndVerifyPath b path (part ∷ parts) =
-    cond (member (child path part) (b .folders))
+    cond (isFolder b (child path part))
     (buildAndVerifyPath b (child path part) parts)
-    (cond (member (childFile path part) (b .files) || member (childFile path part) (b .folders))
+    (cond (exists b (childFile path part))
     (found (childFile path part) parts)
     (missing (noPath (childFile path part))))
 

@@ -9,7 +9,7 @@ use mathlib.Core.Option.{Option, none, some}
 use lib.Dec.{eqb, leb}
 use lib.ListN.{length, getD, length-append}
 use borrow.Author.Tests.{eq-eqb, ne-eqb, eqb-true}
-use Rattle.names.specs.Bytes.{ascii, slash, same, member, all, all-each, same-eq, same-refl, and-left, and-right, false-true}
+use Rattle.names.specs.Bytes.{ascii, slash, same, member, all, all-each, same-eq, same-refl, different, and-left, and-right, false-true}
 use Rattle.names.specs.Path.{root, isPath, components, wellFormed}
 use Rattle.names.specs.Prefix.{startsWith, directlyIn, child, childFile}
 use Rattle.names.specs.Identifier.{isIdentifier, class, letter, digit, inside, name-limit}
@@ -17,10 +17,11 @@ use Rattle.names.specs.Keywords.{isCrate}
 use Rattle.names.specs.PathTheorems.{starts-with-trans, starts-with-root, equal-prefixes, not-below, form}
 use Rattle.names.specs.FolderTheorems.{Plain, child-below}
 use Rattle.bundle.specs.Bundle.{Text, Remapping}
+use Rattle.card.specs.Card.{child-long}
 use Rattle.resolution.specs.Lists.{Lists}
 use Rattle.resolution.specs.Call.{position}
 use Rattle.resolution.specs.LongestLaws.{none-some, Best, found-tried, any-order}
-use Rattle.resolution.specs.Resolution.{packageRoots, getPackageRoot, applies, remappingFor, Missing, noPath, Lookup, found, missing, buildAndVerifyPath, Fault, to, fails, orItself, resolveBelow, resolveCratePath, sameRoot, checkLocalFileImportedAsExternal, external, resolveExternalPath, resolvePathInternal, noFile, ownFile}
+use Rattle.resolution.specs.Resolution.{packageRoots, getPackageRoot, applies, remappingFor, Missing, noPath, Lookup, found, missing, isFolder, isFile, exists, buildAndVerifyPath, Fault, to, fails, orItself, resolveBelow, resolveCratePath, sameRoot, checkLocalFileImportedAsExternal, external, resolveExternalPath, resolvePathInternal, noFile, ownFile}
 
 -- the same elements, in whatever order
 pub record Same {A : Type 0} (l k : List A) : Type 0 where
@@ -230,6 +231,15 @@ file-plain n h =
 abbrev pub isListed : Lists → Text → Bool
 isListed b p = member p (b .files) || member p (b .folders)
 
+-- THE LOOKUP'S TESTS: no name leads to `/`, so below a folder they ask what is listed
+pub folder-below : (b : Lists) (d n : Text) → 1 ≤ length n → isFolder b (child d n) ≡ member (child d n) (b .folders)
+unfolding isFolder member
+folder-below b d n l = rw (different (child d n) root (λ e. child-long d n l (ap length e)))
+
+pub exists-below : (b : Lists) (d n : Text) → exists b (childFile d n) ≡ isListed b (childFile d n)
+unfolding isFile childFile ascii
+exists-below b d n = rw (folder-below b d (n ++ ascii ".simf") (omega (arith, length-append n (ascii ".simf"))))
+
 pub found-listed : (b : Lists) (base : Text) (parts : List Text) (p : Text) (rest : List Text) → buildAndVerifyPath b base parts ≡ found p rest → isListed b p ≡ true
 unfolding buildAndVerifyPath
 found-listed b base [] p rest h = absurd (lost h)
@@ -237,14 +247,14 @@ found-listed b base [] p rest h = absurd (lost h)
     lost : {m : Missing} → missing m ≡ found p rest → ⊥
     lost h = let z : _≡_ {A = ℕ} 0 1 = cc in omega arith
 found-listed b base (part ∷ parts) p rest h =
-    go (member (child base part) (b .folders)) (isListed b (childFile base part)) refl (found-listed b (child base part) parts p rest) h
+    go (isFolder b (child base part)) (exists b (childFile base part)) refl (found-listed b (child base part) parts p rest) h
   where
-    go : (t u : Bool) → isListed b (childFile base part) ≡ u
+    go : (t u : Bool) → exists b (childFile base part) ≡ u
         → (buildAndVerifyPath b (child base part) parts ≡ found p rest → isListed b p ≡ true)
         → cond t (buildAndVerifyPath b (child base part) parts) (cond u (found (childFile base part) parts) (missing (noPath (childFile base part)))) ≡ found p rest
         → isListed b p ≡ true
     go true u e r h = r h
-    go false true e r h = let q : childFile base part ≡ p = cc in rw (← q) e
+    go false true e r h = let q : childFile base part ≡ p = cc in rw (← q) (sym (exists-below b base part) ∙ e)
     go false false e r h = let z : _≡_ {A = ℕ} 0 1 = cc in absurd (omega arith)
 
 -- a path that is found lies below the base that it was searched from
@@ -260,17 +270,17 @@ found-below b base [] p rest f k i h = absurd (lost h)
     lost : {m : Missing} → missing m ≡ found p rest → ⊥
     lost h = let z : _≡_ {A = ℕ} 0 1 = cc in omega arith
 found-below b base (part ∷ parts) p rest f k i h =
-    go (member (child base part) (b .folders)) refl (isListed b (child base (part ++ ascii ".simf")))
+    go (isFolder b (child base part)) refl (exists b (child base (part ++ ascii ".simf")))
     (λ q. found-below b (child base part) parts p rest f q (and-right (isIdentifier part) (all isIdentifier parts) i)) h
   where
     word : isIdentifier part ≡ true
     word = and-left (isIdentifier part) (all isIdentifier parts) i
 
-    go : (t : Bool) → member (child base part) (b .folders) ≡ t → (u : Bool)
+    go : (t : Bool) → isFolder b (child base part) ≡ t → (u : Bool)
         → (isPath (child base part) ≡ true → buildAndVerifyPath b (child base part) parts ≡ found p rest → startsWith p (child base part) ≡ true)
         → cond t (buildAndVerifyPath b (child base part) parts) (cond u (found (child base (part ++ ascii ".simf")) parts) (missing (noPath (child base (part ++ ascii ".simf"))))) ≡ found p rest
         → startsWith p base ≡ true
-    go true e u r h = starts-with-trans p (child base part) base (r (f _ e) h) (child-below base part k (segment-plain part word))
+    go true e u r h = starts-with-trans p (child base part) base (r (f _ (sym (folder-below b base part (segment-plain part word .some-byte)) ∙ e)) h) (child-below base part k (segment-plain part word))
     go false e true r h = let q : child base (part ++ ascii ".simf") ≡ p = cc in rw (← q) (child-below base (part ++ ascii ".simf") k (file-plain part word))
     go false e false r h = let z : _≡_ {A = ℕ} 0 1 = cc in absurd (omega arith)
 

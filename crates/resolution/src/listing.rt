@@ -2,18 +2,19 @@
 ghost use mathlib.Core.Path.{_≡_};
 ghost use Prim.Native.Nat.{_<_, _^_};
 ghost use Rattle.names.specs.Prefix.{childFile};
+ghost use Rattle.bundle.specs.Limits.{count-limit};
 ghost use Rattle.bundle.specs.Form.{Every, IsName};
 ghost use Rattle.bundle.specs.Scan.{text};
 ghost use Rattle.bundle.specs.Decode.{each, after};
 ghost use Rattle.card.specs.Card.{CardIs};
 ghost use Rattle.resolution.specs.Resolution.{buildAndVerifyPath};
-ghost use Rattle.resolution.specs.Indices.{listsIn, pathIn, IsFolder, isFolder, located, Tells};
+ghost use Rattle.resolution.specs.Indices.{listsIn, pathIn, IsFolder, isFolderIndex, located, Tells};
 use crate::Lookup;
 use card::CARD;
 
 // Whether index i, where there are so many folders, is that of one.
 fn is_folder(i: usize, folders: usize) -> bool
-    ensures { λ r. ⌜ r ≡ isFolder i folders ⌝ }
+    ensures { λ r. ⌜ r ≡ isFolderIndex i folders ⌝ }
 {
     if i == 0 {
         return false;
@@ -42,7 +43,7 @@ pub fn build_and_verify_path(
     first: usize,
     n: usize,
 ) -> Lookup
-    requires { ⌜ CardIs (now s) (now card) × (IsFolder (now s) base × Every IsName (each (after (now u)) (text (now u)) n first)) × ((first < 2 ^ 60) × (n < 256)) ⌝ }
+    requires { ⌜ CardIs (now s) (now card) × (IsFolder (now s) base × Every IsName (each (after (now u)) (text (now u)) n first)) × ((first < 2 ^ 60) × (n < count-limit)) ⌝ }
     ensures { λ r. ⌜ Tells (now (s .entry)) r (buildAndVerifyPath (listsIn (now (s .entry))) (pathIn (now (s .entry)) base) (each (after (now (u .entry))) (text (now (u .entry))) n first)) ⌝ }
 {
     let folders = card::folder_count(card);

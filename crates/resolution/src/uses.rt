@@ -2,6 +2,7 @@
 ghost use mathlib.Core.Path.{_≡_};
 ghost use Prim.Native.Nat.{_<_, _^_};
 ghost use lib.ListN.{length};
+ghost use Rattle.bundle.specs.Limits.{count-limit};
 ghost use Rattle.bundle.specs.Form.{Every, IsName};
 ghost use Rattle.bundle.specs.Scan.{text};
 ghost use Rattle.bundle.specs.Decode.{each, after};
@@ -58,7 +59,7 @@ fn resolve_external_path(
     first: usize,
     n: usize,
 ) -> Resolution
-    requires { ⌜ CardIs (now s) (now card) × ((f < length (nodesIn (now s))) × IsFolder (now s) base) × (Every IsName (each (after (now u)) (text (now u)) n first) × ((first < 2 ^ 60) × (n < 256))) ⌝ }
+    requires { ⌜ CardIs (now s) (now card) × ((f < length (nodesIn (now s))) × IsFolder (now s) base) × (Every IsName (each (after (now u)) (text (now u)) n first) × ((first < 2 ^ 60) × (n < count-limit))) ⌝ }
     ensures { λ r. ⌜ r ≡ answer (listsIn (now (s .entry))) (external (listsIn (now (s .entry))) (pathIn (now (s .entry)) f) (buildAndVerifyPath (listsIn (now (s .entry))) (pathIn (now (s .entry)) base) (each (after (now (u .entry))) (text (now (u .entry))) n first))) ⌝ }
 {
     let lookup = build_and_verify_path(s, card, base, u, first, n);
@@ -94,7 +95,7 @@ fn resolve_crate_path(
     first: usize,
     n: usize,
 ) -> Resolution
-    requires { ⌜ CardIs (now s) (now card) × Importer (now s) f × (Every IsName (each (after (now u)) (text (now u)) n first) × ((first < 2 ^ 60) × (n < 256))) ⌝ }
+    requires { ⌜ CardIs (now s) (now card) × Importer (now s) f × (Every IsName (each (after (now u)) (text (now u)) n first) × ((first < 2 ^ 60) × (n < count-limit))) ⌝ }
     ensures { λ r. ⌜ r ≡ answer (listsIn (now (s .entry))) (resolveCratePath (listsIn (now (s .entry))) (pathIn (now (s .entry)) f) (each (after (now (u .entry))) (text (now (u .entry))) n first)) ⌝ }
 {
     let root = card::nearest_marked(card, f);
@@ -121,7 +122,7 @@ pub fn resolve_path_internal(
     first: usize,
     n: usize,
 ) -> Resolution
-    requires { ⌜ Mapped (now s) (now card) × Importer (now s) f × (Every IsName (each (after (now u)) (text (now u)) n first) × ((first < 2 ^ 59) × (n < 256))) ⌝ }
+    requires { ⌜ Mapped (now s) (now card) × Importer (now s) f × (Every IsName (each (after (now u)) (text (now u)) n first) × ((first < 2 ^ 59) × (n < count-limit))) ⌝ }
     ensures { λ r. ⌜ r ≡ answer (listsIn (now (s .entry))) (resolvePathInternal (listsIn (now (s .entry))) (pathIn (now (s .entry)) f) (each (after (now (u .entry))) (text (now (u .entry))) n first)) ⌝ }
 {
     if n == 0 {

@@ -83,14 +83,6 @@ fn encode(path: &[u8], out: &mut [u8; 4096]) -> usize {
     a
 }
 
-fn refuse(n: u8, p: usize) {
-    io::write_all(STDOUT_FILENO, b"no ");
-    io::print_decimal(STDOUT_FILENO, n as u64);
-    io::write_all(STDOUT_FILENO, b" ");
-    io::print_decimal(STDOUT_FILENO, p as u64);
-    io::write_all(STDOUT_FILENO, b"\n");
-}
-
 // The path of the file, or the folder, of this index.
 fn tell_path(s: &[u8], files: bool, index: usize) {
     let listed = if files {
@@ -151,7 +143,7 @@ fn tell(s: &[u8], importer: &[u8], u: &[u8]) {
     let told = resolution::resolve(s, importer, u);
     match told {
         Resolution::Refused(n, p) => {
-            refuse(n, p);
+            lines::tell_refusal(n, p);
         }
         Resolution::File(i, left) => {
             tell_path(s, true, i);
@@ -171,7 +163,7 @@ fn tell_bundle(s: &[u8]) {
             io::write_all(STDOUT_FILENO, b"ok\n");
         }
         Checked::Refused(n, p) => {
-            refuse(n, p);
+            lines::tell_refusal(n, p);
         }
     }
 }

@@ -7,7 +7,6 @@ use Rattle.link_vectors.proofs.put_image.Statement.{statement}
 use Rattle.link_vectors.proofs.put_image.Tie as tie
 use Rattle.link_vectors.proofs.put_image.Reads as reads
 use Rattle.link_vectors.proofs.put_image.Lts as lts
-use Rattle.link_vectors.proofs.digit.Reads as digit-reads
 use Rattle.text.proofs.put.Reads as put-reads
 use Rattle.text.proofs.put_bytes.Reads as put-bytes-reads
 
@@ -26,20 +25,20 @@ put-bytes-requires c κs = search needs
 loop-holds : tie.Need-loop-holds Inv-loop μ-loop
 loop-holds c = search needs
 
-shared-slice-read-digit : tie.Need-shared-slice-read-digit Inv-loop μ-loop
-shared-slice-read-digit c = search needs
+shared-slice-read-hex-digit : tie.Need-shared-slice-read-hex-digit Inv-loop μ-loop
+shared-slice-read-hex-digit c = search needs
 
-digit-requires : tie.Need-digit-requires Inv-loop μ-loop
-digit-requires c κs = search needs
+hex-digit-requires : tie.Need-hex-digit-requires Inv-loop μ-loop
+hex-digit-requires c κs = search needs
 
 put-requires : tie.Need-put-requires Inv-loop μ-loop
 put-requires c κs = search needs
 
-shared-slice-read-digit-2 : tie.Need-shared-slice-read-digit-2 Inv-loop μ-loop
-shared-slice-read-digit-2 c = search needs
+shared-slice-read-hex-digit-2 : tie.Need-shared-slice-read-hex-digit-2 Inv-loop μ-loop
+shared-slice-read-hex-digit-2 c = search needs
 
-digit-requires-2 : tie.Need-digit-requires-2 Inv-loop μ-loop
-digit-requires-2 c κs = search needs
+hex-digit-requires-2 : tie.Need-hex-digit-requires-2 Inv-loop μ-loop
+hex-digit-requires-2 c κs = search needs
 
 put-requires-2 : tie.Need-put-requires-2 Inv-loop μ-loop
 put-requires-2 c κs = search needs
@@ -71,11 +70,11 @@ put-image-spec =
     slice-aggregate-put-bytes
     put-bytes-requires
     loop-holds
-    shared-slice-read-digit
-    digit-requires
+    shared-slice-read-hex-digit
+    hex-digit-requires
     put-requires
-    shared-slice-read-digit-2
-    digit-requires-2
+    shared-slice-read-hex-digit-2
+    hex-digit-requires-2
     put-requires-2
     add-i
     loop-less

@@ -6,6 +6,7 @@ use lib.ListN.{length, take}
 use denote.Ref.{now}
 use borrow.Author.Needs.{needs}
 use Rattle.bundle.specs.Decode.{decode}
+use Rattle.assembly.specs.Image.{length-cap}
 use Rattle.assembly.specs.WholeImage.{too-long, too-small, all-written}
 use Rattle.assembly.specs.Given.{programBytes}
 use Rattle.assembly.proofs.image.write_image.Statement.{statement}
@@ -49,7 +50,7 @@ same-length c = search needs
 
 returns-3 : tie.Need-returns-3
 returns-3 c =
-    let e : c .before .before .before .before .before .before .before .before .before .before .before .before .before .before .program-length .result ≡ min (length (programBytes (decode (c .before .before .before .before .before .before .before .before .before .before .before .before .before .before .before .before .before .before .before .args .s .now)) (take (c .before .before .before .before .before .before .before .before .before .before .before .before .before .before .before .before .before .before .before .args .units) (c .before .before .before .before .before .before .before .before .before .before .before .before .before .before .before .before .before .before .before .args .ids .now)))) 65536 = c .before .before .before .before .before .before .before .before .before .before .before .before .before .before .program-length .ensures in
+    let e : c .before .before .before .before .before .before .before .before .before .before .before .before .before .before .program-length .result ≡ min (length (programBytes (decode (c .before .before .before .before .before .before .before .before .before .before .before .before .before .before .before .before .before .before .before .args .s .now)) (take (c .before .before .before .before .before .before .before .before .before .before .before .before .before .before .before .before .before .before .before .args .units) (c .before .before .before .before .before .before .before .before .before .before .before .before .before .before .before .before .before .before .before .args .ids .now)))) length-cap = c .before .before .before .before .before .before .before .before .before .before .before .before .before .before .program-length .ensures in
     let n = c .before .before .before .before .before .before .before .before .before .before .before .before .before .if1 .left in
     let k = c .before .before .before .before .before .before .before .before .before .before .before .before .if2 .left in
     let r : c .before .before .before .before .before .before .before .before .before .before .write-program .result ≡ length (programBytes (decode (c .before .before .before .before .before .before .before .before .before .before .before .before .before .before .before .before .before .before .before .args .s .now)) (take (c .before .before .before .before .before .before .before .before .before .before .before .before .before .before .before .before .before .before .before .args .units) (c .before .before .before .before .before .before .before .before .before .before .before .before .before .before .before .before .before .before .before .args .ids .now))) = c .before .before .before .before .before .before .before .before .before .before .write-program .ensures .0 in

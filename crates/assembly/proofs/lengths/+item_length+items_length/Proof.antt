@@ -15,6 +15,7 @@ use Rattle.bundle.proofs.item_name.Reads as item-name-reads
 use Rattle.bundle.proofs.module_items.Reads as module-items-reads
 use Rattle.bundle.proofs.next_item.Reads as next-item-reads
 use Rattle.discovery.specs.Walk.{use-mark}
+use Rattle.assembly.specs.Image.{length-cap}
 use Rattle.assembly.specs.Assemble.{fileOf}
 use Rattle.assembly.specs.Uses.{use-form}
 use Rattle.assembly.specs.Targets.{fileUses, pathBy}
@@ -419,13 +420,13 @@ item-length-returns-5 : (t : ℕ) → item-length-lts.Need-returns-5 (
 item-length-returns-5 t c =
     let e = ap length (module-bytes (c .before .before .before .before .before .before .before .before .before .before .before .args .s .now) (c .before .before .before .before .before .before .before .before .before .before .before .args .place) (c .before .before .before .before .before .before .before .before .item-kind .result) (c .before .before .before .before .before .before .before .before .item-kind .ensures) (fileOf (decode (c .before .before .before .before .before .before .before .before .before .before .before .args .s .now)) (c .before .before .before .before .before .before .before .before .before .before .before .args .u)) (c .before .before .before .before .before .before .before .before .before .before .before .args .depth) (c .before .before .module-items .result .end) (c .before .before .module-items .result .at) (c .before .before .before .before .if3 .left) (c .before .before .before .if4 .left) (c .before .before .module-items .ensures .0)) in
     let n = ap length (name-text (c .before .before .before .before .before .before .before .before .before .before .before .args .s .now) (c .before .before .before .before .before .before .before .before .before .before .before .args .place) (c .before .before .before .before .before .before .before .before .item-kind .result) (c .before .before .before .before .before .before .before .before .item-kind .ensures) (now (c .before .before .before .before .before .item-name .result)) (c .before .before .before .before .before .before .if2 .left) (c .before .before .before .before .before .before .before .if1 .left) (c .before .before .before .before .before .item-name .ensures)) in
-    let m : c .before .items-length .result ≡ min (length (itemsBytes (c .before .before .before .before .before .before .before .before .before .before .before .args .s .now) (fileOf (decode (c .before .before .before .before .before .before .before .before .before .before .before .args .s .now)) (c .before .before .before .before .before .before .before .before .before .before .before .args .u)) (c .before .before .before .before .before .before .before .before .before .before .before .args .depth - 1) (c .before .before .module-items .result .end) (c .before .before .module-items .result .at))) 65536 = c .before .items-length .ensures in
+    let m : c .before .items-length .result ≡ min (length (itemsBytes (c .before .before .before .before .before .before .before .before .before .before .before .args .s .now) (fileOf (decode (c .before .before .before .before .before .before .before .before .before .before .before .args .s .now)) (c .before .before .before .before .before .before .before .before .before .before .before .args .u)) (c .before .before .before .before .before .before .before .before .before .before .before .args .depth - 1) (c .before .before .module-items .result .end) (c .before .before .module-items .result .at))) length-cap = c .before .items-length .ensures in
     let r = c .capped2 .ensures in
     omega (arith, string-length (text (c .before .before .before .before .before .before .before .before .before .before .before .args .s .now) (c .before .before .before .before .before .before .before .before .before .before .before .args .place + 4)), length-append (string (text (c .before .before .before .before .before .before .before .before .before .before .before .args .s .now) (c .before .before .before .before .before .before .before .before .before .before .before .args .place + 4))) (itemsBytes (c .before .before .before .before .before .before .before .before .before .before .before .args .s .now) (fileOf (decode (c .before .before .before .before .before .before .before .before .before .before .before .args .s .now)) (c .before .before .before .before .before .before .before .before .before .before .before .args .u)) (c .before .before .before .before .before .before .before .before .before .before .before .args .depth - 1) (c .before .before .module-items .result .end) (c .before .before .module-items .result .at)))
 
 abbrev items-length-Inv-loop : items-length-lts.InvT-loop
 items-length-Inv-loop s files units u from end depth sum₀ a₀ sum a =
-    Counted (itemsBytes s (fileOf (decode s) u) depth end from) (itemsBytes s (fileOf (decode s) u) depth end a) 65536 sum × Brief (fileUses s (fileOf (decode s) u)) (itemsAt depth s end a)
+    Counted (itemsBytes s (fileOf (decode s) u) depth end from) (itemsBytes s (fileOf (decode s) u) depth end a) length-cap sum × Brief (fileUses s (fileOf (decode s) u)) (itemsAt depth s end a)
 
 abbrev items-length-μ-loop : items-length-lts.MeasureT-loop
 items-length-μ-loop s files units u from end depth sum₀ a₀ sum a = end - a
@@ -438,7 +439,7 @@ items-length-loop-holds : (t : ℕ) → items-length-lts.Need-loop-holds (
   next-item-reads.Asked,
   next-item-reads.Learnt,
 ) (items-length-at t) items-length.Post items-length-Inv-loop items-length-μ-loop
-items-length-loop-holds t c = (counted-none (itemsBytes (c .before .before .args .s .now) (fileOf (decode (c .before .before .args .s .now)) (c .before .before .args .u)) (c .before .before .args .depth) (c .before .before .args .end) (c .before .before .args .from)) 65536, c .before .before .pre .1 .2)
+items-length-loop-holds t c = (counted-none (itemsBytes (c .before .before .args .s .now) (fileOf (decode (c .before .before .args .s .now)) (c .before .before .args .u)) (c .before .before .args .depth) (c .before .before .args .end) (c .before .before .args .from)) length-cap, c .before .before .pre .1 .2)
 
 items-length-item-length-requires : (t : ℕ) → items-length-lts.Need-item-length-requires (
   item-length-below t,

@@ -6,6 +6,7 @@ use lib.ListN.{length, getD, take, drop}
 use denote.Ref.{now}
 use borrow.Author.Needs.{needs}
 use Rattle.bundle.specs.Decode.{decode}
+use Rattle.assembly.specs.Image.{length-cap}
 use Rattle.assembly.specs.Given.{programBytes, unitBytes}
 use Rattle.assembly.specs.GivenLaws.{below, order-step, order-end}
 use Rattle.encoder.specs.Parts.{Counted, counted-none, counted-more, counted-all}
@@ -13,13 +14,13 @@ use Rattle.assembly.proofs.lengths.program_length.Statement.{statement}
 use Rattle.assembly.proofs.lengths.program_length.Tie as tie
 
 abbrev Inv-loop : tie.InvT-loop
-Inv-loop s files ids units sum₀ i₀ sum i = (i ≤ units) × Counted (programBytes (decode s) (take units ids)) (programBytes (decode s) (drop i (take units ids))) 65536 sum
+Inv-loop s files ids units sum₀ i₀ sum i = (i ≤ units) × Counted (programBytes (decode s) (take units ids)) (programBytes (decode s) (drop i (take units ids))) length-cap sum
 
 abbrev μ-loop : tie.MeasureT-loop
 μ-loop s files ids units sum₀ i₀ sum i = units - i
 
 loop-holds : tie.Need-loop-holds Inv-loop μ-loop
-loop-holds c = (omega arith, counted-none (programBytes (decode (c .before .before .before .args .s .now)) (take (c .before .before .before .args .units) (c .before .before .before .args .ids .now))) 65536)
+loop-holds c = (omega arith, counted-none (programBytes (decode (c .before .before .before .args .s .now)) (take (c .before .before .before .args .units) (c .before .before .before .args .ids .now))) length-cap)
 
 mul-wide : tie.Need-mul-wide Inv-loop μ-loop
 mul-wide c = search needs
@@ -43,7 +44,7 @@ loop-less : tie.Need-loop-less Inv-loop μ-loop
 loop-less c = search needs
 
 loop-again : tie.Need-loop-again Inv-loop μ-loop
-loop-again c = (omega arith, counted-more _ _ _ _ (c .before .before .before .before .before .loop .inv .1) (unitBytes (decode (c .before .before .before .before .before .before .before .before .before .args .s .now)) (getD (c .before .before .before .before .before .before .before .before .before .args .ids .now) (c .before .before .before .before .before .loop .i) 0)) (programBytes (decode (c .before .before .before .before .before .before .before .before .before .args .s .now)) (drop (c .before .before .before .before .before .loop .i + 1) (take (c .before .before .before .before .before .before .before .before .before .args .units) (c .before .before .before .before .before .before .before .before .before .args .ids .now)))) (c .before .unit-length .result) (c .capped .result) (order-step (c .before .before .before .before .before .before .before .before .before .args .s .now) (c .before .before .before .before .before .before .before .before .before .args .files .now) (c .before .before .before .before .before .before .before .before .before .args .ids .now) (c .before .before .before .before .before .before .before .before .before .args .units) (c .before .before .before .before .before .before .before .before .before .pre) (c .before .before .before .before .before .loop .i) (c .before .before .before .before .loop-test .taken)) (c .before .unit-length .ensures ∙ ap (λ (u : ℕ). min (length (unitBytes (decode (c .before .before .before .before .before .before .before .before .before .args .s .now)) u)) 65536) (c .before .before .wide .ensures)) (c .capped .ensures))
+loop-again c = (omega arith, counted-more _ _ _ _ (c .before .before .before .before .before .loop .inv .1) (unitBytes (decode (c .before .before .before .before .before .before .before .before .before .args .s .now)) (getD (c .before .before .before .before .before .before .before .before .before .args .ids .now) (c .before .before .before .before .before .loop .i) 0)) (programBytes (decode (c .before .before .before .before .before .before .before .before .before .args .s .now)) (drop (c .before .before .before .before .before .loop .i + 1) (take (c .before .before .before .before .before .before .before .before .before .args .units) (c .before .before .before .before .before .before .before .before .before .args .ids .now)))) (c .before .unit-length .result) (c .capped .result) (order-step (c .before .before .before .before .before .before .before .before .before .args .s .now) (c .before .before .before .before .before .before .before .before .before .args .files .now) (c .before .before .before .before .before .before .before .before .before .args .ids .now) (c .before .before .before .before .before .before .before .before .before .args .units) (c .before .before .before .before .before .before .before .before .before .pre) (c .before .before .before .before .before .loop .i) (c .before .before .before .before .loop-test .taken)) (c .before .unit-length .ensures ∙ ap (λ (u : ℕ). min (length (unitBytes (decode (c .before .before .before .before .before .before .before .before .before .args .s .now)) u)) length-cap) (c .before .before .wide .ensures)) (c .capped .ensures))
 
 returns : tie.Need-returns Inv-loop μ-loop
 returns c = counted-all _ _ _ _ (c .before .loop .inv .1) (order-end (c .before .before .before .before .before .args .s .now) (c .before .before .before .before .before .args .files .now) (c .before .before .before .before .before .args .ids .now) (c .before .before .before .before .before .args .units) (c .before .before .before .before .before .pre) (c .before .loop .i) (c .loop-test .left))

@@ -7,6 +7,7 @@ use borrow.Author.Needs.{needs}
 use Rattle.names.specs.Decimal.{unitName}
 use Rattle.bundle.specs.Decode.{decode}
 use Rattle.bundle.specs.Encode.{string}
+use Rattle.assembly.specs.Image.{length-cap}
 use Rattle.assembly.specs.Assemble.{fileOf}
 use Rattle.assembly.specs.GivenLaws.{placed-unit, unit-of, unit-brief, unit-form}
 use Rattle.encoder.specs.Strings.{name-length}
@@ -36,7 +37,7 @@ returns c =
     let b = c .before .before .before .before .before .before .before in
     let f = ap length (unit-form (b .args .s .now) (b .args .u) (c .before .before .before .before .unit-items .result .end) (c .before .before .before .before .unit-items .result .at) (c .before .before .before .before .unit-items .ensures .0)) in
     let l = name-length (c .before .before .before .unit-name .result .bytes) (c .before .before .before .unit-name .result .len) (b .args .u) (c .before .before .before .unit-name .ensures .0) (let x = c .before .before .before .unit-name .ensures .1 in let y = c .before .before .before .unit-name .ensures .2 in omega arith) in
-    let m : c .before .before .items-length .result ≡ min (length (itemsBytes (b .args .s .now) (fileOf (decode (b .args .s .now)) (b .args .u)) 8 (c .before .before .before .before .unit-items .result .end) (c .before .before .before .before .unit-items .result .at))) 65536 = c .before .before .items-length .ensures in
+    let m : c .before .before .items-length .result ≡ min (length (itemsBytes (b .args .s .now) (fileOf (decode (b .args .s .now)) (b .args .u)) 8 (c .before .before .before .before .unit-items .result .end) (c .before .before .before .before .unit-items .result .at))) length-cap = c .before .before .items-length .ensures in
     let r = c .capped .ensures in
     omega (arith, length-append (string (unitName (b .args .u))) (itemsBytes (b .args .s .now) (fileOf (decode (b .args .s .now)) (b .args .u)) 8 (c .before .before .before .before .unit-items .result .end) (c .before .before .before .before .unit-items .result .at)))
 

@@ -8,6 +8,7 @@ use borrow.Rule.Slice.PartMut.{midOf}
 use borrow.Author.Needs.{needs}
 use Rattle.bundle.specs.Decode.{decode}
 use Rattle.order.specs.Writing.{started}
+use Rattle.assembly.specs.Image.{length-cap}
 use Rattle.assembly.specs.Given.{programBytes, unitBytes}
 use Rattle.assembly.specs.GivenLaws.{below, order-step, order-end}
 use Rattle.encoder.specs.Parts.{Filled, lent-length, filled-none, filled-length, filled-start, filled-room, filled-part, filled-more, filled-all}
@@ -48,7 +49,7 @@ write-unit-requires c κs =
     let b = below (c .before .before .before .before .before .before .before .before .before .args .s .now) (c .before .before .before .before .before .before .before .before .before .args .files .now) (c .before .before .before .before .before .before .before .before .before .args .ids .now) (c .before .before .before .before .before .before .before .before .before .args .units) (c .before .before .before .before .before .before .before .before .before .pre .0) (c .before .before .before .before .loop .i) (c .before .before .before .loop-test .taken) in
     let w = c .before .wide .ensures in
     let h = c .before .before .before .before .before .before .before .before .before .pre .1 .1 in
-    ((c .before .before .before .before .before .before .before .before .before .pre .0 .of-units, omega arith), subst (λ (u : ℕ). (length (unitBytes (decode (c .before .before .before .before .before .before .before .before .before .args .s .now)) u) ≤ length (midOf (c .before .before .before .before .loop .sum) (length (c .before .before .before .before .loop .out) - c .before .before .before .before .loop .sum) (c .before .before .before .before .loop .out))) × (length (unitBytes (decode (c .before .before .before .before .before .before .before .before .before .args .s .now)) u) < 65536)) (sym w) (r, omega arith))
+    ((c .before .before .before .before .before .before .before .before .before .pre .0 .of-units, omega arith), subst (λ (u : ℕ). (length (unitBytes (decode (c .before .before .before .before .before .before .before .before .before .args .s .now)) u) ≤ length (midOf (c .before .before .before .before .loop .sum) (length (c .before .before .before .before .loop .out) - c .before .before .before .before .loop .sum) (c .before .before .before .before .loop .out))) × (length (unitBytes (decode (c .before .before .before .before .before .before .before .before .before .args .s .now)) u) < length-cap)) (sym w) (r, omega arith))
 
 add-sum : tie.Need-add-sum Inv-loop μ-loop
 add-sum c =

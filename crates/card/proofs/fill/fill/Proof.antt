@@ -34,8 +34,8 @@ add-file-path c = let l = filling-room _ _ _ _ _ _ _ _ _ ((c .before .before .be
 file-path-requires : tie.Need-file-path-requires Inv-loop μ-loop
 file-path-requires c κs = ((c .before .before .before .before .loop) .inv .filled .kept .size, (filling-room _ _ _ _ _ _ _ _ _ ((c .before .before .before .before .loop) .inv) ((c .before .before .before .loop-test) .taken), (filling-low _ _ _ _ _ _ _ _ _ ((c .before .before .before .before .loop) .inv) ((c .before .before .before .loop-test) .taken), (c .before .hash-of) .ensures .1)))
 
-next-requires : tie.Need-next-requires Inv-loop μ-loop
-next-requires c κs = let l = filling-low _ _ _ _ _ _ _ _ _ ((c .before .before .before .before .before .loop) .inv) ((c .before .before .before .before .loop-test) .taken) in omega arith
+next-path-requires : tie.Need-next-path-requires Inv-loop μ-loop
+next-path-requires c κs = let l = filling-low _ _ _ _ _ _ _ _ _ ((c .before .before .before .before .before .loop) .inv) ((c .before .before .before .before .loop-test) .taken) in omega arith
 
 add-i : tie.Need-add-i Inv-loop μ-loop
 add-i c = let t = (c .before .before .before .before .before .loop-test) .taken in let d = (c .before .before .before .before .before .before .loop) .inv .done in omega arith
@@ -44,10 +44,10 @@ loop-less : tie.Need-loop-less Inv-loop μ-loop
 loop-less c = let t = (c .before .before .before .before .before .loop-test) .taken in let d = (c .before .before .before .before .before .before .loop) .inv .done in omega arith
 
 loop-again : tie.Need-loop-again Inv-loop μ-loop
-loop-again c = filling-more _ _ _ _ _ _ _ _ _ ((c .before .before .before .before .before .before .loop) .inv) ((c .before .before .before .before .before .loop-test) .taken) _ ((c .before .before .before .before .before .before .before .far) .ensures .0) _ ((c .before .before .before .before .string) .ensures) _ ((c .before .before .before .hash-of) .ensures .0) _ ((c .next) .ensures) _ ((c .before .file-path) .ensures)
+loop-again c = filling-more _ _ _ _ _ _ _ _ _ ((c .before .before .before .before .before .before .loop) .inv) ((c .before .before .before .before .before .loop-test) .taken) _ ((c .before .before .before .before .before .before .before .far) .ensures .0) _ ((c .before .before .before .before .string) .ensures) _ ((c .before .before .before .hash-of) .ensures .0) _ ((c .next-path) .ensures) _ ((c .before .file-path) .ensures)
 
 returns : tie.Need-returns Inv-loop μ-loop
 returns c = filling-end _ _ _ _ _ _ _ _ _ ((c .before .loop) .inv) ((c .loop-test) .left)
 
 pub fill-spec : {M : Type 1} → statement M
-fill-spec = tie.close (tie.spec Inv-loop μ-loop element-copy-out-far far-requires loop-holds string-requires hash-of-requires add-file-path file-path-requires next-requires add-i loop-less loop-again returns)
+fill-spec = tie.close (tie.spec Inv-loop μ-loop element-copy-out-far far-requires loop-holds string-requires hash-of-requires add-file-path file-path-requires next-path-requires add-i loop-less loop-again returns)

@@ -15,9 +15,10 @@ use Rattle.encoder.specs.Strings.{stringBytes, strings-step, strings-don
 use Rattle.encoder.specs.Parts.{Filled, lent-length, filled-none, filled-length, filled-start, filled-room, filled-more, filled-all}
 use Rattle.encoder.proofs.bytes.put_strings.Statement.{statement}
 use Rattle.encoder.proofs.bytes.put_strings.Tie as tie
+use Rattle.bundle.specs.Limits.{string-size}
 
 abbrev Inv-loop : tie.InvT-loop
-Inv-loop s first n out₀ at₀ a₀ i₀ out at a i = (i ≤ n) × ((at ≤ first + 256 * i) × (Filled (stringBytes s n first) (stringBytes s (n - i) at) out₀ out a × (length (stringBytes s n first) ≤ length out₀)))
+Inv-loop s first n out₀ at₀ a₀ i₀ out at a i = (i ≤ n) × ((at ≤ first + string-size * i) × (Filled (stringBytes s n first) (stringBytes s (n - i) at) out₀ out a × (length (stringBytes s n first) ≤ length out₀)))
 
 abbrev μ-loop : tie.MeasureT-loop
 μ-loop s first n out₀ at₀ a₀ i₀ out at a i = n - i

@@ -9,13 +9,14 @@ use Rattle.bundle.specs.Decode.{after, far}
 use Rattle.bundle.specs.ListLaws.{far-more}
 use Rattle.encoder.proofs.bytes.strings_end.Statement.{statement}
 use Rattle.encoder.proofs.bytes.strings_end.Tie as tie
+use Rattle.bundle.specs.Limits.{string-size}
 
 from-start : (s : List ℕ) (first : ℕ) → first ≡ far (after s) 0 first
 unfolding far
 from-start s first = refl
 
 abbrev Inv-loop : tie.InvT-loop
-Inv-loop s first n at₀ i₀ at i = (i ≤ n) × ((at ≡ far (after s) i first) × (at ≤ first + 256 * i))
+Inv-loop s first n at₀ i₀ at i = (i ≤ n) × ((at ≡ far (after s) i first) × (at ≤ first + string-size * i))
 
 abbrev μ-loop : tie.MeasureT-loop
 μ-loop s first n at₀ i₀ at i = n - i

@@ -11,9 +11,10 @@ use Rattle.bundle.specs.Encode.{string}
 use Rattle.encoder.specs.Strings.{stringBytes, strings-step, strings-done, string-length, text-short}
 use Rattle.encoder.proofs.bytes.strings_length.Statement.{statement}
 use Rattle.encoder.proofs.bytes.strings_length.Tie as tie
+use Rattle.bundle.specs.Limits.{string-size}
 
 abbrev Inv-loop : tie.InvT-loop
-Inv-loop s first n at₀ a₀ i₀ at a i = (i ≤ n) × ((at ≤ first + 256 * i) × ((a ≤ 256 * i) × (length (stringBytes s n first) ≡ a + length (stringBytes s (n - i) at))))
+Inv-loop s first n at₀ a₀ i₀ at a i = (i ≤ n) × ((at ≤ first + string-size * i) × ((a ≤ string-size * i) × (length (stringBytes s n first) ≡ a + length (stringBytes s (n - i) at))))
 
 abbrev μ-loop : tie.MeasureT-loop
 μ-loop s first n at₀ a₀ i₀ at a i = n - i

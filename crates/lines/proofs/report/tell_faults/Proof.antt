@@ -1,9 +1,9 @@
--- The needs of `tell_faults`. Assumes nothing.
+-- The loop of `lines::report::tell_faults` goes on while something is left. Assumes nothing.
 use Prim.Native.Nat.{_-_}
-use lib.ListN.{length}
 use borrow.Author.Needs.{needs}
-use Rattle.assembly_vectors.proofs.tell_faults.Statement.{statement}
-use Rattle.assembly_vectors.proofs.tell_faults.Tie as tie
+use lib.ListN.{length}
+use Rattle.lines.proofs.report.tell_faults.Statement.{statement}
+use Rattle.lines.proofs.report.tell_faults.Tie as tie
 
 abbrev Inv-loop : tie.InvT-loop
 Inv-loop report at₀ at = Unit {0}

@@ -1,18 +1,15 @@
--- The needs of `tell_ring`. Assumes nothing.
+-- The loop of `lines::report::tell_ring` goes on while something is left. Assumes nothing.
 use Prim.Native.Nat.{_-_}
-use lib.ListN.{length}
 use borrow.Author.Needs.{needs}
-use Rattle.assembly_vectors.proofs.tell_ring.Statement.{statement}
-use Rattle.assembly_vectors.proofs.tell_ring.Tie as tie
+use lib.ListN.{length}
+use Rattle.lines.proofs.report.tell_ring.Statement.{statement}
+use Rattle.lines.proofs.report.tell_ring.Tie as tie
 
 abbrev Inv-loop : tie.InvT-loop
 Inv-loop report at₀ t4 t5 at = Unit {0}
 
 abbrev μ-loop : tie.MeasureT-loop
 μ-loop report at₀ t4 t5 at = length report - at
-
-tell-refusal-requires : tie.Need-tell-refusal-requires Inv-loop μ-loop
-tell-refusal-requires c κs = search needs
 
 slice-aggregate-write-all : tie.Need-slice-aggregate-write-all Inv-loop μ-loop
 slice-aggregate-write-all c = search needs
@@ -62,7 +59,6 @@ tell-ring-spec =
     (tie.spec
     Inv-loop
     μ-loop
-    tell-refusal-requires
     slice-aggregate-write-all
     write-all-requires
     loop-holds
