@@ -40,6 +40,7 @@ unfoldable pub elementsLength : List Element → ℕ
 elementsLength [] = 0
 elementsLength (e ∷ l) = 2 + length (e .name) + length (e .alias) + elementsLength l
 
+-- a named item's own: its length and its head
 abbrev pub headLength : Head → ℕ
 headLength h = 5 + length (h .name)
 
@@ -164,6 +165,7 @@ module _ (p : Items) (out : List ℕ) where
       go false u h k = let z : _≡_ {A = ℕ} 14 15 = cc in absurd (omega arith)
 
 -- MARKS ARE NOT IN THE IMAGE
+-- a head without its mark
 abbrev pub unmarkedHead : Head → Head
 unmarkedHead h = record { kind = h .kind; mark = 0; visibility = h .visibility; name = h .name }
 

@@ -71,7 +71,7 @@ module _ {A : Type 0} (f : A → List ℕ) (s : Splits f) where
       let j : joined f l ++ r ≡ joined f k ++ q = cc in
       joined-split l k r q n j
 
--- the bytes of a head
+-- heads of one encoding differ in their marks at most
 head-unique : (h k : Head) → encodeHead h ≡ encodeHead k → unmarkedHead h ≡ unmarkedHead k
 head-unique h k e =
     let i : h .kind ≡ k .kind = cc in
