@@ -46,7 +46,7 @@ rewriteUse b file segments = newPath (unitsOf b) (resolvePathInternal (listsOf b
 -- stay; ignored items go. Each item keeps its mark.
 unfoldable pub rewriteItems : (List Text → List Text) → Items → Items
 rewriteItems path none = none
-rewriteItems path (named k m v name rest) = named k m v name (rewriteItems path rest)
+rewriteItems path (named head rest) = named head (rewriteItems path rest)
 rewriteItems path (use-of m v segments elements rest) = use-of m v (path segments) elements (rewriteItems path rest)
 rewriteItems path (module-of m v name inner rest) = module-of m v name (rewriteItems path inner) (rewriteItems path rest)
 rewriteItems path (ignored m v rest) = rewriteItems path rest
@@ -71,7 +71,7 @@ assembled b (u ∷ l) = module-of 0 0 (unitName u) (localItems b u) (assembled b
 -- the marks of all enums, those of inline modules included
 unfoldable pub enumDeclarations : Items → List ℕ
 enumDeclarations none = []
-enumDeclarations (named k m v name rest) = cond (eqb k enum-kind) (m ∷ enumDeclarations rest) (enumDeclarations rest)
+enumDeclarations (named head rest) = cond (eqb (head .kind) enum-kind) (head .mark ∷ enumDeclarations rest) (enumDeclarations rest)
 enumDeclarations (use-of m v segments elements rest) = enumDeclarations rest
 enumDeclarations (module-of m v name inner rest) = enumDeclarations inner ++ enumDeclarations rest
 enumDeclarations (ignored m v rest) = enumDeclarations rest
@@ -87,7 +87,7 @@ forbidEnumDecInDeps (suc u) is = map foreignEnum (enumDeclarations is)
 -- a function named `main` among items, and not inside their modules
 unfoldable pub hasMain : Items → Bool
 hasMain none = false
-hasMain (named k m v name rest) = (eqb k function-kind && same name (ascii "main")) || hasMain rest
+hasMain (named head rest) = (eqb (head .kind) function-kind && same (head .name) (ascii "main")) || hasMain rest
 hasMain (use-of m v segments elements rest) = hasMain rest
 hasMain (module-of m v name inner rest) = hasMain rest
 hasMain (ignored m v rest) = hasMain rest

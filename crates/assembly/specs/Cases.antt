@@ -11,13 +11,14 @@ use Rattle.names.specs.Path.{isPath, isComponent, wellFormed, split, onto, comp
 use Rattle.names.specs.Prefix.{directlyIn, startsWith, begins, child, childFile, stemOf}
 use Rattle.names.specs.Identifier.{isIdentifier, class, letter, digit}
 use Rattle.names.specs.Keywords.{isCrate, isKeyword, keywords}
-use Rattle.bundle.specs.Bundle.{Text, Element, Items, none, named, use-of, module-of, ignored, Remapping, File, Bundle}
+use Rattle.bundle.specs.Bundle.{Text, Element, Items, none, use-of, module-of, ignored, Remapping, File, Bundle}
 use Rattle.bundle.specs.Encode.{two, string, joined, counted, sized, element, items, remapping, file, fields, encode}
 use Rattle.bundle.specs.Scan.{times, scanString, scanFormed, scanAlias, scanField, scanCount, scanList, scanUse, scanLength, scanMark, scanHead, scanBody, scanEnd, scanItemWith, siblings, scanModule, scanFile, scanFiles, scanHeader}
 use Rattle.bundle.specs.Decode.{each, far, elementAt, remappingAt, itemAt, itemsBy, itemsAt, fileAt, decode}
 use Rattle.bundle.specs.Conflicts.{placedAt, placedRemappingAt, any, listed, located, sameRemapping, remapped, conflicts}
 use Rattle.bundle.specs.Conflicts as conflict
 use Rattle.bundle.specs.Read.{Reading, value, refused, form, lists, files, verdict, read}
+use Rattle.bundle.specs.CaseLaws.{item}
 use Rattle.resolution.specs.Longest.{insert, longestFirst, firstOf}
 use Rattle.resolution.specs.Resolution.{getPackageRoot, applies, remappingFor, isFolder, isFile, buildAndVerifyPath, resolveCratePath, checkLocalFileImportedAsExternal, resolvePathInternal}
 use Rattle.resolution.specs.Call.{position}
@@ -77,23 +78,23 @@ rows =
     -- the printed case: `crate::a` becomes `crate::unit_1`
     record {
       bundle = below-r [] []
-          (at-path "/r/main.simf" (use-of 0 0 (path ("crate" ∷ "a" ∷ [])) (plain "f" ∷ []) (named 2 0 0 (ascii "main") none))
-          ∷ at-path "/r/a.simf" (named 2 0 1 (ascii "f") none) ∷ []);
+          (at-path "/r/main.simf" (use-of 0 0 (path ("crate" ∷ "a" ∷ [])) (plain "f" ∷ []) (item 2 0 0 (ascii "main") none))
+          ∷ at-path "/r/a.simf" (item 2 0 1 (ascii "f") none) ∷ []);
       expected = told (program (1 ∷ 0 ∷ [])
-          (unit "unit_1" (named 2 65 1 (ascii "f") none)
-          (unit "unit_0" (use-of 27 0 (path ("crate" ∷ "unit_1" ∷ [])) (plain "f" ∷ []) (named 2 44 0 (ascii "main") none)) none)))
+          (unit "unit_1" (item 2 65 1 (ascii "f") none)
+          (unit "unit_0" (use-of 27 0 (path ("crate" ∷ "unit_1" ∷ [])) (plain "f" ∷ []) (item 2 44 0 (ascii "main") none)) none)))
           (1 ∷ 0 ∷ 59 ∷ 0 ∷ 15 ∷ 5 ∷ 0 ∷ 6 ∷ 117 ∷ 110 ∷ 105 ∷ 116 ∷ 95 ∷ 49 ∷ 0 ∷ 4 ∷ 2 ∷ 1 ∷ 1 ∷ 102 ∷ 0 ∷ 40 ∷ 5 ∷ 0 ∷ 6 ∷ 117 ∷ 110 ∷ 105 ∷ 116 ∷ 95 ∷ 48 ∷ 0 ∷ 20 ∷ 3 ∷ 0 ∷ 2 ∷ 5 ∷ 99 ∷ 114 ∷ 97 ∷ 116 ∷ 101 ∷ 6 ∷ 117 ∷ 110 ∷ 105 ∷ 116 ∷ 95 ∷ 49 ∷ 1 ∷ 1 ∷ 102 ∷ 0 ∷ 0 ∷ 7 ∷ 2 ∷ 0 ∷ 4 ∷ 109 ∷ 97 ∷ 105 ∷ 110 ∷ []);
     }
     -- C4: a use that resolves to its own file keeps the segments after `crate` as module path; ignored items go, nested ones too
     ∷ record {
       bundle = below-r [] []
           (at-path "/r/main.simf"
-          (module-of 0 1 (ascii "m") (ignored 0 0 (module-of 0 1 (ascii "n") (named 2 0 1 (ascii "f") none) none))
-          (ignored 0 0 (use-of 0 0 (path ("crate" ∷ "m" ∷ "n" ∷ [])) (renamed "f" "g" ∷ []) (named 2 0 0 (ascii "main") none)))) ∷ []);
+          (module-of 0 1 (ascii "m") (ignored 0 0 (module-of 0 1 (ascii "n") (item 2 0 1 (ascii "f") none) none))
+          (ignored 0 0 (use-of 0 0 (path ("crate" ∷ "m" ∷ "n" ∷ [])) (renamed "f" "g" ∷ []) (item 2 0 0 (ascii "main") none)))) ∷ []);
       expected = told (program (0 ∷ [])
           (unit "unit_0"
-          (module-of 27 1 (ascii "m") (module-of 37 1 (ascii "n") (named 2 43 1 (ascii "f") none) none)
-          (use-of 53 0 (path ("crate" ∷ "unit_0" ∷ "m" ∷ "n" ∷ [])) (renamed "f" "g" ∷ []) (named 2 73 0 (ascii "main") none))) none))
+          (module-of 27 1 (ascii "m") (module-of 37 1 (ascii "n") (item 2 43 1 (ascii "f") none) none)
+          (use-of 53 0 (path ("crate" ∷ "unit_0" ∷ "m" ∷ "n" ∷ [])) (renamed "f" "g" ∷ []) (item 2 73 0 (ascii "main") none))) none))
           (1 ∷ 0 ∷ 65 ∷ 0 ∷ 63 ∷ 5 ∷ 0 ∷ 6 ∷ 117 ∷ 110 ∷ 105 ∷ 116 ∷ 95 ∷ 48 ∷ 0 ∷ 16 ∷ 5 ∷ 1 ∷ 1 ∷ 109 ∷ 0 ∷ 10 ∷ 5 ∷ 1 ∷ 1 ∷ 110 ∷ 0 ∷ 4 ∷ 2 ∷ 1 ∷ 1 ∷ 102 ∷ 0 ∷ 25 ∷ 3 ∷ 0 ∷ 4 ∷ 5 ∷ 99 ∷ 114 ∷ 97 ∷ 116 ∷ 101 ∷ 6 ∷ 117 ∷ 110 ∷ 105 ∷ 116 ∷ 95 ∷ 48 ∷ 1 ∷ 109 ∷ 1 ∷ 110 ∷ 1 ∷ 1 ∷ 102 ∷ 1 ∷ 103 ∷ 0 ∷ 7 ∷ 2 ∷ 0 ∷ 4 ∷ 109 ∷ 97 ∷ 105 ∷ 110 ∷ []);
     }
     -- a library, uses inside an inline module, and module paths that are left
@@ -103,17 +104,17 @@ rows =
           (module-of 0 1 (ascii "m")
           (use-of 0 1 (path ("lib" ∷ "a" ∷ "k" ∷ [])) (plain "f" ∷ renamed "f" "h" ∷ [])
           (use-of 0 1 (path ("lib" ∷ "b" ∷ [])) (plain "T" ∷ []) none))
-          (named 2 0 0 (ascii "main") none))
-          ∷ at-path "/r/l/b.simf" (use-of 0 0 (path ("crate" ∷ "a" ∷ "k" ∷ [])) (plain "f" ∷ []) (named 1 0 1 (ascii "T") none))
-          ∷ at-path "/r/l/a.simf" (module-of 0 1 (ascii "k") (named 2 0 1 (ascii "f") none) none) ∷ []);
+          (item 2 0 0 (ascii "main") none))
+          ∷ at-path "/r/l/b.simf" (use-of 0 0 (path ("crate" ∷ "a" ∷ "k" ∷ [])) (plain "f" ∷ []) (item 1 0 1 (ascii "T") none))
+          ∷ at-path "/r/l/a.simf" (module-of 0 1 (ascii "k") (item 2 0 1 (ascii "f") none) none) ∷ []);
       expected = told (program (1 ∷ 2 ∷ 0 ∷ [])
-          (unit "unit_1" (module-of 147 1 (ascii "k") (named 2 153 1 (ascii "f") none) none)
-          (unit "unit_2" (use-of 108 0 (path ("crate" ∷ "unit_1" ∷ "k" ∷ [])) (plain "f" ∷ []) (named 1 127 1 (ascii "T") none))
+          (unit "unit_1" (module-of 147 1 (ascii "k") (item 2 153 1 (ascii "f") none) none)
+          (unit "unit_2" (use-of 108 0 (path ("crate" ∷ "unit_1" ∷ "k" ∷ [])) (plain "f" ∷ []) (item 1 127 1 (ascii "T") none))
           (unit "unit_0"
           (module-of 43 1 (ascii "m")
           (use-of 49 1 (path ("crate" ∷ "unit_1" ∷ "k" ∷ [])) (plain "f" ∷ renamed "f" "h" ∷ [])
           (use-of 70 1 (path ("crate" ∷ "unit_2" ∷ [])) (plain "T" ∷ []) none))
-          (named 2 85 0 (ascii "main") none)) none))))
+          (item 2 85 0 (ascii "main") none)) none))))
           (1 ∷ 0 ∷ 140 ∷ 0 ∷ 21 ∷ 5 ∷ 0 ∷ 6 ∷ 117 ∷ 110 ∷ 105 ∷ 116 ∷ 95 ∷ 49 ∷ 0 ∷ 10 ∷ 5 ∷ 1 ∷ 1 ∷ 107 ∷ 0 ∷ 4 ∷ 2 ∷ 1 ∷ 1 ∷ 102 ∷ 0 ∷ 39 ∷ 5 ∷ 0 ∷ 6 ∷ 117 ∷ 110 ∷ 105 ∷ 116 ∷ 95 ∷ 50 ∷ 0 ∷ 22 ∷ 3 ∷ 0 ∷ 3 ∷ 5 ∷ 99 ∷ 114 ∷ 97 ∷ 116 ∷ 101 ∷ 6 ∷ 117 ∷ 110 ∷ 105 ∷ 116 ∷ 95 ∷ 49 ∷ 1 ∷ 107 ∷ 1 ∷ 1 ∷ 102 ∷ 0 ∷ 0 ∷ 4 ∷ 1 ∷ 1 ∷ 1 ∷ 84 ∷ 0 ∷ 74 ∷ 5 ∷ 0 ∷ 6 ∷ 117 ∷ 110 ∷ 105 ∷ 116 ∷ 95 ∷ 48 ∷ 0 ∷ 54 ∷ 5 ∷ 1 ∷ 1 ∷ 109 ∷ 0 ∷ 26 ∷ 3 ∷ 1 ∷ 3 ∷ 5 ∷ 99 ∷ 114 ∷ 97 ∷ 116 ∷ 101 ∷ 6 ∷ 117 ∷ 110 ∷ 105 ∷ 116 ∷ 95 ∷ 49 ∷ 1 ∷ 107 ∷ 2 ∷ 1 ∷ 102 ∷ 0 ∷ 1 ∷ 102 ∷ 1 ∷ 104 ∷ 0 ∷ 20 ∷ 3 ∷ 1 ∷ 2 ∷ 5 ∷ 99 ∷ 114 ∷ 97 ∷ 116 ∷ 101 ∷ 6 ∷ 117 ∷ 110 ∷ 105 ∷ 116 ∷ 95 ∷ 50 ∷ 1 ∷ 1 ∷ 84 ∷ 0 ∷ 0 ∷ 7 ∷ 2 ∷ 0 ∷ 4 ∷ 109 ∷ 97 ∷ 105 ∷ 110 ∷ []);
     }
     -- a nested enum of unit 1 is 28 with its mark, unit 0's own is none; then 27: a nested function `main` and another unit's
@@ -122,22 +123,22 @@ rows =
       bundle = below-r [] []
           (at-path "/r/main.simf"
           (use-of 0 0 (path ("crate" ∷ "a" ∷ [])) (plain "f" ∷ [])
-          (named 4 0 0 (ascii "e") (module-of 0 0 (ascii "m") (named 2 0 0 (ascii "main") none) none)))
+          (item 4 0 0 (ascii "e") (module-of 0 0 (ascii "m") (item 2 0 0 (ascii "main") none) none)))
           ∷ at-path "/r/a.simf"
-          (named 2 0 1 (ascii "f")
-          (module-of 0 1 (ascii "m") (ignored 0 0 (named 4 0 1 (ascii "k") none)) (named 1 0 0 (ascii "main") none))) ∷ []);
+          (item 2 0 1 (ascii "f")
+          (module-of 0 1 (ascii "m") (ignored 0 0 (item 4 0 1 (ascii "k") none)) (item 1 0 0 (ascii "main") none))) ∷ []);
       expected = told (faulty (record { number = 28; place = 93 } ∷ record { number = 27; place = 0 } ∷ [])) [];
     }
     -- an unreached file's enum is not told
     ∷ record {
-      bundle = below-r [] [] (at-path "/r/main.simf" none ∷ at-path "/r/a.simf" (named 4 0 1 (ascii "k") none) ∷ []);
+      bundle = below-r [] [] (at-path "/r/main.simf" none ∷ at-path "/r/a.simf" (item 4 0 1 (ascii "k") none) ∷ []);
       expected = told (faulty (record { number = 27; place = 0 } ∷ [])) [];
     }
     -- a ring prevents step 5, so no 27 or 28 is told; and so does a fault of discovery
     ∷ record {
       bundle = below-r [] []
           (at-path "/r/main.simf" (use-of 0 0 (path ("crate" ∷ "a" ∷ [])) [] none)
-          ∷ at-path "/r/a.simf" (use-of 0 0 (path ("crate" ∷ "main" ∷ [])) [] (named 4 0 1 (ascii "k") none)) ∷ []);
+          ∷ at-path "/r/a.simf" (use-of 0 0 (path ("crate" ∷ "main" ∷ [])) [] (item 4 0 1 (ascii "k") none)) ∷ []);
       expected = told (closed (0 ∷ 1 ∷ [])) [];
     }
     ∷ record {
@@ -160,7 +161,7 @@ pub record Lent : Type 0 where
 
 -- a unit with one item: 20 bytes, and the header
 abbrev small-program : Items
-small-program = unit "unit_0" (named 2 9 0 (ascii "main") none) none
+small-program = unit "unit_0" (item 2 9 0 (ascii "main") none) none
 
 abbrev filled : List ℕ → List ℕ
 filled rest = 7 ∷ 7 ∷ 7 ∷ 7 ∷ 7 ∷ 7 ∷ 7 ∷ 7 ∷ 7 ∷ 7 ∷ 7 ∷ 7 ∷ 7 ∷ 7 ∷ 7 ∷ 7 ∷ 7 ∷ 7 ∷ 7 ∷ 7 ∷ 7 ∷ 7 ∷ rest

@@ -31,9 +31,9 @@ use Rattle.assembly.specs.GivenLaws.{placed-unit}
 pub enums-few : (x : Items) → length (enumDeclarations x) ≤ itemCount x
 unfolding enumDeclarations itemCount
 enums-few none = omega arith
-enums-few (named k m v name rest) = go (eqb k enum-kind) (enums-few rest)
+enums-few (named head rest) = go (eqb (head .kind) enum-kind) (enums-few rest)
   where
-    go : (t : Bool) → length (enumDeclarations rest) ≤ itemCount rest → length (cond t (m ∷ enumDeclarations rest) (enumDeclarations rest)) ≤ 1 + itemCount rest
+    go : (t : Bool) → length (enumDeclarations rest) ≤ itemCount rest → length (cond t (head .mark ∷ enumDeclarations rest) (enumDeclarations rest)) ≤ 1 + itemCount rest
     go true h = omega arith
     go false h = omega arith
 enums-few (use-of m v segments elements rest) = let h = enums-few rest in omega arith

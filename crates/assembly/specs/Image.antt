@@ -9,8 +9,8 @@ use lib.Dec.{leb}
 use lib.ListN.{length, take, drop, length-append, length-drop}
 use lib.Seq.{take-at, drop-at}
 use borrow.Author.Tests.{leb-true, leb-false, le-leb, lt-leb}
-use Rattle.bundle.specs.Bundle.{Text, Element, Items, none, named, use-of, module-of, ignored}
-use Rattle.bundle.specs.Encode.{two, string, joined, counted, sized, element, items}
+use Rattle.bundle.specs.Bundle.{Text, Element, Head, Items, none, named, use-of, module-of, ignored}
+use Rattle.bundle.specs.Encode.{two, string, joined, counted, sized, element, encodeHead, items}
 use Rattle.bundle.specs.Limits.{version, header, capacity, use-kind, module-kind, ignored-kind}
 use Rattle.bundle.specs.declared.Width.the-variants.{Word}
 use Rattle.assembly.specs.declared.Imaged.{Imaged}
@@ -45,9 +45,13 @@ unfoldable pub elementsLength : List Element → ℕ
 elementsLength [] = 0
 elementsLength (e ∷ l) = 2 + length (e .name) + length (e .alias) + elementsLength l
 
+-- a named item's own: its length and its head
+abbrev pub headLength : Head → ℕ
+headLength h = 5 + length (h .name)
+
 unfoldable pub itemsLength : Items → ℕ
 itemsLength none = 0
-itemsLength (named k m v name rest) = 5 + length name + itemsLength rest
+itemsLength (named head rest) = headLength head + itemsLength rest
 itemsLength (use-of m v segments elements rest) = 6 + segmentsLength segments + elementsLength elements + itemsLength rest
 itemsLength (module-of m v name inner rest) = 5 + length name + itemsLength inner + itemsLength rest
 itemsLength (ignored m v rest) = 4 + itemsLength rest
@@ -86,12 +90,15 @@ pub sized-length : (s : List ℕ) → length (sized s) ≡ 2 + length s
 unfolding sized two
 sized-length s = omega arith
 
+head-length : (h : Head) → length (sized (encodeHead h)) ≡ headLength h
+unfolding string
+head-length h = omega (arith, sized-length (encodeHead h))
+
 -- the counted length is that of the bytes
 pub items-length : (p : Items) → length (items p) ≡ itemsLength p
 unfolding items itemsLength string counted
 items-length none = refl
-items-length (named k m v name rest) =
-    omega (arith, items-length rest, length-append (sized (k ∷ v ∷ string name)) (items rest), sized-length (k ∷ v ∷ string name))
+items-length (named head rest) = omega (arith, items-length rest, length-append (sized (encodeHead head)) (items rest), head-length head)
 items-length (use-of m v segments elements rest) =
     let body = counted string segments ++ counted element elements in
     omega (arith, items-length rest, length-append (sized (use-kind ∷ v ∷ body)) (items rest), sized-length (use-kind ∷ v ∷ body), length-append (counted string segments) (counted element elements), segments-length segments, elements-length elements)
@@ -163,9 +170,13 @@ module _ (p : Items) (out : List ℕ) where
       go false u h k = let z : _≡_ {A = ℕ} 14 15 = cc in absurd (omega arith)
 
 -- MARKS ARE NOT IN THE IMAGE
+-- a head without its mark
+abbrev pub unmarkedHead : Head → Head
+unmarkedHead h = record { kind = h .kind; mark = 0; visibility = h .visibility; name = h .name }
+
 unfoldable pub unmarked : Items → Items
 unmarked none = none
-unmarked (named k m v name rest) = named k 0 v name (unmarked rest)
+unmarked (named head rest) = named (unmarkedHead head) (unmarked rest)
 unmarked (use-of m v segments elements rest) = use-of 0 v segments elements (unmarked rest)
 unmarked (module-of m v name inner rest) = module-of 0 v name (unmarked inner) (unmarked rest)
 unmarked (ignored m v rest) = ignored 0 v (unmarked rest)
@@ -173,7 +184,7 @@ unmarked (ignored m v rest) = ignored 0 v (unmarked rest)
 items-unmarked : (p : Items) → items (unmarked p) ≡ items p
 unfolding items unmarked
 items-unmarked none = refl
-items-unmarked (named k m v name rest) = rw (items-unmarked rest)
+items-unmarked (named head rest) = rw (items-unmarked rest)
 items-unmarked (use-of m v segments elements rest) = rw (items-unmarked rest)
 items-unmarked (module-of m v name inner rest) = rw (items-unmarked rest, items-unmarked inner)
 items-unmarked (ignored m v rest) = rw (items-unmarked rest)

@@ -10,9 +10,9 @@ use lib.ListN.{length, getD, length-append}
 use borrow.Author.Tests.{eqb-true}
 use Rattle.names.specs.Identifier.{isIdentifier, identifier-short, identifier-bytes}
 use Rattle.names.specs.NameTheorems.{unit-identifier}
-use Rattle.bundle.specs.Bundle.{Text, Element, Items, none, named, use-of, module-of, ignored, Bundle}
-use Rattle.bundle.specs.Encode.{two, string, joined, counted, sized, element, items}
-use Rattle.bundle.specs.Form.{Every, IsName, IsAlias, FormedElement, NamedKind, Formed, WellFormed}
+use Rattle.bundle.specs.Bundle.{Text, Element, Head, Items, none, named, use-of, module-of, ignored, Bundle}
+use Rattle.bundle.specs.Encode.{two, string, joined, counted, sized, element, encodeHead, items}
+use Rattle.bundle.specs.Form.{Every, IsName, IsAlias, FormedElement, FormedHead, Formed, WellFormed}
 use Rattle.bundle.specs.Limits.{use-kind, module-kind, element-limit, depth-limit}
 use Rattle.discovery.specs.Discovery.{Use, uses}
 use Rattle.order.specs.Run.{linked, ordered}
@@ -25,7 +25,7 @@ use Rattle.assembly.specs.Theorems.{assembly, few-units}
 -- items in form, with modules at most so deep
 unfoldable pub ImageFormed : Items → ℕ → Type 0
 ImageFormed none depth = Unit {0}
-ImageFormed (named k m v name rest) depth = NamedKind k × ((v ≤ 1) × (IsName name × ImageFormed rest depth))
+ImageFormed (named head rest) depth = FormedHead head × ImageFormed rest depth
 ImageFormed (use-of m v segments elements rest) depth =
     (v ≤ 1) × (ImagePath segments × (((length elements ≤ element-limit) × Every FormedElement elements) × ImageFormed rest depth))
 ImageFormed (module-of m v name inner rest) depth = (v ≤ 1) × (IsName name × (((0 < depth) × ImageFormed inner (depth - 1)) × ImageFormed rest depth))
@@ -35,7 +35,7 @@ pub rewritten-formed : (path : List Text → List Text) (x : Items) (d : ℕ) �
     → ImageFormed (rewriteItems path x) d
 unfolding Formed ImageFormed rewriteItems uses
 rewritten-formed path none d f g = tt
-rewritten-formed path (named k m v name rest) d f g = (f .0, (f .1 .0, (f .1 .1 .0, rewritten-formed path rest d (f .1 .1 .1) g)))
+rewritten-formed path (named head rest) d f g = (f .0, rewritten-formed path rest d (f .1) g)
 rewritten-formed path (use-of m v segments elements rest) d f g =
     (f .0, (g (record { mark = m; segments = segments }) (List·Memᴰ·head refl), (f .1 .1 .0, rewritten-formed path rest d (f .1 .1 .1) (λ u w. g u (List·Memᴰ·tail w)))))
 rewritten-formed path (module-of m v name inner rest) d f g =
@@ -91,6 +91,10 @@ alias-bytes t h = go (eqb (length t) 0) refl h
     go true q k = empty t (eqb-true (length t) 0 q)
     go false q k = name-bytes t k
 
+head-bytes : (h : Head) → FormedHead h → Every Byte (encodeHead h)
+unfolding Every
+head-bytes h f = let k = f .kind .1 .0 in let v = f .visibility in (omega arith, (omega arith, name-bytes (h .name) (f .name)))
+
 segments-bytes : (l : List Text) → Every IsName l → Every Byte (joined string l)
 unfolding joined Every
 segments-bytes [] h = tt
@@ -121,10 +125,7 @@ item-then s rest h f g =
 items-bytes : (x : Items) (d : ℕ) → ImageFormed x d → length (items x) ≤ image-limit → Every Byte (items x)
 unfolding ImageFormed items Every
 items-bytes none d f h = tt
-items-bytes (named k m v name rest) d f h =
-    let a = f .0 .1 .0 in
-    let c = f .1 .0 in
-    item-then (k ∷ v ∷ string name) (items rest) h (omega arith, (omega arith, name-bytes name (f .1 .1 .0))) (λ l. items-bytes rest d (f .1 .1 .1) l)
+items-bytes (named head rest) d f h = item-then (encodeHead head) (items rest) h (head-bytes head (f .0)) (λ l. items-bytes rest d (f .1) l)
 items-bytes (use-of m v segments elements rest) d f h =
     let a = f .0 in
     let p = f .1 .0 .count in

@@ -98,7 +98,7 @@ FormedPath segments = (length segments ≤ segment-limit) × Every IsName segmen
 pub uses-formed : (x : Items) (d : ℕ) → Formed x d → (u : Use) → List·Memᴰ u (uses x) → FormedPath (u .segments)
 unfolding Formed uses
 uses-formed none d f u m = absurd (List·Memᴰ·not-nil m)
-uses-formed (named k i v name rest) d f u m = uses-formed rest d (f .1 .1 .1) u m
+uses-formed (named head rest) d f u m = uses-formed rest d (f .1) u m
 uses-formed (use-of i v segments elements rest) d f u m =
     ⊎-elim (λ e. subst (λ (y : Use). FormedPath (y .segments)) (sym e) (f .1 .0)) (λ w. uses-formed rest d (f .1 .1 .1) u w) (List·Memᴰ·cases-cons m)
 uses-formed (module-of i v name inner rest) d f u m =

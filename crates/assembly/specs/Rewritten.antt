@@ -2,38 +2,38 @@
 use Prim.Native.Nat.{ℕ, suc}
 use mathlib.Core.Path.{_≡_, refl, sym}
 use mathlib.Core.List.{List, [], _∷_, _++_, map}
-use Rattle.bundle.specs.Bundle.{Text, Element, Items, none, named, use-of, module-of, ignored}
+use Rattle.bundle.specs.Bundle.{Text, Element, Head, Items, none, named, use-of, module-of, ignored}
 use Rattle.discovery.specs.Discovery.{Use, uses}
 use Rattle.assembly.specs.Assemble.{rewriteItems, enumDeclarations, hasMain}
 
 -- ITEMS AS A LIST
 -- an item but for the path of a use and what is in a module: how deep it stands, its mark and visibility, and what its kind has
-pub data Head : Type 0 where
-  declared : (depth kind mark visibility : ℕ) (name : Text) → Head
-  imports : (depth mark visibility : ℕ) (elements : List Element) → Head
-  opens : (depth mark visibility : ℕ) (name : Text) → Head
-  skipped : (depth mark visibility : ℕ) → Head
+pub data Heading : Type 0 where
+  declared : (depth : ℕ) (head : Head) → Heading
+  imports : (depth mark visibility : ℕ) (elements : List Element) → Heading
+  opens : (depth mark visibility : ℕ) (name : Text) → Heading
+  skipped : (depth mark visibility : ℕ) → Heading
 
 -- in item order, a module's items after it and one deeper
-unfoldable pub heads : ℕ → Items → List Head
-heads d none = []
-heads d (named k m v name rest) = declared d k m v name ∷ heads d rest
-heads d (use-of m v segments elements rest) = imports d m v elements ∷ heads d rest
-heads d (module-of m v name inner rest) = opens d m v name ∷ (heads (suc d) inner ++ heads d rest)
-heads d (ignored m v rest) = skipped d m v ∷ heads d rest
+unfoldable pub headings : ℕ → Items → List Heading
+headings d none = []
+headings d (named head rest) = declared d head ∷ headings d rest
+headings d (use-of m v segments elements rest) = imports d m v elements ∷ headings d rest
+headings d (module-of m v name inner rest) = opens d m v name ∷ (headings (suc d) inner ++ headings d rest)
+headings d (ignored m v rest) = skipped d m v ∷ headings d rest
 
 -- without ignored items
-unfoldable pub kept : List Head → List Head
+unfoldable pub kept : List Heading → List Heading
 kept [] = []
-kept (declared d k m v name ∷ l) = declared d k m v name ∷ kept l
+kept (declared d head ∷ l) = declared d head ∷ kept l
 kept (imports d m v elements ∷ l) = imports d m v elements ∷ kept l
 kept (opens d m v name ∷ l) = opens d m v name ∷ kept l
 kept (skipped d m v ∷ l) = kept l
 
-kept-append : (l k : List Head) → kept (l ++ k) ≡ kept l ++ kept k
+kept-append : (l k : List Heading) → kept (l ++ k) ≡ kept l ++ kept k
 unfolding kept
 kept-append [] k = refl
-kept-append (declared d i m v name ∷ l) k = rw (kept-append l k)
+kept-append (declared d head ∷ l) k = rw (kept-append l k)
 kept-append (imports d m v elements ∷ l) k = rw (kept-append l k)
 kept-append (opens d m v name ∷ l) k = rw (kept-append l k)
 kept-append (skipped d m v ∷ l) k = kept-append l k
@@ -44,13 +44,13 @@ map-append f (a ∷ l) k = rw (map-append f l k)
 
 module _ (path : List Text → List Text) where
   -- NO ITEM IS LOST OR INVENTED
-  pub heads-kept : (d : ℕ) (x : Items) → heads d (rewriteItems path x) ≡ kept (heads d x)
-  unfolding heads kept rewriteItems
-  heads-kept d none = refl
-  heads-kept d (named k m v name rest) = rw (heads-kept d rest)
-  heads-kept d (use-of m v segments elements rest) = rw (heads-kept d rest)
-  heads-kept d (module-of m v name inner rest) = rw (heads-kept d rest, heads-kept (suc d) inner, kept-append (heads (suc d) inner) (heads d rest))
-  heads-kept d (ignored m v rest) = heads-kept d rest
+  pub headings-kept : (d : ℕ) (x : Items) → headings d (rewriteItems path x) ≡ kept (headings d x)
+  unfolding headings kept rewriteItems
+  headings-kept d none = refl
+  headings-kept d (named head rest) = rw (headings-kept d rest)
+  headings-kept d (use-of m v segments elements rest) = rw (headings-kept d rest)
+  headings-kept d (module-of m v name inner rest) = rw (headings-kept d rest, headings-kept (suc d) inner, kept-append (headings (suc d) inner) (headings d rest))
+  headings-kept d (ignored m v rest) = headings-kept d rest
 
   -- THE USES, in their order, each with its mark, and its path rewritten
   abbrev pub rewritten : Use → Use
@@ -59,7 +59,7 @@ module _ (path : List Text → List Text) where
   pub uses-rewritten : (x : Items) → uses (rewriteItems path x) ≡ map rewritten (uses x)
   unfolding uses rewriteItems
   uses-rewritten none = refl
-  uses-rewritten (named k m v name rest) = uses-rewritten rest
+  uses-rewritten (named head rest) = uses-rewritten rest
   uses-rewritten (use-of m v segments elements rest) = rw (uses-rewritten rest)
   uses-rewritten (module-of m v name inner rest) = rw (uses-rewritten rest, uses-rewritten inner) (sym (map-append rewritten (uses inner) (uses rest)))
   uses-rewritten (ignored m v rest) = uses-rewritten rest
@@ -68,7 +68,7 @@ module _ (path : List Text → List Text) where
   pub enums-rewritten : (x : Items) → enumDeclarations (rewriteItems path x) ≡ enumDeclarations x
   unfolding enumDeclarations rewriteItems
   enums-rewritten none = refl
-  enums-rewritten (named k m v name rest) = rw (enums-rewritten rest)
+  enums-rewritten (named head rest) = rw (enums-rewritten rest)
   enums-rewritten (use-of m v segments elements rest) = enums-rewritten rest
   enums-rewritten (module-of m v name inner rest) = rw (enums-rewritten rest, enums-rewritten inner)
   enums-rewritten (ignored m v rest) = enums-rewritten rest
@@ -76,7 +76,7 @@ module _ (path : List Text → List Text) where
   pub main-rewritten : (x : Items) → hasMain (rewriteItems path x) ≡ hasMain x
   unfolding hasMain rewriteItems
   main-rewritten none = refl
-  main-rewritten (named k m v name rest) = rw (main-rewritten rest)
+  main-rewritten (named head rest) = rw (main-rewritten rest)
   main-rewritten (use-of m v segments elements rest) = main-rewritten rest
   main-rewritten (module-of m v name inner rest) = main-rewritten rest
   main-rewritten (ignored m v rest) = main-rewritten rest

@@ -35,7 +35,7 @@ use Rattle.order.specs.Files.{LinkedFiles, ImportEachOther}
 use Rattle.order.specs.Units.{paths-append}
 use Rattle.order.specs.Theorems.{faultsOf, LinkedIds, FirstHalf, first-half, first-half-read, RingMet, ring-met-only, ring-met-always, never-ended, faults-always as order-faults}
 use Rattle.assembly.specs.Assemble.{rewriteUse, fileOf, itemsOf, localItems, assembled, enumDeclarations, foreignEnum, hasMain, noMain, assemblyFaults, Built, Outcome, faulty, closed, ended, result, program, step5, assembleAfter, linearizeAndAssemble}
-use Rattle.assembly.specs.Rewritten.{heads, kept, heads-kept, rewritten, uses-rewritten}
+use Rattle.assembly.specs.Rewritten.{headings, kept, headings-kept, rewritten, uses-rewritten}
 use Rattle.assembly.specs.Faults.{zero-last, once-last, enumsOf, mainFault, faults-are, EnumIn, enum-found, main-there, no-main-only, no-main-always, enum-only, enum-always}
 use Rattle.assembly.specs.Paths.{ImagePath, image-path, uses-formed, program-formed}
 
@@ -43,7 +43,7 @@ use Rattle.assembly.specs.Paths.{ImagePath, image-path, uses-formed, pro
 -- the names of a program's modules
 unfoldable pub moduleNames : Items → List Text
 moduleNames none = []
-moduleNames (named k m v name rest) = moduleNames rest
+moduleNames (named head rest) = moduleNames rest
 moduleNames (use-of m v segments elements rest) = moduleNames rest
 moduleNames (module-of m v name inner rest) = name ∷ moduleNames rest
 moduleNames (ignored m v rest) = moduleNames rest
@@ -51,7 +51,7 @@ moduleNames (ignored m v rest) = moduleNames rest
 -- a program has modules alone, each private and with mark 0
 unfoldable pub PrivateModules : Items → Type 0
 PrivateModules none = Unit {0}
-PrivateModules (named k m v name rest) = ⊥
+PrivateModules (named head rest) = ⊥
 PrivateModules (use-of m v segments elements rest) = ⊥
 PrivateModules (module-of m v name inner rest) = ((m ≡ 0) × (v ≡ 0)) × PrivateModules rest
 PrivateModules (ignored m v rest) = ⊥
@@ -59,7 +59,7 @@ PrivateModules (ignored m v rest) = ⊥
 -- the items of the first module of a name
 unfoldable pub moduleItems : Text → Items → Items
 moduleItems t none = none
-moduleItems t (named k m v name rest) = moduleItems t rest
+moduleItems t (named head rest) = moduleItems t rest
 moduleItems t (use-of m v segments elements rest) = moduleItems t rest
 moduleItems t (module-of m v name inner rest) = cond (same t name) inner (moduleItems t rest)
 moduleItems t (ignored m v rest) = moduleItems t rest
@@ -197,7 +197,7 @@ pub record Assembled (b : Bundle) (o : List ℕ) : Type 0 where
   -- it holds the items of its file in their order, with their kinds, names, visibilities, elements and marks, at their depths;
   -- only ignored ones are gone
   pub holds : (u : ℕ) → List·Memᴰ u o → moduleItems (unitName u) (assembled b o) ≡ localItems b u
-  pub kept-items : (u d : ℕ) → heads d (localItems b u) ≡ kept (heads d (itemsOf b u))
+  pub kept-items : (u d : ℕ) → headings d (localItems b u) ≡ kept (headings d (itemsOf b u))
   -- its uses are those of its file, each with its path rewritten
   pub kept-uses : (u : ℕ) → uses (localItems b u) ≡ map (rewritten (rewriteUse b (fileOf b u))) (uses (itemsOf b u))
   pub uses-found : (u : ℕ) → List·Memᴰ u o → (x : Use) → List·Memᴰ x (uses (itemsOf b u)) → RewrittenUse b o u x
@@ -237,7 +237,7 @@ module _ (b : Bundle) (w : WellFormed b) (o : List ℕ) (e : ordered b ≡ linke
         all-units = i .all;
         only-units = i .below;
         holds = module-items b o;
-        kept-items = λ u d. heads-kept (rewriteUse b (fileOf b u)) d (itemsOf b u);
+        kept-items = λ u d. headings-kept (rewriteUse b (fileOf b u)) d (itemsOf b u);
         kept-uses = λ u. uses-rewritten (rewriteUse b (fileOf b u)) (itemsOf b u);
         uses-found = rewritten-use b w o e;
         before = z .before;

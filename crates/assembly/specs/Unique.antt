@@ -4,10 +4,11 @@ use native.Mathlib.Omega.{arith}
 use mathlib.Core.Path.{_≡_, refl, sym, ap, _∙_}
 use mathlib.Core.List.{List, [], _∷_, _++_, append-assoc}
 use lib.ListN.{length}
-use Rattle.bundle.specs.Bundle.{Text, Items, none, named, use-of, module-of, ignored}
-use Rattle.bundle.specs.Encode.{two, string, joined, counted, sized, element, items}
+use Rattle.bundle.specs.Bundle.{Text, Head, Items, none, named, use-of, module-of, ignored}
+use Rattle.bundle.specs.Encode.{two, string, joined, counted, sized, element, encodeHead, items}
+use Rattle.bundle.specs.Access.{equal-heads}
 use Rattle.bundle.specs.Limits.{use-kind, module-kind}
-use Rattle.assembly.specs.Image.{imageBytes, unmarked}
+use Rattle.assembly.specs.Image.{imageBytes, unmarkedHead, unmarked}
 use Rattle.assembly.specs.ImageForm.{ImageFormed}
 
 -- two lists of one length, each with a rest
@@ -70,6 +71,14 @@ module _ {A : Type 0} (f : A → List ℕ) (s : Splits f) where
       let j : joined f l ++ r ≡ joined f k ++ q = cc in
       joined-split l k r q n j
 
+-- heads of one encoding differ in their marks at most
+head-unique : (h k : Head) → encodeHead h ≡ encodeHead k → unmarkedHead h ≡ unmarkedHead k
+head-unique h k e =
+    let i : h .kind ≡ k .kind = cc in
+    let j : h .visibility ≡ k .visibility = cc in
+    let t : string (h .name) ≡ string (k .name) = cc in
+    equal-heads (unmarkedHead h) (unmarkedHead k) i refl j (string-splits (h .name) (k .name) [] [] (ap (λ (l : List ℕ). l ++ []) t) .0)
+
 -- two kinds and visibilities, and what follows
 record SameHead (k v k' v' : ℕ) (s t r q : List ℕ) : Type 0 where
   kind : k ≡ k'
@@ -90,30 +99,28 @@ nothing-sized s r e = let z : _≡_ {A = ℕ} 0 1 = cc in omega arith
 items-unique : (p q : Items) (d c : ℕ) → ImageFormed p d → ImageFormed q c → items p ≡ items q → unmarked p ≡ unmarked q
 unfolding items unmarked ImageFormed
 items-unique none none d c f g e = refl
-items-unique none (named k m v name rest) d c f g e = absurd (nothing-sized _ _ e)
+items-unique none (named head rest) d c f g e = absurd (nothing-sized _ _ e)
 items-unique none (use-of m v segments elements rest) d c f g e = absurd (nothing-sized _ _ e)
 items-unique none (module-of m v name inner rest) d c f g e = absurd (nothing-sized _ _ e)
 items-unique none (ignored m v rest) d c f g e = absurd g
-items-unique (named k m v name rest) (ignored m' v' rest') d c f g e = absurd g
+items-unique (named head rest) (ignored m' v' rest') d c f g e = absurd g
 items-unique (use-of m v segments elements rest) (ignored m' v' rest') d c f g e = absurd g
 items-unique (module-of m v name inner rest) (ignored m' v' rest') d c f g e = absurd g
 items-unique (ignored m v rest) q d c f g e = absurd f
-items-unique (named k m v name rest) none d c f g e = absurd (nothing-sized _ _ (sym e))
+items-unique (named head rest) none d c f g e = absurd (nothing-sized _ _ (sym e))
 items-unique (use-of m v segments elements rest) none d c f g e = absurd (nothing-sized _ _ (sym e))
 items-unique (module-of m v name inner rest) none d c f g e = absurd (nothing-sized _ _ (sym e))
-items-unique (named k m v name rest) (named k' m' v' name' rest') d c f g e =
-    let h = same-head k v k' v' (string name) (string name') (items rest) (items rest') e in
-    let i : k ≡ k' = h .kind in
-    let j : v ≡ v' = h .visibility in
-    let n : name ≡ name' = string-splits name name' [] [] (ap (λ (l : List ℕ). l ++ []) (h .body)) .0 in
-    let r : unmarked rest ≡ unmarked rest' = items-unique rest rest' d c (f .1 .1 .1) (g .1 .1 .1) (h .rest) in
+items-unique (named head rest) (named head' rest') d c f g e =
+    let s = sized-split (encodeHead head) (encodeHead head') (items rest) (items rest') e in
+    let h : unmarkedHead head ≡ unmarkedHead head' = head-unique head head' (s .0) in
+    let r : unmarked rest ≡ unmarked rest' = items-unique rest rest' d c (f .1) (g .1) (s .1) in
     cc
-items-unique (named k m v name rest) (use-of m' v' segments elements rest') d c f g e =
-    let h = same-head k v use-kind v' _ _ _ _ e in absurd (f .0 .1 .1 (h .kind))
-items-unique (named k m v name rest) (module-of m' v' name' inner rest') d c f g e =
-    let h = same-head k v module-kind v' _ _ _ _ e in let i = h .kind in let j = f .0 .1 .0 in absurd (omega arith)
-items-unique (use-of m v segments elements rest) (named k' m' v' name' rest') d c f g e =
-    let h = same-head use-kind v k' v' _ _ _ _ e in absurd (g .0 .1 .1 (sym (h .kind)))
+items-unique (named head rest) (use-of m' v' segments elements rest') d c f g e =
+    let h = same-head (head .kind) (head .visibility) use-kind v' _ _ _ _ e in absurd (f .0 .kind .1 .1 (h .kind))
+items-unique (named head rest) (module-of m' v' name' inner rest') d c f g e =
+    let h = same-head (head .kind) (head .visibility) module-kind v' _ _ _ _ e in let i = h .kind in let j = f .0 .kind .1 .0 in absurd (omega arith)
+items-unique (use-of m v segments elements rest) (named head' rest') d c f g e =
+    let h = same-head use-kind v (head' .kind) (head' .visibility) _ _ _ _ e in absurd (g .0 .kind .1 .1 (sym (h .kind)))
 items-unique (use-of m v segments elements rest) (use-of m' v' segments' elements' rest') d c f g e =
     let h = same-head use-kind v use-kind v' (counted string segments ++ counted element elements) (counted string segments' ++ counted element elements') (items rest) (items rest') e in
     let s = counted-splits string string-splits segments segments' (counted element elements) (counted element elements') (h .body) in
@@ -125,8 +132,8 @@ items-unique (use-of m v segments elements rest) (use-of m' v' segments' element
     cc
 items-unique (use-of m v segments elements rest) (module-of m' v' name' inner rest') d c f g e =
     let h = same-head use-kind v module-kind v' _ _ _ _ e in let i = h .kind in absurd (omega arith)
-items-unique (module-of m v name inner rest) (named k' m' v' name' rest') d c f g e =
-    let h = same-head module-kind v k' v' _ _ _ _ e in let i = h .kind in let j = g .0 .1 .0 in absurd (omega arith)
+items-unique (module-of m v name inner rest) (named head' rest') d c f g e =
+    let h = same-head module-kind v (head' .kind) (head' .visibility) _ _ _ _ e in let i = h .kind in let j = g .0 .kind .1 .0 in absurd (omega arith)
 items-unique (module-of m v name inner rest) (use-of m' v' segments elements rest') d c f g e =
     let h = same-head module-kind v use-kind v' _ _ _ _ e in let i = h .kind in absurd (omega arith)
 items-unique (module-of m v name inner rest) (module-of m' v' name' inner' rest') d c f g e =

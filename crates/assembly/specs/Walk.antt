@@ -227,7 +227,7 @@ module _ (s : List ℕ) (at k : ℕ) (kind : (d e : ℕ) → at < e → k ≡ ki
 -- NO USE HAS MORE SEGMENTS than a bundle may have, so that a count in the image is a byte; and each is one of the given uses
 unfoldable pub Brief : List Use → Items → Type 0
 Brief us none = Unit {0}
-Brief us (named k m v name rest) = Brief us rest
+Brief us (named head rest) = Brief us rest
 Brief us (use-of m v segments elements rest) = ((length segments ≤ segment-limit) × List·Memᴰ (record { mark = m; segments = segments }) us) × Brief us rest
 Brief us (module-of m v name inner rest) = Brief us inner × Brief us rest
 Brief us (ignored m v rest) = Brief us rest
@@ -235,7 +235,7 @@ Brief us (ignored m v rest) = Brief us rest
 pub formed-brief : (us : List Use) (x : Items) (d : ℕ) → Formed x d → ((u : Use) → List·Memᴰ u (uses x) → List·Memᴰ u us) → Brief us x
 unfolding Formed Brief uses
 formed-brief us none d f h = tt
-formed-brief us (named k m v name rest) d f h = formed-brief us rest d (f .1 .1 .1) h
+formed-brief us (named head rest) d f h = formed-brief us rest d (f .1) h
 formed-brief us (use-of m v segments elements rest) d f h = ((f .1 .0 .0, h (record { mark = m; segments = segments }) (List·Memᴰ·head refl)), formed-brief us rest d (f .1 .1 .1) (λ u w. h u (List·Memᴰ·tail w)))
 formed-brief us (module-of m v name inner rest) d f h = (
   formed-brief us inner (d - 1) (f .1 .1 .0 .1) (λ u w. h u (Memᴰ·append-left (uses rest) w)),

@@ -6,11 +6,15 @@ use mathlib.Core.Path.{_≡_, refl, sym, _∙_}
 use mathlib.Core.List.{List, []}
 use lib.Dec.{eqb}
 use borrow.Author.Tests.{lt-ltb, le-ltb, eqb-true, eqb-false, eq-eqb, ne-eqb}
-use Rattle.bundle.specs.Bundle.{Text, Element, Items, none, named, use-of, module-of, ignored}
+use Rattle.bundle.specs.Bundle.{Text, Element, Head, Items, none, named, use-of, module-of, ignored}
 use Rattle.bundle.specs.Limits.{use-kind, module-kind, ignored-kind}
 use Rattle.bundle.specs.Scan.{byte, text}
-unfoldable pub use Rattle.bundle.specs.Parts.{kindOf, markOf, visibilityOf, nameOf, segmentsOf, elementsOf, innerOf, restOf}
-use Rattle.bundle.specs.Decode.{counted, after, afterElement, afterLength, afterList, elementAt, itemAt, itemsBy, itemsAt}
+unfoldable pub use Rattle.bundle.specs.Parts.{headOf, kindOf, markOf, visibilityOf, nameOf, segmentsOf, elementsOf, innerOf, restOf}
+use Rattle.bundle.specs.Decode.{counted, after, afterElement, afterLength, afterList, elementAt, headAt, itemAt, itemsBy, itemsAt}
+
+-- heads with equal parts are equal
+pub equal-heads : (h k : Head) → h .kind ≡ k .kind → h .mark ≡ k .mark → h .visibility ≡ k .visibility → h .name ≡ k .name → h ≡ k
+equal-heads h k kind mark visibility name = λ i. record { kind = kind i; mark = mark i; visibility = visibility i; name = name i }
 
 -- ONE ITEM, by its kind
 module _ (inside : ℕ → ℕ → Items) (s : List ℕ) (at : ℕ) (rest : Items) where
@@ -29,7 +33,7 @@ module _ (inside : ℕ → ℕ → Items) (s : List ℕ) (at : ℕ) (rest : Item
       unfolding itemAt
       item-ignored k = rw (ne-eqb (byte s (at + 2)) module-kind n5, ne-eqb (byte s (at + 2)) use-kind n3, eq-eqb (byte s (at + 2)) ignored-kind k)
 
-      pub item-named : (byte s (at + 2) ≡ ignored-kind → ⊥) → itemAt inside s at rest ≡ named (byte s (at + 2)) at (byte s (at + 3)) (text s (at + 4)) rest
+      pub item-named : (byte s (at + 2) ≡ ignored-kind → ⊥) → itemAt inside s at rest ≡ named (headAt s at) rest
       unfolding itemAt
       item-named n6 = rw (ne-eqb (byte s (at + 2)) module-kind n5, ne-eqb (byte s (at + 2)) use-kind n3, ne-eqb (byte s (at + 2)) ignored-kind n6)
 
@@ -38,7 +42,7 @@ module _ (inside : ℕ → ℕ → Items) (s : List ℕ) (at : ℕ) (rest : Item
       → (byte s (at + 2) ≡ module-kind → P (module-of at (byte s (at + 3)) (text s (at + 4)) (inside (afterLength s at) (after s (at + 4))) rest))
       → (byte s (at + 2) ≡ use-kind → P (use-of at (byte s (at + 3)) (counted (after s) (text s) s (at + 4)) (counted (afterElement s) (elementAt s) s (afterList (after s) s (at + 4))) rest))
       → (byte s (at + 2) ≡ ignored-kind → P (ignored at (byte s (at + 3)) rest))
-      → ((byte s (at + 2) ≡ module-kind → ⊥) → (byte s (at + 2) ≡ use-kind → ⊥) → (byte s (at + 2) ≡ ignored-kind → ⊥) → P (named (byte s (at + 2)) at (byte s (at + 3)) (text s (at + 4)) rest))
+      → ((byte s (at + 2) ≡ module-kind → ⊥) → (byte s (at + 2) ≡ use-kind → ⊥) → (byte s (at + 2) ≡ ignored-kind → ⊥) → P (named (headAt s at) rest))
       → P (itemAt inside s at rest)
   by-kind P f5 f3 f6 f = go (eqb (byte s (at + 2)) module-kind) (eqb (byte s (at + 2)) use-kind) (eqb (byte s (at + 2)) ignored-kind) refl refl refl
     where
@@ -81,15 +85,15 @@ items-step depth s end at h =
 -- THE FIRST OF THE ITEMS from `at` to `end`
 module _ (depth : ℕ) (s : List ℕ) (end at : ℕ) (h : at < end) where
   pub first-kind : kindOf (itemsAt depth s end at) ≡ byte s (at + 2)
-  unfolding kindOf
+  unfolding kindOf headOf
   first-kind = rw (items-step depth s end at h) (by-kind (insideOf depth s) s at _ (λ i. kindOf i ≡ byte s (at + 2)) (λ k. sym k) (λ k. sym k) (λ k. sym k) (λ n m l. refl))
 
   pub first-mark : markOf (itemsAt depth s end at) ≡ at
-  unfolding markOf
+  unfolding markOf headOf
   first-mark = rw (items-step depth s end at h) (by-kind (insideOf depth s) s at _ (λ i. markOf i ≡ at) (λ k. refl) (λ k. refl) (λ k. refl) (λ n m l. refl))
 
   pub first-visibility : visibilityOf (itemsAt depth s end at) ≡ byte s (at + 3)
-  unfolding visibilityOf
+  unfolding visibilityOf headOf
   first-visibility = rw (items-step depth s end at h) (by-kind (insideOf depth s) s at _ (λ i. visibilityOf i ≡ byte s (at + 3)) (λ k. refl) (λ k. refl) (λ k. refl) (λ n m l. refl))
 
   pub first-rest : restOf (itemsAt depth s end at) ≡ itemsAt depth s end (afterLength s at)
@@ -97,7 +101,7 @@ module _ (depth : ℕ) (s : List ℕ) (end at : ℕ) (h : at < end) where
   first-rest = rw (items-step depth s end at h) (by-kind (insideOf depth s) s at _ (λ i. restOf i ≡ itemsAt depth s end (afterLength s at)) (λ k. refl) (λ k. refl) (λ k. refl) (λ n m l. refl))
 
   pub first-name : (kindOf (itemsAt depth s end at) ≡ use-kind → ⊥) → (kindOf (itemsAt depth s end at) ≡ ignored-kind → ⊥) → nameOf (itemsAt depth s end at) ≡ text s (at + 4)
-  unfolding nameOf
+  unfolding nameOf headOf
   first-name n3 n6 =
       let m3 : byte s (at + 2) ≡ use-kind → ⊥ = λ k. n3 (first-kind ∙ k) in
       let m6 : byte s (at + 2) ≡ ignored-kind → ⊥ = λ k. n6 (first-kind ∙ k) in

@@ -12,11 +12,18 @@ pub record Element : Type 0 where
   pub name : Text
   pub alias : Text
 
--- Items one after the other. Each item has its mark, its offset in the bundle, and its visibility: 0 private, 1 public.
+-- what every item begins with; its mark is its offset in the bundle; visibility: 0 private, 1 public
+pub record Head : Type 0 where
+  pub kind : ℕ
+  pub mark : ℕ
+  pub visibility : ℕ
+  pub name : Text
+
+-- Items one after the other, each with its mark and its visibility.
 pub data Items : Type 0 where
   none : Items
   -- a type alias (kind 1), a function (2) or an enum (4)
-  named : (kind mark visibility : ℕ) (name : Text) (rest : Items) → Items
+  named : (head : Head) (rest : Items) → Items
   use-of : (mark visibility : ℕ) (segments : List Text) (elements : List Element) (rest : Items) → Items
   module-of : (mark visibility : ℕ) (name : Text) (inner rest : Items) → Items
   ignored : (mark visibility : ℕ) (rest : Items) → Items

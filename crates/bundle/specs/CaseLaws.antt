@@ -1,19 +1,25 @@
--- Laws for rows of many items, that would take long to compute byte by byte: equal items are walked one by one.
--- Assumes nothing.
+-- How rows write a named item, and laws for rows of many items, that would take long to compute byte by byte: equal items
+-- are walked one by one. Assumes nothing.
 use Prim.Native.Nat.{ℕ, zero, suc, _+_, _*_, _≤_, _<_}
 use native.Mathlib.Omega.{arith}
 use mathlib.Core.Path.{_≡_, refl, sym, _∙_}
 use mathlib.Core.List.{List, [], _∷_, _++_, append-assoc}
 use lib.ListN.{length, drop}
 use borrow.Author.Tests.{eq-eqb, ne-eqb}
+use Rattle.bundle.specs.Bundle.{Text, Items, named}
 use Rattle.bundle.specs.Limits.{item-limit, use-limit, use-kind, module-kind, ignored-kind}
 use Rattle.bundle.specs.Encode.{string, joined, sized, element}
 use Rattle.bundle.specs.Encode.{counted as count-list}
 use Rattle.bundle.specs.Scan.{byte, usesAfter, scanItem, scanItems}
 use Rattle.bundle.specs.Form.{Every}
+use Rattle.bundle.specs.Parts.{headed}
 use Rattle.bundle.specs.Walks.{goes, siblings-next, leaf-past}
 use Rattle.bundle.specs.CompleteItems.{head-writ, head-scans, leaf-scans, use-body, ignored-body, use-scans}
 use Rattle.bundle.specs.declared.Walk.the-variants.{Past}
+
+-- a named item: kind, mark, visibility, name
+abbrev pub item : ℕ → ℕ → ℕ → Text → Items → Items
+item k m v name rest = named (headed k m v name) rest
 
 -- n times the bytes x
 unfoldable pub many : List ℕ → ℕ → List ℕ

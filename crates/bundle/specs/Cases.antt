@@ -10,7 +10,7 @@ use Rattle.names.specs.Path.{isPath, isComponent, wellFormed, split, onto, comp
 use Rattle.names.specs.Prefix.{directlyIn, startsWith, begins}
 use Rattle.names.specs.Identifier.{isIdentifier, class, letter, digit}
 use Rattle.names.specs.Keywords.{isCrate, isKeyword, keywords}
-use Rattle.bundle.specs.Bundle.{Text, Items, none, named, use-of, module-of, ignored, Remapping, File, Bundle}
+use Rattle.bundle.specs.Bundle.{Text, Items, none, use-of, module-of, ignored, Remapping, File, Bundle}
 use Rattle.bundle.specs.Encode.{two, string, joined, counted, sized, element, items, remapping, file, fields, encode}
 use Rattle.bundle.specs.Limits.{depth-limit}
 use Rattle.bundle.specs.Scan.{walkThen, scanItems, times, scanString, scanFormed, scanAlias, scanField, scanCount, scanList, scanUse, scanLength, scanMark, scanHead, scanBody, scanEnd, scanItemWith, siblings, scanModule, scanFile, scanFiles, scanHeader}
@@ -18,7 +18,7 @@ use Rattle.bundle.specs.Decode.{each, far, elementAt, remappingAt, itemA
 use Rattle.bundle.specs.Conflicts.{orElse, placedAt, placedRemappingAt, any, listed, located, sameRemapping, remapped, conflicts}
 use Rattle.bundle.specs.Conflicts as conflict
 use Rattle.bundle.specs.Read.{Reading, value, refused, after, afterWalk, form, lists, files, verdict, read}
-use Rattle.bundle.specs.CaseLaws.{many, ignored-item, use-item, many-ignored, many-uses}
+use Rattle.bundle.specs.CaseLaws.{item, many, ignored-item, use-item, many-ignored, many-uses}
 use Rattle.bundle.specs.declared.Walk.{Walk}
 use Rattle.bundle.specs.declared.Walk.the-variants.{Past, Fault}
 use Rattle.bundle.specs.declared.Checked.{Checked}
@@ -36,8 +36,8 @@ printed = record {
         path = ascii "/r/main.simf";
         items =
             use-of 27 0 (ascii "crate" ∷ ascii "a" ∷ []) (record { name = ascii "f"; alias = [] } ∷ [])
-            (named 2 44 0 (ascii "main") none);
-      } ∷ record { path = ascii "/r/a.simf"; items = named 2 65 1 (ascii "f") none } ∷ [];
+            (item 2 44 0 (ascii "main") none);
+      } ∷ record { path = ascii "/r/a.simf"; items = item 2 65 1 (ascii "f") none } ∷ [];
 }
 
 -- its bytes: a use at 27, functions at 44 and 65
@@ -81,9 +81,9 @@ kinds = record {
       record {
         path = ascii "/m";
         items =
-            named 1 23 0 (ascii "T")
-            (named 4 29 1 (ascii "E")
-            (module-of 35 0 (ascii "m") (named 2 41 1 (ascii "f") none)
+            item 1 23 0 (ascii "T")
+            (item 4 29 1 (ascii "E")
+            (module-of 35 0 (ascii "m") (item 2 41 1 (ascii "f") none)
             (use-of 47 1 (ascii "a" ∷ []) (record { name = ascii "f"; alias = [] } ∷ record { name = ascii "g"; alias = ascii "h" } ∷ [])
             (ignored 62 0 none))));
       } ∷ [];
@@ -168,7 +168,7 @@ value-rows =
     ∷ row (holding (nested 9 none)) 3 61 ∷ row (holding (nested 8 (module-of 0 0 (ascii "1") none none))) 3 61
     -- forms
     ∷ row (at-root (ascii "/a/" ∷ []) [] (main ∷ [])) 4 6 ∷ row (at-root [] [] (empty (ascii "m") ∷ [])) 4 8
-    ∷ row (holding (named 1 0 0 (ascii "a-b") none)) 5 17
+    ∷ row (holding (item 1 0 0 (ascii "a-b") none)) 5 17
     -- 4 at the root, at a context, at a target
     ∷ row (encode (record { version = 1; root = ascii "r"; folders = []; remappings = []; files = main ∷ [] })) 4 3
     ∷ row (at-root [] (remap (ascii "a") (ascii "l") (ascii "a") ∷ []) (main ∷ [])) 4 7

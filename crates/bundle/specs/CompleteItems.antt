@@ -6,14 +6,14 @@ use mathlib.Core.List.{List, [], _∷_, _++_, append-assoc}
 use lib.ListN.{length, drop, length-append}
 use borrow.Author.Tests.{lt-ltb, le-leb, eq-eqb, ne-eqb}
 use Rattle.names.specs.Identifier.{isIdentifier}
-use Rattle.bundle.specs.Bundle.{Text, Element, Items, none, named, use-of, module-of, ignored}
+use Rattle.bundle.specs.Bundle.{Text, Element, Head, Items, none, named, use-of, module-of, ignored}
 use Rattle.bundle.specs.Limits.{item-limit, most-uses, segment-limit, element-limit, use-kind, module-kind, ignored-kind}
-use Rattle.bundle.specs.Encode.{two, string, sized, element, items}
+use Rattle.bundle.specs.Encode.{two, string, sized, element, encodeHead, items}
 use Rattle.bundle.specs.Encode.{counted as count-list}
 use Rattle.bundle.specs.Scan.{byte, word, text, versionOf, andThen, scanName, scanField, scanList, scanUse, scanLength, scanMark, usesAfter, scanHead, scanBody, scanEnd, scanItem, scanItems}
-use Rattle.bundle.specs.Decode.{counted, after, afterElement, afterLength, afterList, elementAt, itemAt, itemsAt}
+use Rattle.bundle.specs.Decode.{counted, after, afterElement, afterLength, afterList, elementAt, headAt, itemAt, itemsAt}
 use Rattle.bundle.specs.Walks.{goes, siblings-next, siblings-done, enters, leaf-past}
-use Rattle.bundle.specs.Access.{item-module, item-use, item-ignored, item-named, insideOf, items-end, items-step}
+use Rattle.bundle.specs.Access.{equal-heads, item-module, item-use, item-ignored, item-named, insideOf, items-end, items-step}
 use Rattle.bundle.specs.Form.{Every, IsName, FormedElement, Formed, Marked, itemCount, useCount}
 use Rattle.bundle.specs.Stand.{at-byte, at-append}
 use Rattle.bundle.specs.Complete.{formed-writ, element-writ, count-writ}
@@ -142,26 +142,26 @@ module _ (s : List ℕ) where
       let c0 : c ≡ c + 0 = omega arith in
       let u0 : u ≡ u + 0 = omega arith in
       record { scans = siblings-done (scanItem depth s end) end (goes depth s end) at c u q ∙ rw (← c0, ← u0, z); gets = items-end depth s end at q }
-  items-writ (named k m v name r) depth end at c u rest f mk e h hc hu =
-      let X = string name in
-      let S = sized (k ∷ v ∷ X) in
+  items-writ (named head r) depth end at c u rest f mk e h hc hu =
+      let X = string (head .name) in
+      let S = sized (encodeHead head) in
       let n = at + 4 + length X in
-      let w = head-writ k v X at (items r ++ rest) (e ∙ append-assoc S (items r) rest) in
+      let w = head-writ (head .kind) (head .visibility) X at (items r ++ rest) (e ∙ append-assoc S (items r) rest) in
       let len : length (S ++ items r) ≡ length S + length (items r) = length-append S (items r) in
       let sz = w .size in
       let kb = w .kind in
       let vb = w .visibility in
-      let n5 : byte s (at + 2) ≡ module-kind → ⊥ = λ (q : byte s (at + 2) ≡ module-kind). omega (arith, f .0 .1 .0) in
-      let n3 : byte s (at + 2) ≡ use-kind → ⊥ = λ (q : byte s (at + 2) ≡ use-kind). f .0 .1 .1 (sym kb ∙ q) in
-      let n6 : byte s (at + 2) ≡ ignored-kind → ⊥ = λ (q : byte s (at + 2) ≡ ignored-kind). omega (arith, f .0 .1 .0) in
+      let n5 : byte s (at + 2) ≡ module-kind → ⊥ = λ (q : byte s (at + 2) ≡ module-kind). omega (arith, f .0 .kind .1 .0) in
+      let n3 : byte s (at + 2) ≡ use-kind → ⊥ = λ (q : byte s (at + 2) ≡ use-kind). f .0 .kind .1 .1 (sym kb ∙ q) in
+      let n6 : byte s (at + 2) ≡ ignored-kind → ⊥ = λ (q : byte s (at + 2) ≡ ignored-kind). omega (arith, f .0 .kind .1 .0) in
       let ua : usesAfter s at u ≡ u = rw (ne-eqb (byte s (at + 2)) use-kind n3) in
-      let hd = head-scans k v X end at n c u (items r ++ rest) w (omega arith) (f .0 .0) (omega (arith, f .0 .1 .0)) (f .1 .0) (omega arith) (rw ua (omega arith)) in
-      let t = formed-writ s n isIdentifier 5 name (at + 4) (items r ++ rest) (f .1 .1 .0) (w .body) (omega arith) in
+      let hd = head-scans (head .kind) (head .visibility) X end at n c u (items r ++ rest) w (omega arith) (f .0 .kind .0) (omega (arith, f .0 .kind .1 .0)) (f .0 .visibility) (omega arith) (rw ua (omega arith)) in
+      let t = formed-writ s n isIdentifier 5 (head .name) (at + 4) (items r ++ rest) (f .0 .name) (w .body) (omega arith) in
       let body : scanBody s n at ≡ Next n = name-body n at n6 n3 (t .scans) in
       let one : scanItem depth s end at c u ≡ Past n (c + 1) u = sym (leaf-past depth s end at c u n hd n n5 (leaf-scans n at body)) ∙ rw ua in
-      let g : itemAt (insideOf depth s) s at r ≡ named k m v name r = item-named (insideOf depth s) s at r n5 n3 n6 ∙ rw (kb, vb, t .gets, mk .0) in
-      then-rest depth end at c u n (c + 1) u (named k m v name r) r (omega arith) (w .ends) one g (omega arith) refl
-      (items-writ r depth end n (c + 1) u rest (f .1 .1 .1) (rw (← sz) at (mk .1)) (w .after-it) (omega arith) (omega arith) hu)
+      let g : itemAt (insideOf depth s) s at r ≡ named head r = item-named (insideOf depth s) s at r n5 n3 n6 ∙ ap (λ (y : Head). named y r) (equal-heads (headAt s at) head kb (sym (mk .0)) vb (t .gets)) in
+      then-rest depth end at c u n (c + 1) u (named head r) r (omega arith) (w .ends) one g (omega arith) refl
+      (items-writ r depth end n (c + 1) u rest (f .1) (rw (← sz) at (mk .1)) (w .after-it) (omega arith) (omega arith) hu)
   items-writ (use-of m v segments elements r) depth end at c u rest f mk e h hc hu =
       let X = count-list string segments ++ count-list element elements in
       let S = sized (use-kind ∷ v ∷ X) in

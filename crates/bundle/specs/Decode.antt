@@ -3,7 +3,7 @@ use Prim.Native.Nat.{ℕ, zero, suc, _+_, _-_}
 use mathlib.Core.Bool.{cond}
 use mathlib.Core.List.{List, [], _∷_}
 use lib.Dec.{eqb, ltb}
-use Rattle.bundle.specs.Bundle.{Element, Items, none, named, use-of, module-of, ignored, Remapping, File, Bundle}
+use Rattle.bundle.specs.Bundle.{Element, Head, Items, none, named, use-of, module-of, ignored, Remapping, File, Bundle}
 use Rattle.bundle.specs.Limits.{folder-width, file-width, header, depth-limit, use-kind, module-kind, ignored-kind}
 use Rattle.bundle.specs.Scan.{byte, word, text, versionOf, count, pastCount}
 use Rattle.bundle.specs.declared.Width.{Width}
@@ -53,6 +53,10 @@ elementAt s at = record { name = text s at; alias = text s (after s at) }
 unfoldable pub remappingAt : List ℕ → ℕ → Remapping
 remappingAt s at = record { context = text s at; name = text s (after s at); target = text s (after s (after s at)) }
 
+-- the head of the item at `at`
+abbrev pub headAt : List ℕ → ℕ → Head
+headAt s at = record { kind = byte s (at + 2); mark = at; visibility = byte s (at + 3); name = text s (at + 4) }
+
 -- the item at `at`, with the items after it; `inside` reads a module's items, to its end
 unfoldable pub itemAt : (ℕ → ℕ → Items) → List ℕ → ℕ → Items → Items
 itemAt inside s at rest =
@@ -63,7 +67,7 @@ itemAt inside s at rest =
     (counted (afterElement s) (elementAt s) s (afterList (after s) s (at + 4))) rest in
     cond (eqb kind module-kind) nested
     (cond (eqb kind use-kind) use-item
-    (cond (eqb kind ignored-kind) (ignored at visibility rest) (named kind at visibility (text s (at + 4)) rest)))
+    (cond (eqb kind ignored-kind) (ignored at visibility rest) (named (headAt s at) rest)))
 
 -- items to the end. The first number bounds how many there are
 unfoldable pub itemsBy : ℕ → (ℕ → ℕ → Items) → List ℕ → ℕ → ℕ → Items

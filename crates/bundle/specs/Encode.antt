@@ -2,7 +2,7 @@
 use Prim.Native.Nat.{ℕ, _/_, _%_}
 use mathlib.Core.List.{List, [], _∷_, _++_}
 use lib.ListN.{length}
-use Rattle.bundle.specs.Bundle.{Text, Element, Items, none, named, use-of, module-of, ignored, Remapping, File, Bundle}
+use Rattle.bundle.specs.Bundle.{Text, Element, Head, Items, none, named, use-of, module-of, ignored, Remapping, File, Bundle}
 use Rattle.bundle.specs.Limits.{folder-width, file-width, use-kind, module-kind, ignored-kind}
 use Rattle.bundle.specs.declared.Width.{Width}
 use Rattle.bundle.specs.declared.Width.the-variants.{Byte, Word}
@@ -40,10 +40,14 @@ sized bytes = two (length bytes) ++ bytes
 unfoldable pub element : Element → List ℕ
 element e = string (e .name) ++ string (e .alias)
 
+-- kind, visibility, name
+abbrev pub encodeHead : Head → List ℕ
+encodeHead h = h .kind ∷ h .visibility ∷ string (h .name)
+
 -- an item is a 2-byte length of what follows, kind, visibility, and what its kind has
 unfoldable pub items : Items → List ℕ
 items none = []
-items (named k m v name rest) = sized (k ∷ v ∷ string name) ++ items rest
+items (named head rest) = sized (encodeHead head) ++ items rest
 items (use-of m v segments elements rest) =
     sized (use-kind ∷ v ∷ (counted string segments ++ counted element elements)) ++ items rest
 items (module-of m v name inner rest) = sized (module-kind ∷ v ∷ (string name ++ items inner)) ++ items rest

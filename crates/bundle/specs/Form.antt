@@ -11,10 +11,10 @@ use Rattle.names.specs.Path.{root as slash-path}
 use Rattle.names.specs.Prefix.{directlyIn}
 use Rattle.names.specs.Identifier.{isIdentifier}
 use Rattle.names.specs.Keywords.{isKeyword, isCrate}
-use Rattle.bundle.specs.Bundle.{Text, Element, Items, none, named, use-of, module-of, ignored, Remapping, File, Bundle, withSlash}
+use Rattle.bundle.specs.Bundle.{Text, Element, Head, Items, none, named, use-of, module-of, ignored, Remapping, File, Bundle, withSlash}
 use Rattle.bundle.specs.Limits.{defined, header, width, capacity, folder-width, file-width, most-folders, remapping-limit, most-files, item-limit, most-uses, segment-limit, element-limit, depth-limit, use-kind, module-kind, ignored-kind}
 use Rattle.bundle.specs.declared.Width.the-variants.{Byte, Word}
-use Rattle.bundle.specs.Encode.{string, countedBy, counted, sized, element, items, remapping, file, fields}
+use Rattle.bundle.specs.Encode.{string, countedBy, counted, sized, element, encodeHead, items, remapping, file, fields}
 use Rattle.bundle.specs.Conflicts.{any}
 
 -- what holds of every element
@@ -47,10 +47,16 @@ FormedRemapping r = IsPath (r .context) × (Short (r .name) × IsPath (r .target
 abbrev pub NamedKind : ℕ → Type 0
 NamedKind k = (1 ≤ k) × ((k ≤ 4) × (k ≡ use-kind → ⊥))
 
+-- the head of a named item
+pub record FormedHead (h : Head) : Type 0 where
+  pub kind : NamedKind (h .kind)
+  pub visibility : h .visibility ≤ 1
+  pub name : IsName (h .name)
+
 -- items in form, with modules at most so deep
 unfoldable pub Formed : Items → ℕ → Type 0
 Formed none depth = Unit {0}
-Formed (named k m v name rest) depth = NamedKind k × ((v ≤ 1) × (IsName name × Formed rest depth))
+Formed (named head rest) depth = FormedHead head × Formed rest depth
 Formed (use-of m v segments elements rest) depth =
     (v ≤ 1) × (((length segments ≤ segment-limit) × Every IsName segments) × (((length elements ≤ element-limit) × Every FormedElement elements) × Formed rest depth))
 Formed (module-of m v name inner rest) depth = (v ≤ 1) × (IsName name × (((0 < depth) × Formed inner (depth - 1)) × Formed rest depth))
@@ -59,7 +65,7 @@ Formed (ignored m v rest) depth = (v ≤ 1) × Formed rest depth
 -- every mark is the offset of its item; the first item's is the number
 unfoldable pub Marked : Items → ℕ → Type 0
 Marked none at = Unit {0}
-Marked (named k m v name rest) at = (m ≡ at) × Marked rest (at + length (sized (k ∷ v ∷ string name)))
+Marked (named head rest) at = (head .mark ≡ at) × Marked rest (at + length (sized (encodeHead head)))
 Marked (use-of m v segments elements rest) at =
     (m ≡ at) × Marked rest (at + length (sized (use-kind ∷ v ∷ (counted string segments ++ counted element elements))))
 Marked (module-of m v name inner rest) at =
@@ -69,14 +75,14 @@ Marked (ignored m v rest) at = (m ≡ at) × Marked rest (at + length (sized (ig
 -- how many items, and how many uses, nested ones too
 unfoldable pub itemCount : Items → ℕ
 itemCount none = 0
-itemCount (named k m v name rest) = 1 + itemCount rest
+itemCount (named head rest) = 1 + itemCount rest
 itemCount (use-of m v segments elements rest) = 1 + itemCount rest
 itemCount (module-of m v name inner rest) = 1 + itemCount inner + itemCount rest
 itemCount (ignored m v rest) = 1 + itemCount rest
 
 unfoldable pub useCount : Items → ℕ
 useCount none = 0
-useCount (named k m v name rest) = useCount rest
+useCount (named head rest) = useCount rest
 useCount (use-of m v segments elements rest) = 1 + useCount rest
 useCount (module-of m v name inner rest) = useCount inner + useCount rest
 useCount (ignored m v rest) = useCount rest

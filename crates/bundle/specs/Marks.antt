@@ -6,7 +6,7 @@ use mathlib.Core.List.{List, [], _∷_, _++_, append-assoc}
 use lib.ListN.{length, getD, drop, length-append}
 use Rattle.bundle.specs.Bundle.{Text, Items, none, named, use-of, module-of, ignored, File}
 use Rattle.bundle.specs.Limits.{use-kind, module-kind, ignored-kind}
-use Rattle.bundle.specs.Encode.{two, string, joined, sized, element, items, file}
+use Rattle.bundle.specs.Encode.{two, string, joined, sized, element, encodeHead, items, file}
 use Rattle.bundle.specs.Encode.{counted as count-list}
 use Rattle.bundle.specs.Form.{Marked, MarkedFiles}
 pub use Rattle.bundle.specs.MarkWords.{Begins}
@@ -92,7 +92,7 @@ inner-at s at v name inner rest e =
 items-rising : (s : List ℕ) (x : Items) (at : ℕ) → Marked x at → Rising at (at + length (items x)) (marksOf x)
 unfolding Marked items marksOf
 items-rising s none at p = none-rising at
-items-rising s (named k m v name rest) at p = one-rising s m at (k ∷ v ∷ string name) rest (p .0) (items-rising s rest (at + length (sized (k ∷ v ∷ string name))) (p .1))
+items-rising s (named head rest) at p = one-rising s (head .mark) at (encodeHead head) rest (p .0) (items-rising s rest (at + length (sized (encodeHead head))) (p .1))
 items-rising s (use-of m v segments elements rest) at p =
     let body = use-kind ∷ v ∷ (count-list string segments ++ count-list element elements) in
     one-rising s m at body rest (p .0) (items-rising s rest (at + length (sized body)) (p .1))
@@ -123,10 +123,10 @@ begins s m at x y e h = record { rest = y; bytes = rw e h }
 pub items-found : (s : List ℕ) (x : Items) (at : ℕ) (rest : List ℕ) → Marked x at → drop at s ≡ items x ++ rest → Found s x
 unfolding Marked items Found
 items-found s none at rest p e = tt
-items-found s (named k m v name r) at rest p e =
-    let S = sized (k ∷ v ∷ string name) in
+items-found s (named head r) at rest p e =
+    let S = sized (encodeHead head) in
     let e1 = e ∙ append-assoc S (items r) rest in
-    (begins s m at S (items r ++ rest) (p .0) e1, items-found s r (at + length S) rest (p .1) (at-append s at S (items r ++ rest) e1))
+    (begins s (head .mark) at S (items r ++ rest) (p .0) e1, items-found s r (at + length S) rest (p .1) (at-append s at S (items r ++ rest) e1))
 items-found s (use-of m v segments elements r) at rest p e =
     let S = sized (use-kind ∷ v ∷ (count-list string segments ++ count-list element elements)) in
     let e1 = e ∙ append-assoc S (items r) rest in

@@ -13,7 +13,7 @@ use Rattle.bundle.specs.Limits.{segment-limit, element-limit, use-kind, 
 use Rattle.bundle.specs.Encode.{string, sized, element, items}
 use Rattle.bundle.specs.Encode.{counted as count-list}
 use Rattle.bundle.specs.Scan.{byte, text, andThen, scanName, scanField, scanList, scanUse, usesAfter, scanHead, scanBody, scanEnd, walkOn, walkThen, scanItemWith, siblings, scanModule, scanItem, scanItems}
-use Rattle.bundle.specs.Decode.{counted, after, afterElement, afterLength, afterList, elementAt, itemAt, itemsAt}
+use Rattle.bundle.specs.Decode.{counted, after, afterElement, afterLength, afterList, elementAt, headAt, itemAt, itemsAt}
 use Rattle.bundle.specs.Steps.{Head, head-next, end-next, read-then, walked-on, walked-then}
 use Rattle.bundle.specs.Access.{item-module, item-use, item-ignored, item-named, insideOf, items-end, items-step}
 use Rattle.bundle.specs.Form.{Every, IsName, FormedElement, Formed, Marked, itemCount, useCount}
@@ -64,7 +64,7 @@ module _ (s : List ℕ) (B : Bytes s) where
   module _ (depth end at c u n : ℕ) (E : end ≤ length s) (hd : Head s end at c u n) (c' u' : ℕ) (rest : Items) where
     named-are : (byte s (at + 2) ≡ module-kind → ⊥) → (byte s (at + 2) ≡ use-kind → ⊥) → (byte s (at + 2) ≡ ignored-kind → ⊥)
         → Stands s (at + 4) (string (text s (at + 4))) n → IsName (text s (at + 4))
-        → ItemsAre s depth end n (c + 1) u c' u' rest → ItemsAre s depth end at c u c' u' (named (byte s (at + 2)) at (byte s (at + 3)) (text s (at + 4)) rest)
+        → ItemsAre s depth end n (c + 1) u c' u' rest → ItemsAre s depth end at c u c' u' (named (headAt s at) rest)
     unfolding items Formed Marked itemCount useCount
     named-are n5 n3 n6 st nm r =
         let f = frame end at c u n E hd (string (text s (at + 4))) st rest (r .stands) in
@@ -72,7 +72,7 @@ module _ (s : List ℕ) (B : Bytes s) where
         let k2 = hd .kind-high in
         record {
           stands = f .0;
-          formed = ((k1, (omega arith, n3)), (hd .visibility, (nm, r .formed)));
+          formed = (record { kind = (k1, (omega arith, n3)); visibility = hd .visibility; name = nm }, r .formed);
           marked = (refl, rw (f .1) at (r .marked));
           count = omega (arith, r .count);
           uses = r .uses;

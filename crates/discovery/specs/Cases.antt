@@ -8,13 +8,14 @@ use Rattle.names.specs.Path.{isPath, isComponent, wellFormed, split, onto, comp
 use Rattle.names.specs.Prefix.{directlyIn, startsWith, begins, child, childFile, stemOf}
 use Rattle.names.specs.Identifier.{isIdentifier, class, letter, digit}
 use Rattle.names.specs.Keywords.{isCrate, isKeyword, keywords}
-use Rattle.bundle.specs.Bundle.{Text, Items, none, named, use-of, module-of, ignored, File, Bundle}
+use Rattle.bundle.specs.Bundle.{Text, Items, none, use-of, module-of, ignored, File, Bundle}
 use Rattle.bundle.specs.Encode.{two, string, joined, counted, sized, element, items, remapping, file, fields, encode}
 use Rattle.bundle.specs.Scan.{times, scanString, scanFormed, scanAlias, scanField, scanCount, scanList, scanUse, scanLength, scanMark, scanHead, scanBody, scanEnd, scanItemWith, siblings, scanModule, scanFile, scanFiles, scanHeader}
 use Rattle.bundle.specs.Decode.{each, far, elementAt, remappingAt, itemAt, itemsBy, itemsAt, fileAt, decode}
 use Rattle.bundle.specs.Conflicts.{placedAt, placedRemappingAt, any, listed, located, sameRemapping, remapped, conflicts}
 use Rattle.bundle.specs.Conflicts as conflict
 use Rattle.bundle.specs.Read.{Reading, value, refused, form, lists, files, verdict, read}
+use Rattle.bundle.specs.CaseLaws.{item}
 use Rattle.resolution.specs.Longest.{insert, longestFirst, firstOf}
 use Rattle.resolution.specs.Resolution.{getPackageRoot, applies, remappingFor, isFolder, isFile, buildAndVerifyPath, resolveCratePath, checkLocalFileImportedAsExternal, resolvePathInternal}
 use Rattle.resolution.specs.Call.{position}
@@ -54,13 +55,13 @@ abbrev pub below-r : List String → List File → Bundle
 below-r folders fs = record { version = 1; root = ascii "/r"; folders = ascii "/r" ∷ map ascii folders; remappings = []; files = fs }
 
 abbrev pub printed-entry : File
-printed-entry = at-path "/r/main.simf" (use-of 0 0 (ascii "crate" ∷ ascii "a" ∷ []) (record { name = ascii "f"; alias = [] } ∷ []) (named 2 0 0 (ascii "main") none))
+printed-entry = at-path "/r/main.simf" (use-of 0 0 (ascii "crate" ∷ ascii "a" ∷ []) (record { name = ascii "f"; alias = [] } ∷ []) (item 2 0 0 (ascii "main") none))
 
 unfoldable pub rows : List Row
 rows =
     -- the printed case, and without its second file: C4, the entry imports itself
     record {
-      bundle = below-r [] (printed-entry ∷ at-path "/r/a.simf" (named 2 0 1 (ascii "f") none) ∷ []);
+      bundle = below-r [] (printed-entry ∷ at-path "/r/a.simf" (item 2 0 1 (ascii "f") none) ∷ []);
       expected = told (ascii "/r/main.simf" ∷ ascii "/r/a.simf" ∷ []) ((1 ∷ []) ∷ [] ∷ []) [];
     }
     ∷ record { bundle = below-r [] (printed-entry ∷ []); expected = told (ascii "/r/main.simf" ∷ []) ((0 ∷ []) ∷ []) [] }

@@ -18,7 +18,7 @@ pub record Use : Type 0 where
 -- in item order, those of inline modules included
 unfoldable pub uses : Items → List Use
 uses none = []
-uses (named k m v name rest) = uses rest
+uses (named head rest) = uses rest
 uses (use-of m v segments elements rest) = record { mark = m; segments = segments } ∷ uses rest
 uses (module-of m v name inner rest) = uses inner ++ uses rest
 uses (ignored m v rest) = uses rest

@@ -4,7 +4,7 @@ use mathlib.Core.Bool.{cond}
 use mathlib.Core.Path.{_≡_}
 use mathlib.Core.List.{List, [], _∷_, _++_, map, List·Memᴰ}
 use Rattle.names.specs.Bytes.{member}
-use Rattle.bundle.specs.Bundle.{Text, Element, Items, named, use-of, module-of, ignored, Bundle}
+use Rattle.bundle.specs.Bundle.{Text, Element, Head, Items, named, use-of, module-of, ignored, Bundle}
 use Rattle.discovery.specs.Discovery.{Use, Fault, Import, lookupFaults, validImports, useCache, unreadable, entryOf, pathsOf}
 use Rattle.discovery.specs.Reached.{Reached, firsts, importsOf}
 
@@ -13,7 +13,7 @@ use Rattle.discovery.specs.Reached.{Reached, firsts, importsOf}
 pub data Stands (u : Use) : Items → Type 0 where
   here : {m v : ℕ} {segments : List Text} {elements : List Element} {rest : Items} → u ≡ record { mark = m; segments = segments } → Stands u (use-of m v segments elements rest)
   inside : {m v : ℕ} {name : Text} {inner rest : Items} → Stands u inner → Stands u (module-of m v name inner rest)
-  after-named : {k m v : ℕ} {name : Text} {rest : Items} → Stands u rest → Stands u (named k m v name rest)
+  after-named : {head : Head} {rest : Items} → Stands u rest → Stands u (named head rest)
   after-use : {m v : ℕ} {segments : List Text} {elements : List Element} {rest : Items} → Stands u rest → Stands u (use-of m v segments elements rest)
   after-module : {m v : ℕ} {name : Text} {inner rest : Items} → Stands u rest → Stands u (module-of m v name inner rest)
   after-ignored : {m v : ℕ} {rest : Items} → Stands u rest → Stands u (ignored m v rest)

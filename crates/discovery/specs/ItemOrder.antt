@@ -21,7 +21,7 @@ use Rattle.discovery.specs.Facts.{cond-elim, mem-getD, map-append}
 pub uses-stand : (x : Items) {u : Use} → List·Memᴰ u (uses x) → Stands u x
 unfolding uses
 uses-stand none m = absurd (List·Memᴰ·not-nil m)
-uses-stand (named k mark v name rest) m = after-named (uses-stand rest m)
+uses-stand (named head rest) m = after-named (uses-stand rest m)
 uses-stand (use-of mark v segments elements rest) m = ⊎-elim (λ e. here e) (λ w. after-use (uses-stand rest w)) (List·Memᴰ·cases-cons m)
 uses-stand (module-of mark v name inner rest) m =
     ⊎-elim (λ w. inside (uses-stand inner w)) (λ w. after-module (uses-stand rest w)) (List·Memᴰ·append-cases (uses inner) m)
@@ -78,7 +78,7 @@ increasing (m ∷ l) h =
 uses-part : (x : Items) → Part (map (λ u. u .mark) (uses x)) (marksOf x)
 unfolding uses marksOf
 uses-part none = no-part
-uses-part (named k m v name rest) = skip (uses-part rest)
+uses-part (named head rest) = skip (uses-part rest)
 uses-part (use-of m v segments elements rest) = keep (uses-part rest)
 uses-part (module-of m v name inner rest) =
     skip

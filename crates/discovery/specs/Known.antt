@@ -337,7 +337,7 @@ rising-from (m ∷ l) a b c h p = (omega (arith, p .0), p .1)
 uses-rising : (x : Items) (a c : ℕ) → Rising a c (marksOf x) → Rising a c (marksIn (uses x))
 unfolding Rising marksOf uses
 uses-rising none a c p = p
-uses-rising (named k m v name rest) a c p = rising-from (marksIn (uses rest)) a (suc m) c (omega (arith, p .0)) (uses-rising rest (suc m) c (p .1))
+uses-rising (named head rest) a c p = rising-from (marksIn (uses rest)) a (suc (head .mark)) c (omega (arith, p .0)) (uses-rising rest (suc (head .mark)) c (p .1))
 uses-rising (use-of m v segments elements rest) a c p = (p .0, uses-rising rest (suc m) c (p .1))
 uses-rising (module-of m v name inner rest) a c p =
     let r = rising-split (marksOf inner) (marksOf rest) (suc m) c (p .1) in

@@ -28,7 +28,7 @@ totalUses (f ∷ fs) = length (uses (f .items)) + totalUses fs
 uses-counted : (x : Items) → length (uses x) ≡ useCount x
 unfolding uses useCount
 uses-counted none = refl
-uses-counted (named k m v name rest) = uses-counted rest
+uses-counted (named head rest) = uses-counted rest
 uses-counted (use-of m v segments elements rest) = omega (arith, uses-counted rest)
 uses-counted (module-of m v name inner rest) = omega (arith, length-append (uses inner) (uses rest), uses-counted inner, uses-counted rest)
 uses-counted (ignored m v rest) = uses-counted rest

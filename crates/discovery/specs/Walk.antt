@@ -241,7 +241,7 @@ every-append (u ∷ l) k h i = (h .0, every-append l k (h .1) i)
 pub uses-named : (x : Items) (depth : ℕ) → Formed x depth → Every NamedUse (uses x)
 unfolding Formed uses Every
 uses-named none depth h = tt
-uses-named (named k m v name rest) depth h = uses-named rest depth (h .1 .1 .1)
+uses-named (named head rest) depth h = uses-named rest depth (h .1)
 uses-named (use-of m v segments elements rest) depth h = (h .1 .0 .1, uses-named rest depth (h .1 .1 .1))
 uses-named (module-of m v name inner rest) depth h = every-append (uses inner) (uses rest) (uses-named inner (depth - 1) (h .1 .1 .0 .1)) (uses-named rest depth (h .1 .1 .1))
 uses-named (ignored m v rest) depth h = uses-named rest depth (h .1)

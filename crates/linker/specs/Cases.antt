@@ -13,13 +13,14 @@ use Rattle.names.specs.Identifier.{isIdentifier, class, letter, digit}
 use Rattle.names.specs.Keywords.{isCrate, isMain, isKeyword, keywords}
 use Rattle.names.specs.Packed.{word, packed, sameName}
 use Rattle.names.specs.declared.Name.{Name}
-use Rattle.bundle.specs.Bundle.{Text, Element, Items, none, named, use-of, module-of, File, Bundle}
+use Rattle.bundle.specs.Bundle.{Text, Element, Items, none, use-of, module-of, File, Bundle}
 use Rattle.bundle.specs.Encode.{two, string, joined, counted, sized, element, items, remapping, file, fields, encode}
 use Rattle.bundle.specs.Scan.{times, scanString, scanFormed, scanAlias, scanField, scanCount, scanList, scanUse, scanLength, scanMark, scanHead, scanBody, scanEnd, scanItemWith, siblings, scanModule, scanFile, scanFiles, scanHeader}
 use Rattle.bundle.specs.Decode.{each, far, elementAt, remappingAt, itemAt, itemsBy, itemsAt, fileAt, decode}
 use Rattle.bundle.specs.Conflicts.{placedAt, placedRemappingAt, any, listed, located, sameRemapping, remapped, conflicts}
 use Rattle.bundle.specs.Conflicts as conflict
 use Rattle.bundle.specs.Read.{Reading, value, refused, form, lists, files, verdict, read}
+use Rattle.bundle.specs.CaseLaws.{item}
 use Rattle.resolution.specs.Longest.{insert, longestFirst, firstOf}
 use Rattle.resolution.specs.Resolution.{getPackageRoot, applies, remappingFor, isFolder, isFile, buildAndVerifyPath, resolveCratePath, checkLocalFileImportedAsExternal, resolvePathInternal}
 use Rattle.resolution.specs.Call.{position}
@@ -92,13 +93,13 @@ abbrev main-of : Items → File
 main-of is = at-path "/r/main.simf" is
 
 abbrev main : Items
-main = named 2 0 0 (ascii "main") none
+main = item 2 0 0 (ascii "main") none
 
 unfoldable pub rows : List Row
 rows =
     -- the printed case: its six lines are the order, and the entries but for the units
     record {
-      bundle = below-r (main-of (use-of 0 0 (path ("crate" ∷ "a" ∷ [])) (plain "f" ∷ []) main) ∷ at-path "/r/a.simf" (named 2 0 1 (ascii "f") none) ∷ []);
+      bundle = below-r (main-of (use-of 0 0 (path ("crate" ∷ "a" ∷ [])) (plain "f" ∷ []) main) ∷ at-path "/r/a.simf" (item 2 0 1 (ascii "f") none) ∷ []);
       expected = links (1 ∷ 0 ∷ []) (entry 0 3 "unit_1" 0 ∷ entry 1 2 "f" 65 ∷ entry 0 3 "unit_0" 0 ∷ entry 3 2 "f" 65 ∷ entry 3 2 "main" 44 ∷ [])
           (1 ∷ 0 ∷ 59 ∷ 0 ∷ 15 ∷ 5 ∷ 0 ∷ 6 ∷ 117 ∷ 110 ∷ 105 ∷ 116 ∷ 95 ∷ 49 ∷ 0 ∷ 4 ∷ 2 ∷ 1 ∷ 1 ∷ 102 ∷ 0 ∷ 40 ∷ 5 ∷ 0 ∷ 6 ∷ 117 ∷ 110 ∷ 105 ∷ 116 ∷ 95 ∷ 48 ∷ 0 ∷ 20 ∷ 3 ∷ 0 ∷ 2 ∷ 5 ∷ 99 ∷ 114 ∷ 97 ∷ 116 ∷ 101 ∷ 6 ∷ 117 ∷ 110 ∷ 105 ∷ 116 ∷ 95 ∷ 49 ∷ 1 ∷ 1 ∷ 102 ∷ 0 ∷ 0 ∷ 7 ∷ 2 ∷ 0 ∷ 4 ∷ 109 ∷ 97 ∷ 105 ∷ 110 ∷ []);
     }
@@ -109,12 +110,12 @@ rows =
     }
     -- a private item of another file, at the use's mark
     ∷ record {
-      bundle = below-r (main-of (use-of 0 0 (path ("crate" ∷ "a" ∷ [])) (plain "f" ∷ []) main) ∷ at-path "/r/a.simf" (named 2 0 0 (ascii "f") none) ∷ []);
+      bundle = below-r (main-of (use-of 0 0 (path ("crate" ∷ "a" ∷ [])) (plain "f" ∷ []) main) ∷ at-path "/r/a.simf" (item 2 0 0 (ascii "f") none) ∷ []);
       expected = refusal 44 27;
     }
     -- a name held, at the mark of the item inside a module
     ∷ record {
-      bundle = below-r (main-of (module-of 0 0 (ascii "m") (named 1 0 0 (ascii "T") (named 4 0 0 (ascii "T") none)) main) ∷ []);
+      bundle = below-r (main-of (module-of 0 0 (ascii "m") (item 1 0 0 (ascii "T") (item 4 0 0 (ascii "T") none)) main) ∷ []);
       expected = refusal 48 39;
     }
     -- faults of step 5 come before step 6
@@ -140,13 +141,13 @@ abbrev pub numbers : Answer → List ℕ
 numbers a = a .number ∷ a .place ∷ a .report ∷ a .units ∷ a .image ∷ []
 
 abbrev pub two-files : Bundle
-two-files = below-r (main-of (use-of 0 0 (path ("crate" ∷ "a" ∷ [])) (plain "f" ∷ []) main) ∷ at-path "/r/a.simf" (named 2 0 1 (ascii "f") none) ∷ [])
+two-files = below-r (main-of (use-of 0 0 (path ("crate" ∷ "a" ∷ [])) (plain "f" ∷ []) main) ∷ at-path "/r/a.simf" (item 2 0 1 (ascii "f") none) ∷ [])
 
 abbrev no-main : Bundle
-no-main = below-r (main-of (named 1 0 0 (ascii "T") none) ∷ [])
+no-main = below-r (main-of (item 1 0 0 (ascii "T") none) ∷ [])
 
 abbrev held-twice : Bundle
-held-twice = below-r (main-of (named 2 0 0 (ascii "main") main) ∷ [])
+held-twice = below-r (main-of (item 2 0 0 (ascii "main") main) ∷ [])
 
 unfoldable pub lents : List Lent
 lents =

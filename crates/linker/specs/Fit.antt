@@ -7,7 +7,7 @@ use mathlib.Core.List.{List, _∷_, _++_, List·Memᴰ, List·Memᴰ·head, List
 use lib.ListN.{length}
 use Rattle.bundle.specs.Bundle.{Items, none, named, use-of, module-of, ignored, Bundle}
 use Rattle.bundle.specs.Limits.{depth-limit, use-kind, module-kind}
-use Rattle.bundle.specs.Encode.{string, counted, element, items, encode}
+use Rattle.bundle.specs.Encode.{string, counted, element, encodeHead, items, encode}
 use Rattle.bundle.specs.Form.{Formed, WellFormed}
 use Rattle.bundle.specs.Marks.{Found}
 use Rattle.bundle.specs.Theorems.{marks-are-offsets}
@@ -25,8 +25,8 @@ module _ (b : Bundle) (w : WellFormed b) where
   formed-plain : (us : List Use) (x : Items) (d : ℕ) → Formed x d → Found (encode b) x → ((u : Use) → List·Memᴰ u (uses x) → List·Memᴰ u us) → Plain us x
   unfolding Formed Found Plain uses
   formed-plain us none d f m h = tt
-  formed-plain us (named k at v name rest) d f m h =
-      (small-mark at (let far = begins-before (encode b) at (k ∷ v ∷ string name) (m .0) (omega arith) in omega arith), formed-plain us rest d (f .1 .1 .1) (m .1) h)
+  formed-plain us (named head rest) d f m h =
+      (small-mark (head .mark) (let far = begins-before (encode b) (head .mark) (encodeHead head) (m .0) (omega arith) in omega arith), formed-plain us rest d (f .1) (m .1) h)
   formed-plain us (use-of at v segments elements rest) d f m h = (
     (small-mark at (let far = begins-before (encode b) at (use-kind ∷ v ∷ (counted string segments ++ counted element elements)) (m .0) (omega arith) in omega arith), (f .1 .0, f .1 .1 .0), h (record { mark = at; segments = segments }) (List·Memᴰ·head refl)),
     formed-plain us rest d (f .1 .1 .1) (m .1) (λ u w. h u (List·Memᴰ·tail w)),

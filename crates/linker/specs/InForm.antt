@@ -195,7 +195,7 @@ every-at (x ∷ l) a k f = every-at l a k (f .1)
 calls-good : (p : Items) (d : ℕ) → ImageFormed p d → Every InForm (scopeCalls p)
 unfolding ImageFormed scopeCalls Every call-of
 calls-good none d f = tt
-calls-good (named k m v name rest) d f = (declared-good k m (isPublic v) name (f .1 .1 .0), calls-good rest d (f .1 .1 .1))
+calls-good (named head rest) d f = (declared-good (head .kind) (head .mark) (isPublic (head .visibility)) (head .name) (f .0 .name), calls-good rest d (f .1))
 calls-good (use-of m v segments elements rest) d f =
     (used-good m (isPublic v) segments elements (f .1 .0) (f .1 .1 .0 .0) (f .1 .1 .0 .1), calls-good rest d (f .1 .1 .1))
 calls-good (module-of m v name inner rest) d f = (

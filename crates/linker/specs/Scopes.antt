@@ -30,7 +30,7 @@ useForm segments elements = counted string segments ++ counted element elements
 -- "per unit or module enter, items in order, exit"; kinds 1, 2 and 4 declare. A unit is a module with mark 0
 unfoldable pub scopeCalls : Items → List Asked
 scopeCalls none = []
-scopeCalls (named k m v name rest) = asked m (declares k name (isPublic v) m) ∷ scopeCalls rest
+scopeCalls (named head rest) = asked (head .mark) (declares (head .kind) (head .name) (isPublic (head .visibility)) (head .mark)) ∷ scopeCalls rest
 scopeCalls (use-of m v segments elements rest) = asked m (resolves-use (useForm segments elements) (isPublic v)) ∷ scopeCalls rest
 scopeCalls (module-of m v name inner rest) =
     asked m (enters name (isPublic v) m) ∷ (scopeCalls inner ++ (asked m exits ∷ scopeCalls rest))

@@ -234,7 +234,7 @@ use-size = 2681
 
 unfoldable pub Plain : List Use → Items → Type 0
 Plain us none = Unit {0}
-Plain us (named k m v name rest) = (m < 65536) × Plain us rest
+Plain us (named head rest) = (head .mark < 65536) × Plain us rest
 Plain us (use-of m v segments elements rest) =
     ((m < 65536) × (FormedPath segments × ((length elements ≤ element-limit) × Every FormedElement elements)) × List·Memᴰ (record { mark = m; segments = segments }) us) × Plain us rest
 Plain us (module-of m v name inner rest) = (m < 65536) × (Plain us inner × Plain us rest)

@@ -10,13 +10,14 @@ use Rattle.names.specs.Path.{isPath, isComponent, wellFormed, split, onto, comp
 use Rattle.names.specs.Prefix.{directlyIn, startsWith, begins, child, childFile, stemOf}
 use Rattle.names.specs.Identifier.{isIdentifier, class, letter, digit}
 use Rattle.names.specs.Keywords.{isCrate, isKeyword, keywords}
-use Rattle.bundle.specs.Bundle.{Text, Items, none, named, use-of, Bundle}
+use Rattle.bundle.specs.Bundle.{Text, Items, none, use-of, Bundle}
 use Rattle.bundle.specs.Encode.{two, string, joined, counted, sized, element, items, remapping, file, fields, encode}
 use Rattle.bundle.specs.Scan.{times, scanString, scanFormed, scanAlias, scanField, scanCount, scanList, scanUse, scanLength, scanMark, scanHead, scanBody, scanEnd, scanItemWith, siblings, scanModule, scanFile, scanFiles, scanHeader}
 use Rattle.bundle.specs.Decode.{each, far, elementAt, remappingAt, itemAt, itemsBy, itemsAt, fileAt, decode}
 use Rattle.bundle.specs.Conflicts.{placedAt, placedRemappingAt, any, listed, located, sameRemapping, remapped, conflicts}
 use Rattle.bundle.specs.Conflicts as conflict
 use Rattle.bundle.specs.Read.{Reading, value, refused, form, lists, files, verdict, read}
+use Rattle.bundle.specs.CaseLaws.{item}
 use Rattle.resolution.specs.Longest.{insert, longestFirst, firstOf}
 use Rattle.resolution.specs.Resolution.{getPackageRoot, applies, remappingFor, isFolder, isFile, buildAndVerifyPath, resolveCratePath, checkLocalFileImportedAsExternal, resolvePathInternal}
 use Rattle.resolution.specs.Call.{position}
@@ -64,7 +65,7 @@ unfoldable pub rows : List Row
 rows =
     -- the printed case: what is imported stands first
     record {
-      bundle = below-r [] (printed-entry ∷ at-path "/r/a.simf" (named 2 0 1 (ascii "f") none) ∷ []);
+      bundle = below-r [] (printed-entry ∷ at-path "/r/a.simf" (item 2 0 1 (ascii "f") none) ∷ []);
       expected = told (linked (1 ∷ 0 ∷ [])) (ascii "/r/a.simf" ∷ ascii "/r/main.simf" ∷ []) [];
     }
     -- C7: without its second file the entry imports only itself (C4), which is no ring

@@ -54,7 +54,7 @@ begins-before s at body x h =
 use-before : (s : List ℕ) (x : Items) → Found s x → (u : Use) → List·Memᴰ u (uses x) → u .mark + 4 ≤ length s
 unfolding Found uses
 use-before s none h u m = absurd (List·Memᴰ·not-nil m)
-use-before s (named k mark v name rest) h u m = use-before s rest (h .1) u m
+use-before s (named head rest) h u m = use-before s rest (h .1) u m
 use-before s (use-of mark v segments elements rest) h u m =
     ⊎-elim
     (λ e. let q = ap (λ (w : Use). w .mark) e in

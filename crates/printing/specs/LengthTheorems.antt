@@ -107,7 +107,7 @@ no-calls x m = absurd (List·Memᴰ·not-nil m)
 items-calls : (us : List Use) (path : List Text → List Text) (x : Items) → Plain us x → Calls (scopeCalls (rewriteItems path x))
 unfolding Plain scopeCalls rewriteItems
 items-calls us path none p = no-calls
-items-calls us path (named k m v name rest) p = one-more _ _ (p .0, declares-small k name (isPublic v) m (p .0)) (items-calls us path rest (p .1))
+items-calls us path (named head rest) p = one-more _ _ (p .0, declares-small (head .kind) (head .name) (isPublic (head .visibility)) (head .mark) (p .0)) (items-calls us path rest (p .1))
 items-calls us path (use-of m v segments elements rest) p = one-more _ _ (p .0 .0, uses-small (useForm (path segments) elements) (isPublic v)) (items-calls us path rest (p .1))
 items-calls us path (module-of m v name inner rest) p =
     one-more _ _ (p .0, enters-small name (isPublic v) m (p .0))
@@ -131,9 +131,9 @@ all-declare (a ∷ l) c d m =
 enums-small : (us : List Use) (path : List Text → List Text) (x : Items) → Plain us x → (m : ℕ) → List·Memᴰ m (enumDeclarations (rewriteItems path x)) → m < 65536
 unfolding Plain rewriteItems enumDeclarations
 enums-small us path none p m i = absurd (List·Memᴰ·not-nil i)
-enums-small us path (named k at v name rest) p m i = go (eqb k enum-kind) (enums-small us path rest (p .1) m) i
+enums-small us path (named head rest) p m i = go (eqb (head .kind) enum-kind) (enums-small us path rest (p .1) m) i
   where
-    go : (t : Bool) → (List·Memᴰ m (enumDeclarations (rewriteItems path rest)) → m < 65536) → List·Memᴰ m (cond t (at ∷ enumDeclarations (rewriteItems path rest)) (enumDeclarations (rewriteItems path rest))) → m < 65536
+    go : (t : Bool) → (List·Memᴰ m (enumDeclarations (rewriteItems path rest)) → m < 65536) → List·Memᴰ m (cond t (head .mark ∷ enumDeclarations (rewriteItems path rest)) (enumDeclarations (rewriteItems path rest))) → m < 65536
     go true f j = ⊎-elim (λ q. let h = p .0 in omega arith) f (List·Memᴰ·cases-cons j)
     go false f j = f j
 enums-small us path (use-of at v segments elements rest) p m i = enums-small us path rest (p .1) m i

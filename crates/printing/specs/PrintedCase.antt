@@ -10,13 +10,14 @@ use Rattle.names.specs.Prefix.{directlyIn, startsWith, begins, child, childFile
 use Rattle.names.specs.Identifier.{isIdentifier, class, letter, digit}
 use Rattle.names.specs.Keywords.{isCrate, isMain, isKeyword, keywords}
 use Rattle.names.specs.Packed.{word, packed, sameName}
-use Rattle.bundle.specs.Bundle.{Text, none, named, use-of, File, Bundle}
+use Rattle.bundle.specs.Bundle.{Text, none, use-of, File, Bundle}
 use Rattle.bundle.specs.Encode.{two, string, joined, counted, sized, element, items, remapping, file, fields, encode}
 use Rattle.bundle.specs.Scan.{times, scanString, scanFormed, scanAlias, scanField, scanCount, scanList, scanUse, scanLength, scanMark, scanHead, scanBody, scanEnd, scanItemWith, siblings, scanModule, scanFile, scanFiles, scanHeader}
 use Rattle.bundle.specs.Decode.{each, far, elementAt, remappingAt, itemAt, itemsBy, itemsAt, fileAt, decode}
 use Rattle.bundle.specs.Conflicts.{placedAt, placedRemappingAt, any, listed, located, sameRemapping, remapped, conflicts}
 use Rattle.bundle.specs.Conflicts as conflict
 use Rattle.bundle.specs.Read.{form, lists, files, verdict, read}
+use Rattle.bundle.specs.CaseLaws.{item}
 use Rattle.resolution.specs.Longest.{insert, longestFirst, firstOf}
 use Rattle.resolution.specs.Resolution.{getPackageRoot, applies, remappingFor, isFolder, isFile, buildAndVerifyPath, resolveCratePath, checkLocalFileImportedAsExternal, resolvePathInternal}
 use Rattle.resolution.specs.Call.{position}
@@ -37,10 +38,10 @@ use Rattle.text.specs.Words.{line, lines, bytes-of, spelled}
 use Rattle.printing.specs.Lines.{module-path, has-lines, outcome-lines, reading-lines, printed}
 
 abbrev main-file : File
-main-file = record { path = ascii "/r/main.simf"; items = use-of 0 0 (ascii "crate" ∷ ascii "a" ∷ []) (record { name = ascii "f"; alias = [] } ∷ []) (named 2 0 0 (ascii "main") none) }
+main-file = record { path = ascii "/r/main.simf"; items = use-of 0 0 (ascii "crate" ∷ ascii "a" ∷ []) (record { name = ascii "f"; alias = [] } ∷ []) (item 2 0 0 (ascii "main") none) }
 
 abbrev a-file : File
-a-file = record { path = ascii "/r/a.simf"; items = named 2 0 1 (ascii "f") none }
+a-file = record { path = ascii "/r/a.simf"; items = item 2 0 1 (ascii "f") none }
 
 abbrev of-files : List File → Bundle
 of-files fs = record { version = 1; root = ascii "/r"; folders = ascii "/r" ∷ []; remappings = []; files = fs }

@@ -121,9 +121,9 @@ module _ (s rep img : List ℕ) (v : verdict s ≡ Ok) (o : List ℕ) (e : order
 enum-small : (us : List Use) (x : Items) → Plain us x → (m : ℕ) → List·Memᴰ m (enumDeclarations x) → m < 65536
 unfolding Plain enumDeclarations
 enum-small us none h m k = absurd (List·Memᴰ·not-nil k)
-enum-small us (named n at v name rest) h m k = go (eqb n enum-kind) (enum-small us rest (h .1) m) k
+enum-small us (named head rest) h m k = go (eqb (head .kind) enum-kind) (enum-small us rest (h .1) m) k
   where
-    go : (c : Bool) → (List·Memᴰ m (enumDeclarations rest) → m < 65536) → List·Memᴰ m (cond c (at ∷ enumDeclarations rest) (enumDeclarations rest)) → m < 65536
+    go : (c : Bool) → (List·Memᴰ m (enumDeclarations rest) → m < 65536) → List·Memᴰ m (cond c (head .mark ∷ enumDeclarations rest) (enumDeclarations rest)) → m < 65536
     go true f i = let z = h .0 in ⊎-elim (λ e. omega arith) f (List·Memᴰ·cases-cons i)
     go false f i = f i
 enum-small us (use-of at v segments elements rest) h m k = enum-small us rest (h .1) m k
