@@ -10,7 +10,7 @@ use Rattle.names.specs.declared.Name.{Name}
 use Rattle.names.specs.Packed.{sameName}
 use Rattle.scope_tree.specs.Rows.{isRow, name-at}
 use Rattle.scope_tree.specs.Staging.{refusal, stored, name-test, staged-test}
-use Rattle.scope_tree.specs.Batches.{slot, staged-of, entry-in}
+use Rattle.scope_tree.specs.Batches.{slot, staged-of, entry-in, cells-put, names-put}
 use Rattle.scope_tree.specs.Pack.{slot-get, slot-same, slot-before, slot-after, slot-clear}
 use Rattle.scope_tree.specs.declared.stage.Batch.{Batch}
 
@@ -31,21 +31,12 @@ batch-clear n =
     λ i. record { number = n; count = 0; kinds = k i; marks = m i; n0 = w i; n1 = x i; n2 = y i; n3 = z i; origins = o i; targets = t i; times = u i }
 
 -- AN ENTRY MORE
-abbrev cells-put : List ℕ → ℕ → ℕ → ℕ → ℕ → ℕ → ℕ → List ℕ
-cells-put c at k m o a u = set (set (set (set (set c at k) (96 + at) m) (192 + at) o) (288 + at) a) (384 + at) u
-
-abbrev names-put : List ℕ → ℕ → Name → List ℕ
-names-put c at n = set (set (set (set c at (n .w0)) (96 + at) (n .w1)) (192 + at) (n .w2)) (288 + at) (n .w3)
-
-abbrev pub batch-put : Batch → ℕ → ℕ → Name → ℕ → ℕ → ℕ → Batch
-batch-put b k m n o a u =
-    record { number = b .number; count = b .count + 1; cells = cells-put (b .cells) (b .count) k m o a u; names = names-put (b .names) (b .count) n }
-
 first-slot : (xs : List ℕ) (i v : ℕ) → i < 96 → slot 0 (set xs i v) ≡ set (slot 0 xs) i v
 first-slot xs i v h = ap (λ (j : ℕ). slot 0 (set xs j v)) (sym (zero-add i)) ∙ slot-same 0 xs i v h
 
-pub put-batch : (b : Batch) (k m : ℕ) (n : Name) (o a u : ℕ) → b .count < 96 → staged-of (batch-put b k m n o a u) ≡ stored (staged-of b) k m n o a u
-put-batch b k m n o a u h =
+pub put-batch : (b : Batch) (k m : ℕ) (n : Name) (o a u : ℕ) → b .count < 96 → {x y : List ℕ} → x ≡ cells-put (b .cells) (b .count) k m o a u → y ≡ names-put (b .names) (b .count) n
+    → staged-of (record { number = b .number; count = b .count + 1; cells = x; names = y }) ≡ stored (staged-of b) k m n o a u
+put-batch b k m n o a u h e f =
     let i = b .count in
     let c = b .cells in
     let d = b .names in
@@ -72,7 +63,7 @@ put-batch b k m n o a u h =
     let zs : slot 288 (names-put d i n) ≡ set (slot 288 d) i (n .w3) =
     slot-same 288 _ i (n .w3) h
     ∙ ap (λ (x : List ℕ). set x i (n .w3)) (slot-before 288 _ (192 + i) (n .w2) (omega arith) ∙ slot-before 288 _ (96 + i) (n .w1) (omega arith) ∙ slot-before 288 d i (n .w0) (omega arith)) in
-    λ j. record { number = b .number; count = b .count + 1; kinds = ks j; marks = ms j; n0 = ws j; n1 = xs j; n2 = ys j; n3 = zs j; origins = os j; targets = ts j; times = us j }
+    rw (e, f) λ j. record { number = b .number; count = b .count + 1; kinds = ks j; marks = ms j; n0 = ws j; n1 = xs j; n2 = ys j; n3 = zs j; origins = os j; targets = ts j; times = us j }
 
 -- AN ENTRY READ
 module _ (cells names : List ℕ) (i : ℕ) (h : i < 96) where

@@ -4,7 +4,7 @@ ghost use mathlib.Core.Bool.{false};
 ghost use Prim.Native.Nat.{_+_, _*_, _<_, _≤_};
 ghost use Rattle.scope_tree.specs.Staging.{refusal, any-to, name-test, staged-test, no-choice, choice-of, clash-of, verdict-so-far, staged-all};
 ghost use Rattle.scope_tree.specs.Pack.{arrays-in};
-ghost use Rattle.scope_tree.specs.Batches.{slot, staged-of, entry-in};
+ghost use Rattle.scope_tree.specs.Batches.{slot, staged-of, entry-in, cells-put, names-put};
 use crate::CELLS;
 use crate::Entry;
 use crate::form::local_at;
@@ -222,6 +222,29 @@ fn verdict(told: u8, number: u8) -> u8
     number
 }
 
+// The cells of one more staged entry.
+fn put_cells(cells: &mut [u16; STAGED_CELLS], at: usize, kind: u16, x: Choice)
+    requires { ⌜ at < 96 ⌝ }
+    ensures { λ _. ⌜ now (cells .exit) ≡ cells-put (now (cells .entry)) at kind (x .mark) (x .origin) (x .target) (x .moment) ⌝ }
+{
+    cells[at] = kind;
+    cells[SECOND + at] = x.mark;
+    cells[THIRD + at] = x.origin;
+    cells[FOURTH + at] = x.target;
+    cells[FIFTH + at] = x.moment;
+}
+
+// The name of one more staged entry.
+fn put_name(words: &mut [u64; STAGED_NAMES], at: usize, name: Name)
+    requires { ⌜ at < 96 ⌝ }
+    ensures { λ _. ⌜ now (words .exit) ≡ names-put (now (words .entry)) at name ⌝ }
+{
+    words[at] = name.w0;
+    words[SECOND + at] = name.w1;
+    words[THIRD + at] = name.w2;
+    words[FOURTH + at] = name.w3;
+}
+
 // `count` elements that stand at `at`.
 pub fn stage<'a>(
     cells: &'a [u16; CELLS],
@@ -278,15 +301,8 @@ pub fn stage<'a>(
             told = verdict(told, number);
             kind += 1;
             if number == 0 {
-                s.cells[end] = k;
-                s.cells[SECOND + end] = x.mark;
-                s.cells[THIRD + end] = x.origin;
-                s.cells[FOURTH + end] = x.target;
-                s.cells[FIFTH + end] = x.moment;
-                s.names[end] = local.w0;
-                s.names[SECOND + end] = local.w1;
-                s.names[THIRD + end] = local.w2;
-                s.names[FOURTH + end] = local.w3;
+                put_cells(&mut s.cells, end, k, x);
+                put_name(&mut s.names, end, local);
                 s.count = end + 1;
             }
         }

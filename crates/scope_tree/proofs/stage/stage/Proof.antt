@@ -2,12 +2,13 @@ use borrow.Author.Needs.{needs}
 use native.Mathlib.Omega.{arith}
 use Rattle.scope_tree.proofs.stage.stage.Statement.{statement}
 use Rattle.scope_tree.proofs.stage.stage.Tie as tie
+use native.Mathlib.Nat.{le-of-lt}
 use Prim.Native.Nat.{_-_}
 use mathlib.Core.Path.{sym, subst}
 use Rattle.scope_tree.specs.Batches.{staged-of}
 use Rattle.scope_tree.specs.BatchLaws.{put-batch}
 use Rattle.scope_tree.specs.Pack.{arrays-in}
-use Rattle.scope_tree.specs.Staging.{Staging, staging-start, staging-turn, staging-stop, staging-end, Fresh, fresh-put, Kinding, kinding-start, kinding-put, kinding-skip, kinding-end, kinding-done}
+use Rattle.scope_tree.specs.Staging.{Staging, staging-start, staging-turn, staging-stop, staging-end, Fresh, fresh-put, Kinding, kinding-start, kinding-room, kinding-put, kinding-skip, kinding-end, kinding-done}
 
 abbrev Inv-loop2 : tie.InvT-loop2
 Inv-loop2 cells visible scopes marks n0 n1 n2 n3 total here scope time decl at count s₀ p i name local staged from told₀ kind₀ s told kind = Kinding (arrays-in cells visible scopes marks n0 n1 n2 n3) total here scope time name local (staged-of s₀) kind told (staged-of s) × Fresh local from (staged-of s)
@@ -43,7 +44,7 @@ choose-requires : tie.Need-choose-requires Inv-loop2 μ-loop2 Inv-loop μ-loop
 choose-requires c κs = ((c .before .before .before .before .before .before .before .before .before .before .before .pre) .0, (c .before .before .before .before .before .before .before .before .before .before .before .pre) .1 .0)
 
 staged-has-requires : tie.Need-staged-has-requires Inv-loop2 μ-loop2 Inv-loop μ-loop
-staged-has-requires c κs = (let w = (c .before .before .before .before .before .loop2) .inv .0 .small in let t = (c .before .before .before .before .loop2-test) .taken in let u = (c .before .before .before .before .before .before .before .before .before .before .before .before .loop) .inv .small in let x = (c .before .before .before .before .before .before .before .before .before .before .before .before .loop) .inv .within in let y = (c .before .before .before .before .before .before .before .before .before .before .before .loop-test) .taken in let e = (c .before .before .before .before .before .before .before .before .before .before .before .before .before .before .before .pre) in omega arith, ((c .before .before .before .before .before .loop2) .inv .1 .within, (c .before .before .before .before .before .loop2) .inv .1 .none))
+staged-has-requires c κs = (le-of-lt (kinding-room _ _ _ _ _ _ _ _ _ _ _ ((c .before .before .before .before .before .loop2) .inv .0) ((c .before .before .before .before .loop2-test) .taken) _ _ _ _ ((c .before .before .before .before .before .before .before .before .before .before .before .before .loop) .inv) ((c .before .before .before .before .before .before .before .before .before .before .before .loop-test) .taken) ((c .before .before .before .before .before .before .before .before .before .before .before .before .before .before .before .pre) .1 .1 .0)), ((c .before .before .before .before .before .loop2) .inv .1 .within, (c .before .before .before .before .before .loop2) .inv .1 .none))
 
 clash-requires : tie.Need-clash-requires Inv-loop2 μ-loop2 Inv-loop μ-loop
 clash-requires c κs = search needs
@@ -54,89 +55,20 @@ verdict-requires c κs = search needs
 add-kind : tie.Need-add-kind Inv-loop2 μ-loop2 Inv-loop μ-loop
 add-kind c = let t = (c .before .before .before .before .before .before .before .loop2-test) .taken in omega arith
 
-mul-s : tie.Need-mul-s Inv-loop2 μ-loop2 Inv-loop μ-loop
-mul-s c = let w = (c .before .before .before .before .before .before .before .before .before .loop2) .inv .0 .small in let t = (c .before .before .before .before .before .before .before .before .loop2-test) .taken in let u = (c .before .before .before .before .before .before .before .before .before .before .before .before .before .before .before .before .loop) .inv .small in let x = (c .before .before .before .before .before .before .before .before .before .before .before .before .before .before .before .before .loop) .inv .within in let y = (c .before .before .before .before .before .before .before .before .before .before .before .before .before .before .before .loop-test) .taken in let e = (c .before .before .before .before .before .before .before .before .before .before .before .before .before .before .before .before .before .before .before .pre) in omega arith
+put-cells-requires : tie.Need-put-cells-requires Inv-loop2 μ-loop2 Inv-loop μ-loop
+put-cells-requires c κs = kinding-room _ _ _ _ _ _ _ _ _ _ _ ((c .before .before .before .before .before .before .before .before .before .before .loop2) .inv .0) ((c .before .before .before .before .before .before .before .before .before .loop2-test) .taken) _ _ _ _ ((c .before .before .before .before .before .before .before .before .before .before .before .before .before .before .before .before .before .loop) .inv) ((c .before .before .before .before .before .before .before .before .before .before .before .before .before .before .before .before .loop-test) .taken) ((c .before .before .before .before .before .before .before .before .before .before .before .before .before .before .before .before .before .before .before .before .pre) .1 .1 .0)
 
-element-write-s : tie.Need-element-write-s Inv-loop2 μ-loop2 Inv-loop μ-loop
-element-write-s c = let w = (c .before .before .before .before .before .before .before .before .before .loop2) .inv .0 .small in let t = (c .before .before .before .before .before .before .before .before .loop2-test) .taken in let u = (c .before .before .before .before .before .before .before .before .before .before .before .before .before .before .before .before .loop) .inv .small in let x = (c .before .before .before .before .before .before .before .before .before .before .before .before .before .before .before .before .loop) .inv .within in let y = (c .before .before .before .before .before .before .before .before .before .before .before .before .before .before .before .loop-test) .taken in let e = (c .before .before .before .before .before .before .before .before .before .before .before .before .before .before .before .before .before .before .before .pre) in omega arith
+put-name-requires : tie.Need-put-name-requires Inv-loop2 μ-loop2 Inv-loop μ-loop
+put-name-requires c κs = kinding-room _ _ _ _ _ _ _ _ _ _ _ ((c .before .before .before .before .before .before .before .before .before .before .before .before .loop2) .inv .0) ((c .before .before .before .before .before .before .before .before .before .before .before .loop2-test) .taken) _ _ _ _ ((c .before .before .before .before .before .before .before .before .before .before .before .before .before .before .before .before .before .before .before .loop) .inv) ((c .before .before .before .before .before .before .before .before .before .before .before .before .before .before .before .before .before .before .loop-test) .taken) ((c .before .before .before .before .before .before .before .before .before .before .before .before .before .before .before .before .before .before .before .before .before .before .pre) .1 .1 .0)
 
 add-s : tie.Need-add-s Inv-loop2 μ-loop2 Inv-loop μ-loop
-add-s c = let w = (c .before .before .before .before .before .before .before .before .before .loop2) .inv .0 .small in let t = (c .before .before .before .before .before .before .before .before .loop2-test) .taken in let u = (c .before .before .before .before .before .before .before .before .before .before .before .before .before .before .before .before .loop) .inv .small in let x = (c .before .before .before .before .before .before .before .before .before .before .before .before .before .before .before .before .loop) .inv .within in let y = (c .before .before .before .before .before .before .before .before .before .before .before .before .before .before .before .loop-test) .taken in let e = (c .before .before .before .before .before .before .before .before .before .before .before .before .before .before .before .before .before .before .before .pre) in omega arith
-
-mul-s-2 : tie.Need-mul-s-2 Inv-loop2 μ-loop2 Inv-loop μ-loop
-mul-s-2 c = let w = (c .before .before .before .before .before .before .before .before .before .loop2) .inv .0 .small in let t = (c .before .before .before .before .before .before .before .before .loop2-test) .taken in let u = (c .before .before .before .before .before .before .before .before .before .before .before .before .before .before .before .before .loop) .inv .small in let x = (c .before .before .before .before .before .before .before .before .before .before .before .before .before .before .before .before .loop) .inv .within in let y = (c .before .before .before .before .before .before .before .before .before .before .before .before .before .before .before .loop-test) .taken in let e = (c .before .before .before .before .before .before .before .before .before .before .before .before .before .before .before .before .before .before .before .pre) in omega arith
-
-element-write-s-2 : tie.Need-element-write-s-2 Inv-loop2 μ-loop2 Inv-loop μ-loop
-element-write-s-2 c = let w = (c .before .before .before .before .before .before .before .before .before .loop2) .inv .0 .small in let t = (c .before .before .before .before .before .before .before .before .loop2-test) .taken in let u = (c .before .before .before .before .before .before .before .before .before .before .before .before .before .before .before .before .loop) .inv .small in let x = (c .before .before .before .before .before .before .before .before .before .before .before .before .before .before .before .before .loop) .inv .within in let y = (c .before .before .before .before .before .before .before .before .before .before .before .before .before .before .before .loop-test) .taken in let e = (c .before .before .before .before .before .before .before .before .before .before .before .before .before .before .before .before .before .before .before .pre) in omega arith
-
-add-s-2 : tie.Need-add-s-2 Inv-loop2 μ-loop2 Inv-loop μ-loop
-add-s-2 c = let w = (c .before .before .before .before .before .before .before .before .before .loop2) .inv .0 .small in let t = (c .before .before .before .before .before .before .before .before .loop2-test) .taken in let u = (c .before .before .before .before .before .before .before .before .before .before .before .before .before .before .before .before .loop) .inv .small in let x = (c .before .before .before .before .before .before .before .before .before .before .before .before .before .before .before .before .loop) .inv .within in let y = (c .before .before .before .before .before .before .before .before .before .before .before .before .before .before .before .loop-test) .taken in let e = (c .before .before .before .before .before .before .before .before .before .before .before .before .before .before .before .before .before .before .before .pre) in omega arith
-
-mul-s-3 : tie.Need-mul-s-3 Inv-loop2 μ-loop2 Inv-loop μ-loop
-mul-s-3 c = let w = (c .before .before .before .before .before .before .before .before .before .loop2) .inv .0 .small in let t = (c .before .before .before .before .before .before .before .before .loop2-test) .taken in let u = (c .before .before .before .before .before .before .before .before .before .before .before .before .before .before .before .before .loop) .inv .small in let x = (c .before .before .before .before .before .before .before .before .before .before .before .before .before .before .before .before .loop) .inv .within in let y = (c .before .before .before .before .before .before .before .before .before .before .before .before .before .before .before .loop-test) .taken in let e = (c .before .before .before .before .before .before .before .before .before .before .before .before .before .before .before .before .before .before .before .pre) in omega arith
-
-element-write-s-3 : tie.Need-element-write-s-3 Inv-loop2 μ-loop2 Inv-loop μ-loop
-element-write-s-3 c = let w = (c .before .before .before .before .before .before .before .before .before .loop2) .inv .0 .small in let t = (c .before .before .before .before .before .before .before .before .loop2-test) .taken in let u = (c .before .before .before .before .before .before .before .before .before .before .before .before .before .before .before .before .loop) .inv .small in let x = (c .before .before .before .before .before .before .before .before .before .before .before .before .before .before .before .before .loop) .inv .within in let y = (c .before .before .before .before .before .before .before .before .before .before .before .before .before .before .before .loop-test) .taken in let e = (c .before .before .before .before .before .before .before .before .before .before .before .before .before .before .before .before .before .before .before .pre) in omega arith
-
-add-s-3 : tie.Need-add-s-3 Inv-loop2 μ-loop2 Inv-loop μ-loop
-add-s-3 c = let w = (c .before .before .before .before .before .before .before .before .before .loop2) .inv .0 .small in let t = (c .before .before .before .before .before .before .before .before .loop2-test) .taken in let u = (c .before .before .before .before .before .before .before .before .before .before .before .before .before .before .before .before .loop) .inv .small in let x = (c .before .before .before .before .before .before .before .before .before .before .before .before .before .before .before .before .loop) .inv .within in let y = (c .before .before .before .before .before .before .before .before .before .before .before .before .before .before .before .loop-test) .taken in let e = (c .before .before .before .before .before .before .before .before .before .before .before .before .before .before .before .before .before .before .before .pre) in omega arith
-
-mul-s-4 : tie.Need-mul-s-4 Inv-loop2 μ-loop2 Inv-loop μ-loop
-mul-s-4 c = let w = (c .before .before .before .before .before .before .before .before .before .loop2) .inv .0 .small in let t = (c .before .before .before .before .before .before .before .before .loop2-test) .taken in let u = (c .before .before .before .before .before .before .before .before .before .before .before .before .before .before .before .before .loop) .inv .small in let x = (c .before .before .before .before .before .before .before .before .before .before .before .before .before .before .before .before .loop) .inv .within in let y = (c .before .before .before .before .before .before .before .before .before .before .before .before .before .before .before .loop-test) .taken in let e = (c .before .before .before .before .before .before .before .before .before .before .before .before .before .before .before .before .before .before .before .pre) in omega arith
-
-element-write-s-4 : tie.Need-element-write-s-4 Inv-loop2 μ-loop2 Inv-loop μ-loop
-element-write-s-4 c = let w = (c .before .before .before .before .before .before .before .before .before .loop2) .inv .0 .small in let t = (c .before .before .before .before .before .before .before .before .loop2-test) .taken in let u = (c .before .before .before .before .before .before .before .before .before .before .before .before .before .before .before .before .loop) .inv .small in let x = (c .before .before .before .before .before .before .before .before .before .before .before .before .before .before .before .before .loop) .inv .within in let y = (c .before .before .before .before .before .before .before .before .before .before .before .before .before .before .before .loop-test) .taken in let e = (c .before .before .before .before .before .before .before .before .before .before .before .before .before .before .before .before .before .before .before .pre) in omega arith
-
-add-s-4 : tie.Need-add-s-4 Inv-loop2 μ-loop2 Inv-loop μ-loop
-add-s-4 c = let w = (c .before .before .before .before .before .before .before .before .before .loop2) .inv .0 .small in let t = (c .before .before .before .before .before .before .before .before .loop2-test) .taken in let u = (c .before .before .before .before .before .before .before .before .before .before .before .before .before .before .before .before .loop) .inv .small in let x = (c .before .before .before .before .before .before .before .before .before .before .before .before .before .before .before .before .loop) .inv .within in let y = (c .before .before .before .before .before .before .before .before .before .before .before .before .before .before .before .loop-test) .taken in let e = (c .before .before .before .before .before .before .before .before .before .before .before .before .before .before .before .before .before .before .before .pre) in omega arith
-
-mul-s-5 : tie.Need-mul-s-5 Inv-loop2 μ-loop2 Inv-loop μ-loop
-mul-s-5 c = let w = (c .before .before .before .before .before .before .before .before .before .loop2) .inv .0 .small in let t = (c .before .before .before .before .before .before .before .before .loop2-test) .taken in let u = (c .before .before .before .before .before .before .before .before .before .before .before .before .before .before .before .before .loop) .inv .small in let x = (c .before .before .before .before .before .before .before .before .before .before .before .before .before .before .before .before .loop) .inv .within in let y = (c .before .before .before .before .before .before .before .before .before .before .before .before .before .before .before .loop-test) .taken in let e = (c .before .before .before .before .before .before .before .before .before .before .before .before .before .before .before .before .before .before .before .pre) in omega arith
-
-element-write-s-5 : tie.Need-element-write-s-5 Inv-loop2 μ-loop2 Inv-loop μ-loop
-element-write-s-5 c = let w = (c .before .before .before .before .before .before .before .before .before .loop2) .inv .0 .small in let t = (c .before .before .before .before .before .before .before .before .loop2-test) .taken in let u = (c .before .before .before .before .before .before .before .before .before .before .before .before .before .before .before .before .loop) .inv .small in let x = (c .before .before .before .before .before .before .before .before .before .before .before .before .before .before .before .before .loop) .inv .within in let y = (c .before .before .before .before .before .before .before .before .before .before .before .before .before .before .before .loop-test) .taken in let e = (c .before .before .before .before .before .before .before .before .before .before .before .before .before .before .before .before .before .before .before .pre) in omega arith
-
-mul-s-6 : tie.Need-mul-s-6 Inv-loop2 μ-loop2 Inv-loop μ-loop
-mul-s-6 c = let w = (c .before .before .before .before .before .before .before .before .before .loop2) .inv .0 .small in let t = (c .before .before .before .before .before .before .before .before .loop2-test) .taken in let u = (c .before .before .before .before .before .before .before .before .before .before .before .before .before .before .before .before .loop) .inv .small in let x = (c .before .before .before .before .before .before .before .before .before .before .before .before .before .before .before .before .loop) .inv .within in let y = (c .before .before .before .before .before .before .before .before .before .before .before .before .before .before .before .loop-test) .taken in let e = (c .before .before .before .before .before .before .before .before .before .before .before .before .before .before .before .before .before .before .before .pre) in omega arith
-
-element-write-s-6 : tie.Need-element-write-s-6 Inv-loop2 μ-loop2 Inv-loop μ-loop
-element-write-s-6 c = let w = (c .before .before .before .before .before .before .before .before .before .loop2) .inv .0 .small in let t = (c .before .before .before .before .before .before .before .before .loop2-test) .taken in let u = (c .before .before .before .before .before .before .before .before .before .before .before .before .before .before .before .before .loop) .inv .small in let x = (c .before .before .before .before .before .before .before .before .before .before .before .before .before .before .before .before .loop) .inv .within in let y = (c .before .before .before .before .before .before .before .before .before .before .before .before .before .before .before .loop-test) .taken in let e = (c .before .before .before .before .before .before .before .before .before .before .before .before .before .before .before .before .before .before .before .pre) in omega arith
-
-add-s-5 : tie.Need-add-s-5 Inv-loop2 μ-loop2 Inv-loop μ-loop
-add-s-5 c = let w = (c .before .before .before .before .before .before .before .before .before .loop2) .inv .0 .small in let t = (c .before .before .before .before .before .before .before .before .loop2-test) .taken in let u = (c .before .before .before .before .before .before .before .before .before .before .before .before .before .before .before .before .loop) .inv .small in let x = (c .before .before .before .before .before .before .before .before .before .before .before .before .before .before .before .before .loop) .inv .within in let y = (c .before .before .before .before .before .before .before .before .before .before .before .before .before .before .before .loop-test) .taken in let e = (c .before .before .before .before .before .before .before .before .before .before .before .before .before .before .before .before .before .before .before .pre) in omega arith
-
-mul-s-7 : tie.Need-mul-s-7 Inv-loop2 μ-loop2 Inv-loop μ-loop
-mul-s-7 c = let w = (c .before .before .before .before .before .before .before .before .before .loop2) .inv .0 .small in let t = (c .before .before .before .before .before .before .before .before .loop2-test) .taken in let u = (c .before .before .before .before .before .before .before .before .before .before .before .before .before .before .before .before .loop) .inv .small in let x = (c .before .before .before .before .before .before .before .before .before .before .before .before .before .before .before .before .loop) .inv .within in let y = (c .before .before .before .before .before .before .before .before .before .before .before .before .before .before .before .loop-test) .taken in let e = (c .before .before .before .before .before .before .before .before .before .before .before .before .before .before .before .before .before .before .before .pre) in omega arith
-
-element-write-s-7 : tie.Need-element-write-s-7 Inv-loop2 μ-loop2 Inv-loop μ-loop
-element-write-s-7 c = let w = (c .before .before .before .before .before .before .before .before .before .loop2) .inv .0 .small in let t = (c .before .before .before .before .before .before .before .before .loop2-test) .taken in let u = (c .before .before .before .before .before .before .before .before .before .before .before .before .before .before .before .before .loop) .inv .small in let x = (c .before .before .before .before .before .before .before .before .before .before .before .before .before .before .before .before .loop) .inv .within in let y = (c .before .before .before .before .before .before .before .before .before .before .before .before .before .before .before .loop-test) .taken in let e = (c .before .before .before .before .before .before .before .before .before .before .before .before .before .before .before .before .before .before .before .pre) in omega arith
-
-add-s-6 : tie.Need-add-s-6 Inv-loop2 μ-loop2 Inv-loop μ-loop
-add-s-6 c = let w = (c .before .before .before .before .before .before .before .before .before .loop2) .inv .0 .small in let t = (c .before .before .before .before .before .before .before .before .loop2-test) .taken in let u = (c .before .before .before .before .before .before .before .before .before .before .before .before .before .before .before .before .loop) .inv .small in let x = (c .before .before .before .before .before .before .before .before .before .before .before .before .before .before .before .before .loop) .inv .within in let y = (c .before .before .before .before .before .before .before .before .before .before .before .before .before .before .before .loop-test) .taken in let e = (c .before .before .before .before .before .before .before .before .before .before .before .before .before .before .before .before .before .before .before .pre) in omega arith
-
-mul-s-8 : tie.Need-mul-s-8 Inv-loop2 μ-loop2 Inv-loop μ-loop
-mul-s-8 c = let w = (c .before .before .before .before .before .before .before .before .before .loop2) .inv .0 .small in let t = (c .before .before .before .before .before .before .before .before .loop2-test) .taken in let u = (c .before .before .before .before .before .before .before .before .before .before .before .before .before .before .before .before .loop) .inv .small in let x = (c .before .before .before .before .before .before .before .before .before .before .before .before .before .before .before .before .loop) .inv .within in let y = (c .before .before .before .before .before .before .before .before .before .before .before .before .before .before .before .loop-test) .taken in let e = (c .before .before .before .before .before .before .before .before .before .before .before .before .before .before .before .before .before .before .before .pre) in omega arith
-
-element-write-s-8 : tie.Need-element-write-s-8 Inv-loop2 μ-loop2 Inv-loop μ-loop
-element-write-s-8 c = let w = (c .before .before .before .before .before .before .before .before .before .loop2) .inv .0 .small in let t = (c .before .before .before .before .before .before .before .before .loop2-test) .taken in let u = (c .before .before .before .before .before .before .before .before .before .before .before .before .before .before .before .before .loop) .inv .small in let x = (c .before .before .before .before .before .before .before .before .before .before .before .before .before .before .before .before .loop) .inv .within in let y = (c .before .before .before .before .before .before .before .before .before .before .before .before .before .before .before .loop-test) .taken in let e = (c .before .before .before .before .before .before .before .before .before .before .before .before .before .before .before .before .before .before .before .pre) in omega arith
-
-add-s-7 : tie.Need-add-s-7 Inv-loop2 μ-loop2 Inv-loop μ-loop
-add-s-7 c = let w = (c .before .before .before .before .before .before .before .before .before .loop2) .inv .0 .small in let t = (c .before .before .before .before .before .before .before .before .loop2-test) .taken in let u = (c .before .before .before .before .before .before .before .before .before .before .before .before .before .before .before .before .loop) .inv .small in let x = (c .before .before .before .before .before .before .before .before .before .before .before .before .before .before .before .before .loop) .inv .within in let y = (c .before .before .before .before .before .before .before .before .before .before .before .before .before .before .before .loop-test) .taken in let e = (c .before .before .before .before .before .before .before .before .before .before .before .before .before .before .before .before .before .before .before .pre) in omega arith
-
-mul-s-9 : tie.Need-mul-s-9 Inv-loop2 μ-loop2 Inv-loop μ-loop
-mul-s-9 c = let w = (c .before .before .before .before .before .before .before .before .before .loop2) .inv .0 .small in let t = (c .before .before .before .before .before .before .before .before .loop2-test) .taken in let u = (c .before .before .before .before .before .before .before .before .before .before .before .before .before .before .before .before .loop) .inv .small in let x = (c .before .before .before .before .before .before .before .before .before .before .before .before .before .before .before .before .loop) .inv .within in let y = (c .before .before .before .before .before .before .before .before .before .before .before .before .before .before .before .loop-test) .taken in let e = (c .before .before .before .before .before .before .before .before .before .before .before .before .before .before .before .before .before .before .before .pre) in omega arith
-
-element-write-s-9 : tie.Need-element-write-s-9 Inv-loop2 μ-loop2 Inv-loop μ-loop
-element-write-s-9 c = let w = (c .before .before .before .before .before .before .before .before .before .loop2) .inv .0 .small in let t = (c .before .before .before .before .before .before .before .before .loop2-test) .taken in let u = (c .before .before .before .before .before .before .before .before .before .before .before .before .before .before .before .before .loop) .inv .small in let x = (c .before .before .before .before .before .before .before .before .before .before .before .before .before .before .before .before .loop) .inv .within in let y = (c .before .before .before .before .before .before .before .before .before .before .before .before .before .before .before .loop-test) .taken in let e = (c .before .before .before .before .before .before .before .before .before .before .before .before .before .before .before .before .before .before .before .pre) in omega arith
-
-add-s-8 : tie.Need-add-s-8 Inv-loop2 μ-loop2 Inv-loop μ-loop
-add-s-8 c = let w = (c .before .before .before .before .before .before .before .before .before .loop2) .inv .0 .small in let t = (c .before .before .before .before .before .before .before .before .loop2-test) .taken in let u = (c .before .before .before .before .before .before .before .before .before .before .before .before .before .before .before .before .loop) .inv .small in let x = (c .before .before .before .before .before .before .before .before .before .before .before .before .before .before .before .before .loop) .inv .within in let y = (c .before .before .before .before .before .before .before .before .before .before .before .before .before .before .before .loop-test) .taken in let e = (c .before .before .before .before .before .before .before .before .before .before .before .before .before .before .before .before .before .before .before .pre) in omega arith
+add-s c = let r = kinding-room _ _ _ _ _ _ _ _ _ _ _ ((c .before .before .before .before .before .before .before .before .before .before .before .before .before .loop2) .inv .0) ((c .before .before .before .before .before .before .before .before .before .before .before .before .loop2-test) .taken) _ _ _ _ ((c .before .before .before .before .before .before .before .before .before .before .before .before .before .before .before .before .before .before .before .before .loop) .inv) ((c .before .before .before .before .before .before .before .before .before .before .before .before .before .before .before .before .before .before .before .loop-test) .taken) ((c .before .before .before .before .before .before .before .before .before .before .before .before .before .before .before .before .before .before .before .before .before .before .before .pre) .1 .1 .0) in omega arith
 
 loop2-less : tie.Need-loop2-less Inv-loop2 μ-loop2 Inv-loop μ-loop
-loop2-less c = let t = (c .before .before .before .before .before .before .before .before .loop2-test) .taken in omega arith
+loop2-less c = let t = (c .before .before .before .before .before .before .before .before .before .before .before .before .loop2-test) .taken in omega arith
 
 loop2-again : tie.Need-loop2-again Inv-loop2 μ-loop2 Inv-loop μ-loop
-loop2-again c = let q = sym (put-batch ((c .before .before .before .before .before .before .before .before .before .loop2) .s) _ _ _ _ _ _ (let w = (c .before .before .before .before .before .before .before .before .before .loop2) .inv .0 .small in let t = (c .before .before .before .before .before .before .before .before .loop2-test) .taken in let u = (c .before .before .before .before .before .before .before .before .before .before .before .before .before .before .before .before .loop) .inv .small in let x = (c .before .before .before .before .before .before .before .before .before .before .before .before .before .before .before .before .loop) .inv .within in let y = (c .before .before .before .before .before .before .before .before .before .before .before .before .before .before .before .loop-test) .taken in let e = (c .before .before .before .before .before .before .before .before .before .before .before .before .before .before .before .before .before .before .before .pre) in omega arith)) in (subst (Kinding _ _ _ _ _ _ _ (staged-of _) _ _) q (kinding-put _ _ _ _ _ _ _ _ _ _ _ ((c .before .before .before .before .before .before .before .before .before .loop2) .inv .0) ((c .before .before .before .before .before .before .before .before .loop2-test) .taken) _ ((c .before .before .before .before .before .before .before .choose) .ensures) _ ((c .before .before .before .staged-has) .ensures) _ ((c .before .before .clash) .ensures) _ ((c .before .verdict) .ensures) ((c .if1) .taken)), subst (Fresh _ _) q (fresh-put _ _ _ _ _ _ _ _ _ ((c .before .before .before .before .before .before .before .before .before .loop2) .inv .1)))
+loop2-again c = let q = sym (put-batch ((c .before .before .before .before .before .before .before .before .before .before .before .before .before .loop2) .s) _ _ _ _ _ _ (kinding-room _ _ _ _ _ _ _ _ _ _ _ ((c .before .before .before .before .before .before .before .before .before .before .before .before .before .loop2) .inv .0) ((c .before .before .before .before .before .before .before .before .before .before .before .before .loop2-test) .taken) _ _ _ _ ((c .before .before .before .before .before .before .before .before .before .before .before .before .before .before .before .before .before .before .before .before .loop) .inv) ((c .before .before .before .before .before .before .before .before .before .before .before .before .before .before .before .before .before .before .before .loop-test) .taken) ((c .before .before .before .before .before .before .before .before .before .before .before .before .before .before .before .before .before .before .before .before .before .before .before .pre) .1 .1 .0)) ((c .before .before .put-cells) .ensures) ((c .put-name) .ensures)) in (subst (Kinding _ _ _ _ _ _ _ (staged-of _) _ _) q (kinding-put _ _ _ _ _ _ _ _ _ _ _ ((c .before .before .before .before .before .before .before .before .before .before .before .before .before .loop2) .inv .0) ((c .before .before .before .before .before .before .before .before .before .before .before .before .loop2-test) .taken) _ ((c .before .before .before .before .before .before .before .before .before .before .before .choose) .ensures) _ ((c .before .before .before .before .before .before .before .staged-has) .ensures) _ ((c .before .before .before .before .before .before .clash) .ensures) _ ((c .before .before .before .before .before .verdict) .ensures) ((c .before .before .before .before .if1) .taken)), subst (Fresh _ _) q (fresh-put _ _ _ _ _ _ _ _ _ ((c .before .before .before .before .before .before .before .before .before .before .before .before .before .loop2) .inv .1)))
 
 loop2-less-2 : tie.Need-loop2-less-2 Inv-loop2 μ-loop2 Inv-loop μ-loop
 loop2-less-2 c = let t = (c .before .before .before .before .before .before .before .before .loop2-test) .taken in omega arith
@@ -166,4 +98,4 @@ returns-2 : tie.Need-returns-2 Inv-loop2 μ-loop2 Inv-loop μ-loop
 returns-2 c = staging-end _ _ _ _ _ _ _ _ _ _ _ ((c .before .loop) .inv) ((c .loop-test) .left)
 
 pub stage-spec : {M : Type 1} → statement M
-stage-spec = tie.close (tie.spec Inv-loop2 μ-loop2 Inv-loop μ-loop refused-requires loop-holds name-at-requires local-at-requires first-named-requires loop2-holds choose-requires staged-has-requires clash-requires verdict-requires add-kind mul-s element-write-s add-s mul-s-2 element-write-s-2 add-s-2 mul-s-3 element-write-s-3 add-s-3 mul-s-4 element-write-s-4 add-s-4 mul-s-5 element-write-s-5 mul-s-6 element-write-s-6 add-s-5 mul-s-7 element-write-s-7 add-s-6 mul-s-8 element-write-s-8 add-s-7 mul-s-9 element-write-s-9 add-s-8 loop2-less loop2-again loop2-less-2 loop2-again-2 returns next-requires next-requires-2 add-i loop-less loop-again returns-2)
+stage-spec = tie.close (tie.spec Inv-loop2 μ-loop2 Inv-loop μ-loop refused-requires loop-holds name-at-requires local-at-requires first-named-requires loop2-holds choose-requires staged-has-requires clash-requires verdict-requires add-kind put-cells-requires put-name-requires add-s loop2-less loop2-again loop2-less-2 loop2-again-2 returns next-requires next-requires-2 add-i loop-less loop-again returns-2)
