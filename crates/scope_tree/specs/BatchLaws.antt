@@ -66,35 +66,33 @@ put-batch b k m n o a u h e f =
     rw (e, f) λ j. record { number = b .number; count = b .count + 1; kinds = ks j; marks = ms j; n0 = ws j; n1 = xs j; n2 = ys j; n3 = zs j; origins = os j; targets = ts j; times = us j }
 
 -- AN ENTRY READ
-module _ (cells names : List ℕ) (i : ℕ) (h : i < 96) where
+module _ (i : ℕ) (h : i < 96) where
   at-first : (xs : List ℕ) → getD xs i 0 ≡ getD (slot 0 xs) i 0
   at-first xs = ap (λ (j : ℕ). getD xs j 0) (sym (zero-add i)) ∙ sym (slot-get 0 xs i h)
 
-  name-read : record { w0 = getD names i 0; w1 = getD names (96 + i) 0; w2 = getD names (192 + i) 0; w3 = getD names (288 + i) 0 } ≡ name-at (slot 0 names) (slot 96 names) (slot 192 names) (slot 288 names) i
-  name-read =
+  pub name-read : (names : List ℕ) → record { w0 = getD names i 0; w1 = getD names (96 + i) 0; w2 = getD names (192 + i) 0; w3 = getD names (288 + i) 0 } ≡ name-at (slot 0 names) (slot 96 names) (slot 192 names) (slot 288 names) i
+  name-read names =
       let a = at-first names in
       let b = sym (slot-get 96 names i h) in
       let c = sym (slot-get 192 names i h) in
       let d = sym (slot-get 288 names i h) in
       λ j. record { w0 = a j; w1 = b j; w2 = c j; w3 = d j }
 
-  pub entry-read : (s v : ℕ)
-      → record { kind = getD cells i 0; visible = v; scope = s; mark = getD cells (96 + i) 0; name = record { w0 = getD names i 0; w1 = getD names (96 + i) 0; w2 = getD names (192 + i) 0; w3 = getD names (288 + i) 0 }; origin = getD cells (192 + i) 0; target = getD cells (288 + i) 0; moment = getD cells (384 + i) 0; opens = false } ≡ entry-in cells names i s v
-  entry-read s v =
-      let k = at-first cells in
-      let m = sym (slot-get 96 cells i h) in
-      let o = sym (slot-get 192 cells i h) in
-      let t = sym (slot-get 288 cells i h) in
-      let u = sym (slot-get 384 cells i h) in
-      let n = name-read in
-      λ j. record { kind = k j; visible = v; scope = s; mark = m j; name = n j; origin = o j; target = t j; moment = u j; opens = false }
+  module _ (cells names : List ℕ) {m : Name} (e : m ≡ name-at (slot 0 names) (slot 96 names) (slot 192 names) (slot 288 names) i) where
+    pub entry-read : (s v : ℕ)
+        → record { kind = getD cells i 0; visible = v; scope = s; mark = getD cells (96 + i) 0; name = m; origin = getD cells (192 + i) 0; target = getD cells (288 + i) 0; moment = getD cells (384 + i) 0; opens = false } ≡ entry-in cells names i s v
+    entry-read s v =
+        let k = at-first cells in
+        let x = sym (slot-get 96 cells i h) in
+        let o = sym (slot-get 192 cells i h) in
+        let t = sym (slot-get 288 cells i h) in
+        let u = sym (slot-get 384 cells i h) in
+        λ j. record { kind = k j; visible = v; scope = s; mark = x j; name = e j; origin = o j; target = t j; moment = u j; opens = false }
 
-  pub held-read : {r : Bool} (here k : ℕ) (n : Name) → r ≡ isRow here (getD cells i 0) (record { w0 = getD names i 0; w1 = getD names (96 + i) 0; w2 = getD names (192 + i) 0; w3 = getD names (288 + i) 0 }) here k n
-      → r ≡ staged-test (slot 0 cells) (slot 0 names) (slot 96 names) (slot 192 names) (slot 288 names) here k n i
-  unfolding staged-test
-  held-read here k n e = let c = at-first cells in let m = name-read in e ∙ (λ j. isRow here (c j) (m j) here k n)
+    pub held-read : {r : Bool} (here k : ℕ) (n : Name) → r ≡ isRow here (getD cells i 0) m here k n → r ≡ staged-test (slot 0 cells) (slot 0 names) (slot 96 names) (slot 192 names) (slot 288 names) here k n i
+    unfolding staged-test
+    held-read here k n q = let c = at-first cells in q ∙ (λ j. isRow here (c j) (e j) here k n)
 
-  pub named-read : {r : Bool} (n : Name) → r ≡ sameName (record { w0 = getD names i 0; w1 = getD names (96 + i) 0; w2 = getD names (192 + i) 0; w3 = getD names (288 + i) 0 }) n
-      → r ≡ name-test (slot 0 names) (slot 96 names) (slot 192 names) (slot 288 names) n i
+  pub named-read : (names : List ℕ) {m : Name} → m ≡ name-at (slot 0 names) (slot 96 names) (slot 192 names) (slot 288 names) i → {r : Bool} (n : Name) → r ≡ sameName m n → r ≡ name-test (slot 0 names) (slot 96 names) (slot 192 names) (slot 288 names) n i
   unfolding name-test
-  named-read n e = let m = name-read in e ∙ (λ j. sameName (m j) n)
+  named-read names e n q = q ∙ (λ j. sameName (e j) n)

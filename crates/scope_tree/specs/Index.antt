@@ -3,7 +3,7 @@
 use Prim.Native.Nat.{ℕ, zero, suc, _+_, _-_, _*_, _/_, _%_, _^_, _≤_, _<_}
 use native.Mathlib.Omega.{arith}
 use native.Mathlib.Numerals.{add-one}
-use native.Mathlib.Nat.{zero-add, add-suc}
+use native.Mathlib.Nat.{zero-add, add-suc, le-of-lt, mul-le-mul-right}
 use native.Mathlib.Decide.{decLt, decLe}
 use mathlib.Core.Path.{_≡_, refl, ap, sym, _∙_}
 use mathlib.Core.Bool.{Bool, true, false, cond, _&&_}
@@ -39,6 +39,10 @@ mix-again s k n =
     + (n .w3 / 4294967296 % 4294967296 * 215493451 + n .w3 % 4294967296 * 165902239)
     + (s * 3387945472435 + k * 7000208109065))
     / 268435456
+
+-- half a word times a multiplier of 28 bits
+pub half-small : (x m : ℕ) → x < 4294967296 → m < 268435456 → x * m < 1152921504606846976
+half-small x m h l = let a : x * m ≤ 4294967296 * m = mul-le-mul-right m (le-of-lt h) in omega arith
 
 -- the four words of the name, then scope and kind
 unfoldable pub word-at : ℕ → ℕ → Name → ℕ → ℕ

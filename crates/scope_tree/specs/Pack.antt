@@ -8,6 +8,7 @@ use mathlib.Core.List.{List, [], _∷_}
 use lib.ListN.{length, getD, set, take, drop, replicate, length-set, length-drop}
 use lib.Seq.{getD-take, getD-drop, drop-set-add, drop-set-lt, take-set-lt, take-set-le, length-take-le, getD-set-same, getD-set-other}
 use Rattle.names.specs.declared.Name.{Name}
+use Rattle.names.specs.Packed.{sameName}
 use Rattle.scope_tree.specs.Views.{View, pushed-under, pushed, opened-last}
 use Rattle.scope_tree.specs.Views.{Sized as ViewSized}
 use Rattle.scope_tree.specs.Views as views
@@ -303,8 +304,11 @@ cleared-view =
 pub via-place : {x y e l : ℕ} → x ≡ y → (e ≡ place-in x l) × (e ≤ l) → (e ≡ place-in y l) × (e ≤ l)
 via-place {x} {y} {e} {l} q p = (p .0 ∙ ap (λ (z : ℕ). place-in z l) q, p .1)
 
-pub via-sought : (s t i es k : ℕ) (en n : Name) {x y : ℕ} {f : Bool} → x ≡ y → f ≡ (within s t i && isRow es x en s k n) → f ≡ (within s t i && isRow es y en s k n)
-via-sought s t i es k en n q p = p ∙ ap (λ (z : ℕ). within s t i && isRow es z en s k n) q
+pub via-row : (r s k : ℕ) (n : Name) {x y : ℕ} {l m : Name} {f : Bool} → x ≡ y → l ≡ m → f ≡ isRow r x l s k n → f ≡ isRow r y m s k n
+via-row r s k n q e p = p ∙ (λ j. isRow r (q j) (e j) s k n)
+
+pub via-name : (n : Name) {l m : Name} {f : Bool} → l ≡ m → f ≡ sameName l n → f ≡ sameName m n
+via-name n e p = p ∙ (λ j. sameName (e j) n)
 
 pub via-held : (xs ss ks a b c d : List ℕ) (s k : ℕ) (n : Name) {t u : ℕ} {o : Bool} → t ≡ u → o ≡ is-at (spot-in xs ss ks a b c d s t k n) → o ≡ is-at (spot-in xs ss ks a b c d s u k n)
 via-held xs ss ks a b c d s k n q p = p ∙ ap (λ (x : ℕ). is-at (spot-in xs ss ks a b c d s x k n)) q

@@ -2,6 +2,7 @@
 ghost use mathlib.Core.Path.{_≡_};
 ghost use mathlib.Core.Bool.{false};
 ghost use Prim.Native.Nat.{_+_, _*_, _<_, _≤_};
+ghost use Rattle.scope_tree.specs.Rows.{name-at};
 ghost use Rattle.scope_tree.specs.Staging.{refusal, any-to, name-test, staged-test, no-choice, choice-of, clash-of, verdict-so-far, staged-all};
 ghost use Rattle.scope_tree.specs.Pack.{arrays-in};
 ghost use Rattle.scope_tree.specs.Batches.{slot, staged-of, entry-in, cells-put, names-put};
@@ -51,6 +52,19 @@ pub fn refused(number: u8) -> Batch
     }
 }
 
+// The name of a staged entry.
+fn staged_name(words: &[u64; STAGED_NAMES], i: usize) -> Name
+    requires { ⌜ i < 96 ⌝ }
+    ensures { λ r. ⌜ r ≡ name-at (slot 0 (now (words .entry))) (slot 96 (now (words .entry))) (slot 192 (now (words .entry))) (slot 288 (now (words .entry))) i ⌝ }
+{
+    Name {
+        w0: words[i],
+        w1: words[SECOND + i],
+        w2: words[THIRD + i],
+        w3: words[FOURTH + i],
+    }
+}
+
 // The first staged entry that has this name, or `count` where none of the first `count` has.
 fn first_named(words: &[u64; STAGED_NAMES], count: usize, name: Name) -> usize
     requires { ⌜ count ≤ 96 ⌝ }
@@ -58,13 +72,7 @@ fn first_named(words: &[u64; STAGED_NAMES], count: usize, name: Name) -> usize
 {
     let mut i: usize = 0;
     while i < count {
-        let n = Name {
-            w0: words[i],
-            w1: words[SECOND + i],
-            w2: words[THIRD + i],
-            w3: words[FOURTH + i],
-        };
-        if same_name(n, name) {
+        if same_name(staged_name(words, i), name) {
             return i;
         }
         i += 1;
@@ -87,12 +95,7 @@ fn staged_has<'a>(
 {
     let mut i = from;
     while i < count {
-        let n = Name {
-            w0: words[i],
-            w1: words[SECOND + i],
-            w2: words[THIRD + i],
-            w3: words[FOURTH + i],
-        };
+        let n = staged_name(words, i);
         if is_row(here, cells[i], n, here, kind, name) {
             return true;
         }
@@ -112,12 +115,7 @@ pub fn entry_at<'a>(
     requires { ⌜ i < 96 ⌝ }
     ensures { λ r. ⌜ r ≡ entry-in (now (cells .entry)) (now (words .entry)) i scope public ⌝ }
 {
-    let n = Name {
-        w0: words[i],
-        w1: words[SECOND + i],
-        w2: words[THIRD + i],
-        w3: words[FOURTH + i],
-    };
+    let n = staged_name(words, i);
     Entry {
         kind: cells[i],
         visible: public,
