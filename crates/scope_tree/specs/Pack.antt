@@ -199,13 +199,29 @@ opened-in c t = opened-at c (getD (t .opened) 10 0) t
 unfoldable pub added : ℕ → Tree → Entry → Tree
 added at t e = cond (e .opens) (opened-at (at + 1) (getD (t .opened) 10 0) (pushed-in at t e)) (pushed-in at t e)
 
-pub added-shut : (t : Tree) (e : Entry) (at b : ℕ) → b ≡ free-slot (index-of (t .cells)) (e .scope) (e .kind) (e .name) → e .opens ≡ false → put-at at b t e ≡ added at t e
-unfolding added
-added-shut t e at b q o = rw (o, q)
+-- the array of the open modules with one entry more
+unfoldable pub doors-added : List ℕ → ℕ → Bool → List ℕ
+doors-added o at b = cond b (set (set (set o 9 (at + 1)) (getD o 10 0) (at + 1)) 10 (getD o 10 0 + 1)) (set o 9 (at + 1))
 
-pub added-open : (t : Tree) (e : Entry) (at b d : ℕ) → b ≡ free-slot (index-of (t .cells)) (e .scope) (e .kind) (e .name) → d ≡ getD (t .opened) 10 0 → e .opens ≡ true → opened-at (at + 1) d (put-at at b t e) ≡ added at t e
-unfolding added
-added-open t e at b d q w o = rw (o, w, q)
+pub doors-shut : (o : List ℕ) (at : ℕ) {b : Bool} → b ≡ false → set o 9 (at + 1) ≡ doors-added o at b
+unfolding doors-added
+doors-shut o at z = rw z
+
+pub doors-open : (o : List ℕ) (at : ℕ) {b : Bool} → b ≡ true → {d : ℕ} → d ≡ getD o 10 0 → set (set (set o 9 (at + 1)) d (at + 1)) 10 (d + 1) ≡ doors-added o at b
+unfolding doors-added
+doors-open o at z q = rw (z, q)
+
+pub added-all : (t : Tree) (e : Entry) (at b : ℕ) → b ≡ free-slot (index-of (t .cells)) (e .scope) (e .kind) (e .name) → {x y : List ℕ} → x ≡ cells-of (t .cells) at b (e .kind) (e .origin) (e .target) (e .moment) → y ≡ doors-added (t .opened) at (e .opens)
+    → record { opened = y; cells = x; visible = set (t .visible) at (e .visible); scopes = set (t .scopes) at (e .scope); marks = set (t .marks) at (e .mark); n0 = set (t .n0) at (e .name .w0); n1 = set (t .n1) at (e .name .w1); n2 = set (t .n2) at (e .name .w2); n3 = set (t .n3) at (e .name .w3) }
+    ≡ added at t e
+unfolding added doors-added
+added-all t e at b q f g = rw (f, g, q) (go (e .opens))
+  where
+    go : (o : Bool)
+        → record { opened = cond o (set (set (set (t .opened) 9 (at + 1)) (getD (t .opened) 10 0) (at + 1)) 10 (getD (t .opened) 10 0 + 1)) (set (t .opened) 9 (at + 1)); cells = pushed-in at t e .cells; visible = pushed-in at t e .visible; scopes = pushed-in at t e .scopes; marks = pushed-in at t e .marks; n0 = pushed-in at t e .n0; n1 = pushed-in at t e .n1; n2 = pushed-in at t e .n2; n3 = pushed-in at t e .n3 }
+        ≡ cond {A = Tree} o (opened-at (at + 1) (getD (t .opened) 10 0) (pushed-in at t e)) (pushed-in at t e)
+    go true = refl
+    go false = refl
 
 pub view-sized : (t : Tree) → Sized t → ViewSized (view t)
 unfolding doors-of

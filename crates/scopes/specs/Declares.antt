@@ -49,15 +49,19 @@ pub record Declares (t : Tree) (s : List ℕ) (k twice deepest : ℕ) (v : Bool)
   pub kept : accepted (told a) ≡ false → u ≡ t
   pub numbered : number-of a ≡ 0 → accepted (told a) ≡ true
 
+-- the entry of a plan
+abbrev pub entry-planned : ℕ → ℕ → ℕ → Bool → Plan → Entry
+entry-planned k v m o p = record { kind = k; visible = v; scope = p .scope; mark = m; name = p .name; origin = 0; target = 0; moment = 0; opens = o }
+
 abbrev pub entry-of : ℕ → Bool → ℕ → Bool → Plan → Entry
-entry-of k v m o p = record { kind = k; visible = bit-of v; scope = p .scope; mark = m; name = p .name; origin = 0; target = 0; moment = 0; opens = o }
+entry-of k v m o p = entry-planned k (bit-of v) m o p
 
 pub declare-room : (t : Tree) (s : List ℕ) (k twice deepest : ℕ) (p : Plan) → p ≡ planned-of t s k twice deepest → (twice ≡ 0 → ⊥) → p .number ≡ 0 → Room (view t) deepest
 declare-room t s k twice deepest p e nz z = plan-room (view t) s k twice deepest nz (ap (λ (x : Plan). x .number) (sym (e ∙ planned-plan t s k twice deepest)) ∙ z)
 
 pub declare-ready : (t : Tree) (s : List ℕ) (k twice deepest : ℕ) (p : Plan) → p ≡ planned-of t s k twice deepest → (twice ≡ 0 → ⊥) → p .number ≡ 0 → {o : Bool} → (o ≡ true → deepest ≡ 8) → (c : ℕ) → c ≡ getD (t .opened) 9 0
-    → (c < 1024) × (o ≡ true → getD (t .opened) 10 0 < 9)
-declare-ready t s k twice deepest p e nz z l c q = let r = declare-room t s k twice deepest p e nz z in (omega (arith, r .count, q), λ y. omega (arith, r .depth, l y))
+    → {x : Bool} → x ≡ o → (c < 1024) × (x ≡ true → getD (t .opened) 10 0 < 9)
+declare-ready t s k twice deepest p e nz z l c q f = let r = declare-room t s k twice deepest p e nz z in (omega (arith, r .count, q), λ y. omega (arith, r .depth, l (sym f ∙ y)))
 
 module _ (t : Tree) (s : List ℕ) (k twice deepest : ℕ) (v : Bool) (m : ℕ) (o : Bool) (p : Plan) (e : p ≡ planned-of t s k twice deepest) (nz : twice ≡ 0 → ⊥) where
   planned-same : carried (view t) k v m p ≡ added-of (view t) s k twice v m deepest
@@ -72,11 +76,10 @@ module _ (t : Tree) (s : List ℕ) (k twice deepest : ℕ) (v : Bool) (m : ℕ) 
         numbered = λ q. absurd (z q);
       }
 
-  pub declare-yes : p .number ≡ 0 → (o ≡ true → deepest ≡ 8) → (b : ℕ) → b ≡ bit-of v → (c : ℕ) → c ≡ getD (t .opened) 9 0 → (u : Tree)
-      → u ≡ added c t (record { kind = k; visible = b; scope = p .scope; mark = m; name = p .name; origin = 0; target = 0; moment = 0; opens = o }) → Declares t s k twice deepest v m o Done u
-  declare-yes z l b w c y₀ u q =
+  pub declare-yes : p .number ≡ 0 → (o ≡ true → deepest ≡ 8) → (b : ℕ) → b ≡ bit-of v → (c : ℕ) → c ≡ getD (t .opened) 9 0 → (x : Entry) → x ≡ entry-planned k b m o p → (u : Tree) → u ≡ added c t x → Declares t s k twice deepest v m o Done u
+  declare-yes z l b w c y₀ x f u q =
       let r = declare-room t s k twice deepest p e nz z in
-      let q′ : u ≡ added c t (entry-of k v m o p) = q ∙ ap (λ (x : ℕ). added c t (record { kind = k; visible = x; scope = p .scope; mark = m; name = p .name; origin = 0; target = 0; moment = 0; opens = o })) w in
+      let q′ : u ≡ added c t (entry-of k v m o p) = q ∙ ap (added c t) (f ∙ ap (λ (i : ℕ). entry-planned k i m o p) w) in
       record {
         sized = λ y. subst Sized (sym q′) (added-sized c t (entry-of k v m o p) y);
         same = λ y. ap (λ (x : Tree). of-view Done (view x)) q′ ∙ ap (of-view Done) (shown y r o refl) ∙ ended-yes (λ x. cond o (opened-last x) x) (no-entry 0 (pushed (view t) k (bit-of v) (p .scope) m (p .name) 0 0 0)) refl

@@ -1,26 +1,41 @@
 -- What a declaration comes to, before anything is written. Assumes nothing.
 use Prim.Native.Nat.{ℕ, _≤_, _<_}
 use native.Mathlib.Omega.{arith}
-use mathlib.Core.Path.{_≡_, refl}
+use mathlib.Core.Path.{_≡_, refl, ap, sym, _∙_}
 use mathlib.Core.Bool.{Bool, true, false, cond}
 use mathlib.Core.List.{List}
 use lib.Dec.{eqb, ltb, leb}
-use borrow.Author.Tests.{eq-eqb, ne-eqb, lt-ltb, le-ltb, le-leb, lt-leb}
+use lib.ListN.{getD}
+use borrow.Author.Tests.{eq-eqb, ne-eqb, lt-ltb, le-ltb, le-leb, lt-leb, ltb-false}
 use Rattle.names.specs.declared.Name.{Name}
 use Rattle.names.specs.Packed.{packed}
+use Rattle.names.specs.Bytes.{false-true}
 use Rattle.names.specs.Identifier.{isIdentifier}
+use Rattle.scope_tree.specs.declared.Answer.the-variants.{Refused}
 use Rattle.scope_tree.specs.Index.{look-up}
+use Rattle.scope_tree.specs.Nav.{current-of}
 use Rattle.scope_tree.specs.Staging.{is-at}
-use Rattle.scope_tree.specs.Views.{View, Added, bit-of, arrays-of, pushed, here-of, current-spot, no-entry, added-of}
+use Rattle.scope_tree.specs.Views.{View, Added, bit-of, arrays-of, pushed, here-of, current-spot, no-entry, added-of, got-of}
 use Rattle.scopes.specs.declared.decide.Plan.{Plan}
 use Rattle.scope_tree.specs.declared.Tree.{Tree}
-use Rattle.scope_tree.specs.Trees.{view}
+use Rattle.scope_tree.specs.Trees.{view, doors-of}
 
 abbrev pub no-name : Name
 no-name = record { w0 = 0; w1 = 0; w2 = 0; w3 = 0 }
 
 abbrev pub no-plan : ℕ → Plan
 no-plan n = record { number = n; scope = 0; name = no-name }
+
+-- what a declaration and a get begin with, of the array `opened`: name form, record
+unfoldable pub begun-of : List ℕ → List ℕ → Plan
+begun-of o s =
+    cond (isIdentifier s)
+    (cond (ltb 1024 (getD o 9 0)) (no-plan 51)
+    (cond (ltb 9 (getD o 10 0)) (no-plan 51) (record { number = 0; scope = current-of (doors-of o) (getD o 10 0); name = packed s })))
+    (no-plan 5)
+
+unfoldable pub full-of : List ℕ → ℕ → Bool
+full-of o deepest = cond (leb 1024 (getD o 9 0)) true (ltb deepest (getD o 10 0))
 
 -- name form, record, held name, place
 unfoldable pub plan-of : View → List ℕ → ℕ → ℕ → ℕ → Plan
@@ -89,36 +104,100 @@ pub planned-plan : (t : Tree) (s : List ℕ) (k twice deepest : ℕ) → planned
 unfolding planned-of
 planned-plan t s k twice deepest = refl
 
-module _ (w : Tree) (s : List ℕ) (k twice deepest : ℕ) {b : Bool} (i : b ≡ isIdentifier s) where
-  pub plan-bad : b ≡ false → no-plan 5 ≡ planned-of w s k twice deepest
-  unfolding planned-of plan-of
-  plan-bad z = rw (← i, z)
+-- as the code has it
+module _ (o s : List ℕ) {b : Bool} (i : b ≡ isIdentifier s) where
+  pub begun-bad : b ≡ false → no-plan 5 ≡ begun-of o s
+  unfolding begun-of
+  begun-bad z = rw (← i, z)
 
-  module _ (y : b ≡ true) where
-    pub plan-many : 1024 < view w .count → no-plan 51 ≡ planned-of w s k twice deepest
-    unfolding planned-of plan-of
-    plan-many c = rw (← i, y, lt-ltb 1024 (view w .count) c)
+  module _ (y : b ≡ true) {c : ℕ} (cq : c ≡ getD o 9 0) where
+    pub begun-many : 1024 < c → no-plan 51 ≡ begun-of o s
+    unfolding begun-of
+    begun-many l = rw (← i, y, ← cq, lt-ltb 1024 c l)
 
-    module _ (c : view w .count ≤ 1024) where
-      pub plan-deep : 9 < view w .depth → no-plan 51 ≡ planned-of w s k twice deepest
-      unfolding planned-of plan-of
-      plan-deep d = rw (← i, y, le-ltb 1024 (view w .count) c, lt-ltb 9 (view w .depth) d)
+    module _ (few : c ≤ 1024) {d : ℕ} (dq : d ≡ getD o 10 0) where
+      pub begun-deep : 9 < d → no-plan 51 ≡ begun-of o s
+      unfolding begun-of
+      begun-deep l = rw (← i, y, ← cq, le-ltb 1024 c few, ← dq, lt-ltb 9 d l)
 
-      module _ (d : view w .depth ≤ 9) (n : Name) (q : n ≡ packed s) (h : ℕ) (f : h ≡ here-of (view w)) (o : Bool) (e : o ≡ is-at (look-up (arrays-of (view w)) h (view w .count) k n)) where
-        rest : cond o (no-plan twice) (cond (leb 1024 (view w .count)) (no-plan 51) (cond (ltb deepest (view w .depth)) (no-plan 51) (record { number = 0; scope = h; name = n }))) ≡ planned-of w s k twice deepest
-        unfolding planned-of plan-of current-spot
-        rest = rw (← i, y, le-ltb 1024 (view w .count) c, le-ltb 9 (view w .depth) d, e, f, q)
+      pub begun-on : d ≤ 9 → {h : ℕ} → h ≡ current-of (doors-of o) d → {n : Name} → n ≡ packed s → record { number = 0; scope = h; name = n } ≡ begun-of o s
+      unfolding begun-of
+      begun-on l e q = rw (← i, y, ← cq, le-ltb 1024 c few, ← dq, le-ltb 9 d l, e, q)
 
-        pub plan-held : o ≡ true → no-plan twice ≡ planned-of w s k twice deepest
-        plan-held z = rw z at rest
+module _ (o : List ℕ) (deepest : ℕ) {c : ℕ} (cq : c ≡ getD o 9 0) where
+  pub full-now : 1024 ≤ c → true ≡ full-of o deepest
+  unfolding full-of
+  full-now l = rw (← cq, le-leb 1024 c l)
 
-        module _ (z : o ≡ false) where
-          pub plan-full : 1024 ≤ view w .count → no-plan 51 ≡ planned-of w s k twice deepest
-          plan-full l = rw (z, le-leb 1024 (view w .count) l) at rest
+  pub full-later : c < 1024 → {d : ℕ} → d ≡ getD o 10 0 → ltb deepest d ≡ full-of o deepest
+  unfolding full-of
+  full-later l q = rw (← cq, lt-leb 1024 c l, q)
 
-          module _ (l : view w .count < 1024) where
-            pub plan-open : deepest < view w .depth → no-plan 51 ≡ planned-of w s k twice deepest
-            plan-open g = rw (z, lt-leb 1024 (view w .count) l, lt-ltb deepest (view w .depth) g) at rest
+-- what is begun, and goes on
+pub record Begins (o s : List ℕ) (p : Plan) : Type 0 where
+  pub form : isIdentifier s ≡ true
+  pub few : getD o 9 0 ≤ 1024
+  pub shallow : getD o 10 0 ≤ 9
+  pub scope : p .scope ≡ current-of (doors-of o) (getD o 10 0)
+  pub name : p .name ≡ packed s
 
-            pub plan-made : view w .depth ≤ deepest → record { number = 0; scope = h; name = n } ≡ planned-of w s k twice deepest
-            plan-made g = rw (z, lt-leb 1024 (view w .count) l, le-ltb deepest (view w .depth) g) at rest
+module _ (o s : List ℕ) (p : Plan) (q : p ≡ begun-of o s) where
+  pub begins : p .number ≡ 0 → Begins o s p
+  unfolding begun-of
+  begins z = go (isIdentifier s) (ltb 1024 (getD o 9 0)) (ltb 9 (getD o 10 0)) refl refl refl q
+    where
+      go : (a b c : Bool) → isIdentifier s ≡ a → ltb 1024 (getD o 9 0) ≡ b → ltb 9 (getD o 10 0) ≡ c
+          → p ≡ cond a (cond b (no-plan 51) (cond c (no-plan 51) (record { number = 0; scope = current-of (doors-of o) (getD o 10 0); name = packed s }))) (no-plan 5) → Begins o s p
+      go false b c f g h e = absurd (omega (arith, ap (λ (x : Plan). x .number) e))
+      go true true c f g h e = absurd (omega (arith, ap (λ (x : Plan). x .number) e))
+      go true false true f g h e = absurd (omega (arith, ap (λ (x : Plan). x .number) e))
+      go true false false f g h e =
+          record { form = f; few = ltb-false 1024 (getD o 9 0) g; shallow = ltb-false 9 (getD o 10 0) h; scope = ap (λ (x : Plan). x .scope) e; name = ap (λ (x : Plan). x .name) e }
+
+  module _ (z : p .number ≡ 0 → ⊥) where
+    -- what is stopped there is stopped, whatever comes after
+    stopped : {A : Type 0} (f : Plan → A) (x : A) → f p ≡ cond (isIdentifier s) (cond (ltb 1024 (getD o 9 0)) (f (no-plan 51)) (cond (ltb 9 (getD o 10 0)) (f (no-plan 51)) x)) (f (no-plan 5))
+    unfolding begun-of
+    stopped {A} f x = go (isIdentifier s) (ltb 1024 (getD o 9 0)) (ltb 9 (getD o 10 0)) q
+      where
+        go : (a b c : Bool) → p ≡ cond a (cond b (no-plan 51) (cond c (no-plan 51) (record { number = 0; scope = current-of (doors-of o) (getD o 10 0); name = packed s }))) (no-plan 5)
+            → f p ≡ cond a (cond b (f (no-plan 51)) (cond c (f (no-plan 51)) x)) (f (no-plan 5))
+        go false b c e = ap f e
+        go true true c e = ap f e
+        go true false true e = ap f e
+        go true false false e = absurd (z (ap (λ (y : Plan). y .number) e))
+
+pub plan-stopped : (w : Tree) (s : List ℕ) (k twice deepest : ℕ) (p : Plan) → p ≡ begun-of (w .opened) s → (p .number ≡ 0 → ⊥) → p ≡ planned-of w s k twice deepest
+unfolding planned-of plan-of
+plan-stopped w s k twice deepest p q z = stopped (w .opened) s p q z (λ x. x) _
+
+pub get-stopped : (w : Tree) (s : List ℕ) (k : ℕ) (p : Plan) → p ≡ begun-of (w .opened) s → (p .number ≡ 0 → ⊥) → Refused (p .number) ≡ got-of (view w) s k
+unfolding got-of
+get-stopped w s k p q z = stopped (w .opened) s p q z (λ x. Refused (x .number)) _
+
+module _ (w : Tree) (s : List ℕ) (k twice deepest : ℕ) (p : Plan) (g : Begins (w .opened) s p) (o : Bool) (e : o ≡ is-at (look-up (arrays-of (view w)) (p .scope) (view w .count) k (p .name))) where
+  rest : cond o (no-plan twice) (cond (leb 1024 (view w .count)) (no-plan 51) (cond (ltb deepest (view w .depth)) (no-plan 51) (record { number = 0; scope = p .scope; name = p .name }))) ≡ planned-of w s k twice deepest
+  unfolding planned-of plan-of current-spot
+  rest = rw (g .form, le-ltb 1024 (view w .count) (g .few), le-ltb 9 (view w .depth) (g .shallow), e, g .scope, g .name)
+
+  pub plan-held : o ≡ true → no-plan twice ≡ planned-of w s k twice deepest
+  plan-held z = rw z at rest
+
+  module _ (z : o ≡ false) (f : Bool) (q : f ≡ full-of (w .opened) deepest) where
+    pub plan-full : f ≡ true → no-plan 51 ≡ planned-of w s k twice deepest
+    unfolding full-of
+    plan-full y = go (leb 1024 (view w .count)) (ltb deepest (view w .depth)) (sym q ∙ y) (rw z at rest)
+      where
+        go : (a b : Bool) → cond a true b ≡ true → {r : Plan} → cond a (no-plan 51) (cond b (no-plan 51) (record { number = 0; scope = p .scope; name = p .name })) ≡ r → no-plan 51 ≡ r
+        go true b h e = e
+        go false true h e = e
+        go false false h e = absurd (false-true h)
+
+    pub plan-made : f ≡ false → p .number ≡ 0 → p ≡ planned-of w s k twice deepest
+    unfolding full-of
+    plan-made y n = go (leb 1024 (view w .count)) (ltb deepest (view w .depth)) (sym q ∙ y) (rw z at rest)
+      where
+        go : (a b : Bool) → cond a true b ≡ false → {r : Plan} → cond a (no-plan 51) (cond b (no-plan 51) (record { number = 0; scope = p .scope; name = p .name })) ≡ r → p ≡ r
+        go true b h e = absurd (false-true (sym h))
+        go false true h e = absurd (false-true (sym h))
+        go false false h e = ap (λ (x : ℕ). record { number = x; scope = p .scope; name = p .name }) n ∙ e

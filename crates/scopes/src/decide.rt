@@ -1,11 +1,13 @@
 // What a call comes to on the tree as it is: a number, or what it would add. Nothing here changes a tree.
 ghost use mathlib.Core.Path.{_≡_};
-ghost use Prim.Native.Nat.{_+_, _<_, _≤_};
+ghost use mathlib.Core.List.{List};
+ghost use Prim.Native.Nat.{ℕ};
 ghost use Rattle.scope_tree.specs.Views.{got-of};
 ghost use Rattle.scope_tree.specs.Trees.{packed-in, view};
-ghost use Rattle.scopes.specs.Plan.{no-plan, planned-of};
+ghost use Rattle.scopes.specs.Plan.{no-plan, begun-of, full-of, planned-of};
 ghost use Rattle.scope_tree.specs.Batches.{staged-of};
 ghost use Rattle.scopes.specs.Decided.{Decided};
+ghost use Rattle.scopes.specs.Starts.{no-start, Started};
 use names::Name;
 use scope_tree::Answer;
 use scope_tree::CELLS;
@@ -41,23 +43,10 @@ fn no_plan(number: u8) -> Plan
     }
 }
 
-// A declaration: its name is free in its kind, and there is place. `deepest` bounds the open modules.
-pub fn planned<'a>(
-    opened: &'a [u16; OPENED],
-    cells: &'a [u16; CELLS],
-    visible: &'a [u8; 1024],
-    scopes: &'a [u16; 1024],
-    marks: &'a [u16; 1024],
-    n0: &'a [u64; 1024],
-    n1: &'a [u64; 1024],
-    n2: &'a [u64; 1024],
-    n3: &'a [u64; 1024],
-    name: &'a [u8],
-    kind: u16,
-    twice: u8,
-    deepest: usize,
-) -> Plan
-    ensures { λ r. ⌜ r ≡ planned-of (packed-in (now (opened .entry)) (now (cells .entry)) (now (visible .entry)) (now (scopes .entry)) (now (marks .entry)) (now (n0 .entry)) (now (n1 .entry)) (now (n2 .entry)) (now (n3 .entry))) (now (name .entry)) kind twice deepest ⌝ }
+// What a declaration and a get begin with: the scope of the current module and the name, or the number of a name that is none or of a
+// record that no calls left.
+fn begun<'a>(opened: &'a [u16; OPENED], name: &'a [u8]) -> Plan
+    ensures { λ r. ⌜ r ≡ begun-of (now (opened .entry)) (now (name .entry)) ⌝ }
 {
     let n = names::name_of(name);
     if names::is_identifier(name) {} else {
@@ -71,28 +60,58 @@ pub fn planned<'a>(
     if 9 < depth {
         return no_plan(51);
     }
-    let here = look::current(opened, depth);
-    if look::is_held(cells, scopes, n0, n1, n2, n3, here, at, kind, n) {
-        return no_plan(twice);
-    }
-    if 1024 <= at {
-        return no_plan(51);
-    }
-    if deepest < depth {
-        return no_plan(51);
-    }
     Plan {
         number: 0,
-        scope: here,
+        scope: look::current(opened, depth),
         name: n,
     }
+}
+
+// Whether there is no place for an entry more, or for a module more to be open.
+fn is_full(opened: &[u16; OPENED], deepest: usize) -> bool
+    ensures { λ r. ⌜ r ≡ full-of (now (opened .entry)) deepest ⌝ }
+{
+    if 1024 <= look::wide(opened[COUNT]) {
+        return true;
+    }
+    deepest < look::wide(opened[DEPTH])
+}
+
+// A declaration: its name is free in its kind, and there is place. `deepest` bounds the open modules.
+pub fn planned<'a>(
+    opened: &'a [u16; OPENED],
+    cells: &'a [u16; CELLS],
+    scopes: &'a [u16; 1024],
+    n0: &'a [u64; 1024],
+    n1: &'a [u64; 1024],
+    n2: &'a [u64; 1024],
+    n3: &'a [u64; 1024],
+    name: &'a [u8],
+    kind: u16,
+    twice: u8,
+    deepest: usize,
+) -> Plan
+    ensures { λ r. ⌜ ((visible marks : List ℕ) → r ≡ planned-of (packed-in (now (opened .entry)) (now (cells .entry)) visible (now (scopes .entry)) marks (now (n0 .entry)) (now (n1 .entry)) (now (n2 .entry)) (now (n3 .entry))) (now (name .entry)) kind twice deepest) ⌝ }
+{
+    let p = begun(opened, name);
+    if p.number != 0 {
+        return p;
+    }
+    let at = look::wide(opened[COUNT]);
+    let n = p.name;
+    if look::is_held(cells, scopes, n0, n1, n2, n3, p.scope, at, kind, n) {
+        return no_plan(twice);
+    }
+    if is_full(opened, deepest) {
+        return no_plan(51);
+    }
+    p
 }
 
 // The mark of the entry of a kind and a name in the current module, or a number.
 pub fn get<'a>(
     opened: &'a [u16; OPENED],
     cells: &'a [u16; CELLS],
-    visible: &'a [u8; 1024],
     scopes: &'a [u16; 1024],
     marks: &'a [u16; 1024],
     n0: &'a [u64; 1024],
@@ -102,26 +121,72 @@ pub fn get<'a>(
     name: &'a [u8],
     kind: u16,
 ) -> Answer
-    ensures { λ r. ⌜ r ≡ got-of (view (packed-in (now (opened .entry)) (now (cells .entry)) (now (visible .entry)) (now (scopes .entry)) (now (marks .entry)) (now (n0 .entry)) (now (n1 .entry)) (now (n2 .entry)) (now (n3 .entry)))) (now (name .entry)) kind ⌝ }
+    ensures { λ r. ⌜ ((visible : List ℕ) → r ≡ got-of (view (packed-in (now (opened .entry)) (now (cells .entry)) visible (now (scopes .entry)) (now (marks .entry)) (now (n0 .entry)) (now (n1 .entry)) (now (n2 .entry)) (now (n3 .entry)))) (now (name .entry)) kind) ⌝ }
 {
-    let n = names::name_of(name);
-    if names::is_identifier(name) {} else {
-        return Answer::Refused(5);
+    let p = begun(opened, name);
+    if p.number != 0 {
+        return Answer::Refused(p.number);
     }
     let at = look::wide(opened[COUNT]);
-    if 1024 < at {
-        return Answer::Refused(51);
-    }
-    let depth = look::wide(opened[DEPTH]);
-    if 9 < depth {
-        return Answer::Refused(51);
-    }
-    let here = look::current(opened, depth);
-    let found = look::find_in(cells, scopes, n0, n1, n2, n3, here, at, kind, n);
+    let n = p.name;
+    let found = look::find_in(cells, scopes, n0, n1, n2, n3, p.scope, at, kind, n);
     let Spot::At(i) = found else {
         return Answer::Refused(43);
     };
     Answer::Mark(marks[i])
+}
+
+// What a use begins with: how many entries and open modules there are, how many segments, and where the second stands; or a number.
+pub struct Start {
+    pub number: u8,
+    pub total: usize,
+    pub depth: usize,
+    pub segments: usize,
+    pub next: usize,
+}
+
+fn no_start(number: u8) -> Start
+    ensures { λ r. ⌜ r ≡ no-start number ⌝ }
+{
+    Start {
+        number: number,
+        total: 0,
+        depth: 0,
+        segments: 0,
+        next: 0,
+    }
+}
+
+// The tests of a use before its path is followed: its form, the record, and `crate`.
+fn started<'a>(opened: &'a [u16; OPENED], decl: &'a [u8]) -> Start
+    ensures { λ r. ⌜ Started (now (opened .entry)) (now (decl .entry)) r ⌝ }
+{
+    let number = form::use_form(decl);
+    if number != 0 {
+        return no_start(number);
+    }
+    let total = look::wide(opened[COUNT]);
+    if 1024 < total {
+        return no_start(51);
+    }
+    let depth = look::wide(opened[DEPTH]);
+    if 9 < depth {
+        return no_start(51);
+    }
+    let segments = form::byte_at(decl, 0);
+    if segments == 0 {
+        return no_start(40);
+    }
+    if names::is_crate(form::string_at(decl, 1)) {} else {
+        return no_start(40);
+    }
+    Start {
+        number: 0,
+        total: total,
+        depth: depth,
+        segments: segments,
+        next: form::next(decl, 1),
+    }
 }
 
 // The entries that a use adds, all of one visibility; or a number.
@@ -139,26 +204,10 @@ pub fn uses<'a>(
 ) -> Batch
     ensures { λ r. ⌜ Decided (view (packed-in (now (opened .entry)) (now (cells .entry)) (now (visible .entry)) (now (scopes .entry)) (now (marks .entry)) (now (n0 .entry)) (now (n1 .entry)) (now (n2 .entry)) (now (n3 .entry)))) (now (decl .entry)) (staged-of r) ⌝ }
 {
-    let number = form::use_form(decl);
-    if number != 0 {
-        return refused(number);
+    let b = started(opened, decl);
+    if b.number != 0 {
+        return refused(b.number);
     }
-    let total = look::wide(opened[COUNT]);
-    if 1024 < total {
-        return refused(51);
-    }
-    let depth = look::wide(opened[DEPTH]);
-    if 9 < depth {
-        return refused(51);
-    }
-    let segments = form::byte_at(decl, 0);
-    if segments == 0 {
-        return refused(40);
-    }
-    if names::is_crate(form::string_at(decl, 1)) {} else {
-        return refused(40);
-    }
-    let at = form::next(decl, 1);
     let way = look::navigate(
         opened,
         cells,
@@ -168,11 +217,11 @@ pub fn uses<'a>(
         n1,
         n2,
         n3,
-        total,
-        depth,
+        b.total,
+        b.depth,
         decl,
-        at,
-        segments - 1,
+        b.next,
+        b.segments - 1,
     );
     if way.number != 0 {
         return refused(way.number);
@@ -182,7 +231,7 @@ pub fn uses<'a>(
     if form::any_main(decl, first, elements) {
         return refused(46);
     }
-    let here = look::current(opened, depth);
+    let here = look::current(opened, b.depth);
     let staged = stage::stage(
         cells,
         visible,
@@ -192,7 +241,7 @@ pub fn uses<'a>(
         n1,
         n2,
         n3,
-        total,
+        b.total,
         here,
         way.scope,
         way.time,
@@ -204,7 +253,7 @@ pub fn uses<'a>(
     if told != 0 {
         return staged;
     }
-    if 1024 < total + staged.count {
+    if 1024 < b.total + staged.count {
         return refused(51);
     }
     staged
