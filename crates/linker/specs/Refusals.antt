@@ -13,7 +13,7 @@ use Rattle.names.specs.Identifier.{isIdentifier}
 use Rattle.scope_tree.specs.Step.{Head, Elem, Call, enter, exit, alias, enum, function, use′, get-alias, get-function, bad, Answer, ok, refused, Found, missing, got, Tried, fail, is-done, number, after, first-told, head, declared, told-mark, any-main, shared, bind, held, full, deep, pass, nav, import, attempt, element, stage, use-of, fresh, settle, close, step}
 use Rattle.scope_tree.specs.Step as tree
 use Rattle.scope_tree.specs.Flat.{Flat, Place, copy, top, flat, stack-names}
-use Rattle.scopes.specs.Calls.{length-names}
+use Rattle.decision.specs.Calls.{length-names}
 use Rattle.scope_tree.specs.Form.{led-by-crate, names-from, Request, enters, exits, inserts-alias, inserts-enum, inserts-function, resolves-use, gets-alias, gets-function, named, or-else, after-string, after-element, string-fault, names-fault, elements-fault, after-elements, after-strings, rest-fault, use-fault, use-call, elements-from, call-of}
 
 -- NUMBERS

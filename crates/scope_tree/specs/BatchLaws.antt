@@ -12,7 +12,7 @@ use Rattle.scope_tree.specs.Rows.{isRow, name-at}
 use Rattle.scope_tree.specs.Staging.{refusal, stored, name-test, staged-test}
 use Rattle.scope_tree.specs.Batches.{slot, staged-of, entry-in, cells-put, names-put}
 use Rattle.scope_tree.specs.Pack.{slot-get, slot-same, slot-before, slot-after, slot-clear}
-use Rattle.scope_tree.specs.declared.stage.Batch.{Batch}
+use Rattle.scope_tree.specs.declared.Batch.{Batch}
 
 -- NOTHING STAGED
 pub batch-clear : (n : ℕ) → staged-of (record { number = n; count = 0; cells = replicate 480 0; names = replicate 384 0 }) ≡ refusal n

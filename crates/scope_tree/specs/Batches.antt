@@ -6,7 +6,7 @@ use lib.ListN.{getD, set, take, drop}
 use Rattle.names.specs.declared.Name.{Name}
 use Rattle.scope_tree.specs.Rows.{name-at}
 use Rattle.scope_tree.specs.Staging.{Staged}
-use Rattle.scope_tree.specs.declared.stage.Batch.{Batch}
+use Rattle.scope_tree.specs.declared.Batch.{Batch}
 use Rattle.scope_tree.specs.declared.Entry.{Entry}
 
 -- A PART: 96 numbers from the place p on

@@ -15,7 +15,7 @@ use Rattle.names.specs.Packed.{packed, sameName}
 use Rattle.scope_tree.specs.declared.look.Spot.{Spot}
 use Rattle.scope_tree.specs.declared.look.Spot.the-variants.{At, Nothing}
 use Rattle.scope_tree.specs.declared.look.Place.{Place as Site}
-use Rattle.scope_tree.specs.declared.stage.Choice.{Choice}
+use Rattle.scope_tree.specs.declared.Choice.{Choice}
 use Rattle.scope_tree.specs.Form.{string, local-name, after-element}
 use Rattle.scope_tree.specs.Rows.{Arrays, name-at, isRow, site}
 use Rattle.scope_tree.specs.Index.{look-up}

@@ -15,17 +15,17 @@ use Rattle.scope_tree.specs.declared.look.Spot.the-variants.{At, Nothing}
 use Rattle.scope_tree.specs.declared.Answer.{Answer as Told}
 use Rattle.scope_tree.specs.declared.Answer.the-variants.{Done, Refused}
 use Rattle.scope_tree.specs.declared.Tree.{Tree}
-use Rattle.scopes.specs.declared.decide.Plan.{Plan}
+use Rattle.decision.specs.declared.decide.Plan.{Plan}
 use Rattle.scopes.specs.declared.lent.Kind.{Kind}
 use Rattle.scope_tree.specs.declared.Entry.{Entry}
 use Rattle.scope_tree.specs.Note.{accepted}
 use Rattle.scope_tree.specs.Form.{Request, enters, exits, inserts-alias, inserts-enum, inserts-function, resolves-use, gets-alias, gets-function}
 use Rattle.scope_tree.specs.Views.{View, ViewOutcome, ViewMeets, told, bit-of, no-entry, pushed, added-of, ended, ended-no, ended-yes, opened-last, current-spot, mark-at, got-of}
-use Rattle.scopes.specs.Calls.{popped, exit-root, exit-module, alias-meets, enum-meets, function-meets, enter-meets, got-alias, got-function}
+use Rattle.decision.specs.Calls.{popped, exit-root, exit-module, alias-meets, enum-meets, function-meets, enter-meets, got-alias, got-function}
 use Rattle.scope_tree.specs.Trees.{part, index-of, doors-of, view, Sized}
 use Rattle.scopes.specs.Meets.{Meets, Answers, number-of, request, left, with-opened}
 use Rattle.scope_tree.specs.Pack.{view-sized, added, added-sized, shut-view, opened-view}
-use Rattle.scopes.specs.Plan.{planned-of, planned-plan, carried, carried-no, carried-yes, plan-added, plan-room, Room}
+use Rattle.decision.specs.Plan.{planned-of, planned-plan, carried, carried-no, carried-yes, plan-added, plan-room, Room}
 
 abbrev of-view : Told → View → ViewOutcome
 of-view a t = record { answer = a; tree = t }

@@ -12,9 +12,11 @@ ghost use Rattle.scopes.specs.Commits.{filled};
 ghost use Rattle.scope_tree.specs.Batches.{staged-of};
 ghost use Rattle.scopes.specs.Meets.{Meets, request, left, Leaves};
 ghost use Rattle.scopes.specs.Declares.{Declares, entry-planned, kind-of, asked-of};
-use crate::decide;
-use crate::decide::Plan;
+use decision::decide;
+use decision::decide::Plan;
+use decision::stage::entry_at;
 use scope_tree::Answer;
+use scope_tree::Batch;
 use scope_tree::CELLS;
 use scope_tree::COUNT;
 use scope_tree::DEPTH;
@@ -25,8 +27,6 @@ use scope_tree::ORIGINS;
 use scope_tree::TARGETS;
 use scope_tree::TIMES;
 use scope_tree::look;
-use scope_tree::stage::Batch;
-use scope_tree::stage::entry_at;
 
 // The cells of entry `at`, and its slot of the index.
 fn put_cells(cells: &mut [u16; CELLS], at: usize, slot: usize, entry: Entry)
