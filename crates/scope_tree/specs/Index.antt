@@ -495,7 +495,7 @@ reach-more xs f j (suc m) d σ e = go (place-in (getD xs σ 0) 1024) refl (λ i.
         rw g (reach-turn xs f (m + j) d σ i z ∙ k ∙ sym (reach-turn xs f m d σ i z))
 
 -- the slot that a walk ends at is none of an entry to come
-reach-old : (xs : List ℕ) (f : ℕ → ℕ) (n : ℕ) → ((d : ℕ) → f d < 2) → ((σ : ℕ) → getD xs σ 0 ≤ n) → n ≤ 1024 → (m d σ : ℕ) → σ < 1024 + 2 * n → reach xs f m d σ < 1024 + 2 * n
+pub reach-old : (xs : List ℕ) (f : ℕ → ℕ) (n : ℕ) → ((d : ℕ) → f d < 2) → ((σ : ℕ) → getD xs σ 0 ≤ n) → n ≤ 1024 → (m d σ : ℕ) → σ < 1024 + 2 * n → reach xs f m d σ < 1024 + 2 * n
 unfolding reach below
 reach-old xs f n w small l zero d σ h = h
 reach-old xs f n w small l (suc m) d σ h = go (getD xs σ 0) refl (λ i k. reach-old xs f n w small l m (suc d) (1024 + 2 * i + f d) (omega (arith, w d)))

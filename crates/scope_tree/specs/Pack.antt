@@ -3,7 +3,7 @@ use Prim.Native.Nat.{ℕ, zero, suc, _+_, _-_, _≤_, _<_}
 use native.Mathlib.Omega.{arith}
 use native.Mathlib.Nat.{zero-add, suc-sub-suc, sub-zero, not-suc-le-zero, le-of-suc-le-suc}
 use mathlib.Core.Path.{_≡_, refl, ap, sym, _∙_}
-use mathlib.Core.Bool.{Bool, true, false, cond, _&&_}
+use mathlib.Core.Bool.{Bool, true, false, cond}
 use mathlib.Core.List.{List, [], _∷_}
 use lib.ListN.{length, getD, set, take, drop, replicate, length-set, length-drop}
 use lib.Seq.{getD-take, getD-drop, drop-set-add, drop-set-lt, take-set-lt, take-set-le, length-take-le, getD-set-same, getD-set-other}
@@ -12,7 +12,7 @@ use Rattle.names.specs.Packed.{sameName}
 use Rattle.scope_tree.specs.Views.{View, pushed-under, pushed, opened-last}
 use Rattle.scope_tree.specs.Views.{Sized as ViewSized}
 use Rattle.scope_tree.specs.Views as views
-use Rattle.scope_tree.specs.Index.{free-slot, place-in, spot-in, within}
+use Rattle.scope_tree.specs.Index.{free-slot, place-in, spot-in}
 use Rattle.scope_tree.specs.Nav.{current-of}
 use Rattle.scope_tree.specs.Staging.{is-at}
 use Rattle.scope_tree.specs.declared.look.Spot.{Spot}
