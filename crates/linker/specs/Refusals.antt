@@ -5,7 +5,7 @@ use mathlib.Core.Bool.{Bool, true, false, cond, _||_, _&&_, not}
 use mathlib.Core.Logic.{_⊎_, inl, inr}
 use mathlib.Core.Path.{_≡_, refl, sym, ap, _∙_}
 use mathlib.Core.List.{List, [], _∷_}
-use lib.Dec.{eqb, ltb, leb}
+use lib.Dec.{eqb, ltb}
 use lib.ListN.{length, getD, length-append}
 use borrow.Author.Tests.{ltb-true}
 use Rattle.names.specs.declared.Name.{Name}
@@ -13,8 +13,9 @@ use Rattle.names.specs.Identifier.{isIdentifier}
 use Rattle.scope_tree.specs.Step.{Head, Elem, Call, enter, exit, alias, enum, function, use′, get-alias, get-function, bad, Answer, ok, refused, Found, missing, got, Tried, fail, is-done, number, after, first-told, head, declared, told-mark, any-main, shared, bind, held, full, deep, pass, nav, import, attempt, element, stage, use-of, fresh, settle, close, step}
 use Rattle.scope_tree.specs.Step as tree
 use Rattle.scope_tree.specs.Flat.{Flat, Place, copy, top, flat, stack-names}
-use Rattle.scopes.specs.Calls.{length-names}
-use Rattle.scope_tree.specs.Form.{led-by-crate, names-from, Request, enters, exits, inserts-alias, inserts-enum, inserts-function, resolves-use, gets-alias, gets-function, named, or-else, after-string, after-element, string-fault, names-fault, elements-fault, after-elements, after-strings, rest-fault, use-fault, use-call, elements-from, call-of}
+use Rattle.decision.specs.Calls.{length-names}
+use Rattle.scopes.specs.RefusalTheorems.{use-small}
+use Rattle.scope_tree.specs.Form.{led-by-crate, names-from, Request, enters, exits, inserts-alias, inserts-enum, inserts-function, resolves-use, gets-alias, gets-function, named, after-string, after-element, after-strings, use-fault, use-call, elements-from, call-of}
 
 -- NUMBERS
 abbrev Between : ℕ → ℕ → ℕ → Type 0
@@ -99,57 +100,6 @@ use-number x led p v es n h = by led h
     by false k = let z : 40 ≡ n = cc in (omega arith, omega arith)
 
 -- arguments that are refused: 1, 3 or 5
-or-small : (a b : ℕ) → a ≤ 5 → b ≤ 5 → or-else a b ≤ 5
-or-small a b h k = go (eqb a 0)
-  where
-    go : (t : Bool) → cond t b a ≤ 5
-    go true = k
-    go false = h
-
-string-small : (o : Bool) (s : List ℕ) (at : ℕ) → string-fault o s at ≤ 5
-unfolding string-fault
-string-small o s at = go (ltb at (length s)) (leb (after-string s at) (length s)) ((o && eqb (getD s at 0) 0) || isIdentifier (Rattle.scope_tree.specs.Form.string s at))
-  where
-    go : (t u w : Bool) → cond t (cond u (cond w 0 5) 1) 1 ≤ 5
-    go true true true = omega arith
-    go true true false = omega arith
-    go true false w = omega arith
-    go false u w = omega arith
-
-names-small : (s : List ℕ) (n at : ℕ) → names-fault s n at ≤ 5
-unfolding names-fault
-names-small s zero at = omega arith
-names-small s (suc n) at = or-small (string-fault false s at) (names-fault s n (after-string s at)) (string-small false s at) (names-small s n (after-string s at))
-
-elements-small : (s : List ℕ) (n at : ℕ) → elements-fault s n at ≤ 5
-unfolding elements-fault
-elements-small s zero at = omega arith
-elements-small s (suc n) at =
-    or-small (string-fault false s at) (or-else (string-fault true s (after-string s at)) (elements-fault s n (after-element s at))) (string-small false s at)
-    (or-small (string-fault true s (after-string s at)) (elements-fault s n (after-element s at)) (string-small true s (after-string s at)) (elements-small s n (after-element s at)))
-
-rest-small : (s : List ℕ) (p : ℕ) → rest-fault s p ≤ 5
-unfolding rest-fault
-rest-small s p = go (ltb p (length s)) (ltb 32 (getD s p 0))
-  where
-    left : (t : Bool) → cond t 1 0 ≤ 5
-    left true = omega arith
-    left false = omega arith
-
-    go : (t u : Bool) → cond t (cond u 3 (or-else (elements-fault s (getD s p 0) (p + 1)) (cond (ltb (after-elements s (getD s p 0) (p + 1)) (length s)) 1 0))) 1 ≤ 5
-    go true true = omega arith
-    go true false = or-small (elements-fault s (getD s p 0) (p + 1)) _ (elements-small s (getD s p 0) (p + 1)) (left (ltb (after-elements s (getD s p 0) (p + 1)) (length s)))
-    go false u = omega arith
-
-use-small : (s : List ℕ) → use-fault s ≤ 5
-unfolding use-fault
-use-small s = go (eqb (length s) 0) (ltb 17 (getD s 0 0))
-  where
-    go : (t u : Bool) → cond t 1 (cond u 3 (or-else (names-fault s (getD s 0 0) 1) (rest-fault s (after-strings s (getD s 0 0) 1)))) ≤ 5
-    go true u = omega arith
-    go false true = omega arith
-    go false false = or-small (names-fault s (getD s 0 0) 1) _ (names-small s (getD s 0 0) 1) (rest-small s (after-strings s (getD s 0 0) 1))
-
 named-bad : (s : List ℕ) (f : Name → Call) → ((k : Name) (m : ℕ) → f k ≡ bad m → ⊥) → (n : ℕ) → named s f ≡ bad n → n ≤ 5
 named-bad s f apart n h = go (isIdentifier s) h
   where

@@ -3,7 +3,7 @@
 use Prim.Native.Nat.{ℕ, zero, suc, _+_, _-_, _*_, _/_, _%_, _^_, _≤_, _<_}
 use native.Mathlib.Omega.{arith}
 use native.Mathlib.Numerals.{add-one}
-use native.Mathlib.Nat.{zero-add, add-suc}
+use native.Mathlib.Nat.{zero-add, add-suc, le-of-lt, mul-le-mul-right}
 use native.Mathlib.Decide.{decLt, decLe}
 use mathlib.Core.Path.{_≡_, refl, ap, sym, _∙_}
 use mathlib.Core.Bool.{Bool, true, false, cond, _&&_}
@@ -39,6 +39,10 @@ mix-again s k n =
     + (n .w3 / 4294967296 % 4294967296 * 215493451 + n .w3 % 4294967296 * 165902239)
     + (s * 3387945472435 + k * 7000208109065))
     / 268435456
+
+-- half a word times a multiplier of 28 bits
+pub half-small : (x m : ℕ) → x < 4294967296 → m < 268435456 → x * m < 1152921504606846976
+half-small x m h l = let a : x * m ≤ 4294967296 * m = mul-le-mul-right m (le-of-lt h) in omega arith
 
 -- the four words of the name, then scope and kind
 unfoldable pub word-at : ℕ → ℕ → Name → ℕ → ℕ
@@ -491,7 +495,7 @@ reach-more xs f j (suc m) d σ e = go (place-in (getD xs σ 0) 1024) refl (λ i.
         rw g (reach-turn xs f (m + j) d σ i z ∙ k ∙ sym (reach-turn xs f m d σ i z))
 
 -- the slot that a walk ends at is none of an entry to come
-reach-old : (xs : List ℕ) (f : ℕ → ℕ) (n : ℕ) → ((d : ℕ) → f d < 2) → ((σ : ℕ) → getD xs σ 0 ≤ n) → n ≤ 1024 → (m d σ : ℕ) → σ < 1024 + 2 * n → reach xs f m d σ < 1024 + 2 * n
+pub reach-old : (xs : List ℕ) (f : ℕ → ℕ) (n : ℕ) → ((d : ℕ) → f d < 2) → ((σ : ℕ) → getD xs σ 0 ≤ n) → n ≤ 1024 → (m d σ : ℕ) → σ < 1024 + 2 * n → reach xs f m d σ < 1024 + 2 * n
 unfolding reach below
 reach-old xs f n w small l zero d σ h = h
 reach-old xs f n w small l (suc m) d σ h = go (getD xs σ 0) refl (λ i k. reach-old xs f n w small l m (suc d) (1024 + 2 * i + f d) (omega (arith, w d)))

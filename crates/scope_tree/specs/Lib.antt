@@ -8,6 +8,7 @@ pub mod Trees
 -- THEOREMS to cite: the register and the list of entries are one; what bounds a walk through the index
 pub mod Same
 pub mod Routes
+pub mod Walks
 -- LAWS, for the code's proofs and for the theorems of scopes
 pub mod Laws
 pub mod Sim

@@ -3,15 +3,16 @@ use Prim.Native.Nat.{ℕ, zero, suc, _+_, _-_, _≤_, _<_}
 use native.Mathlib.Omega.{arith}
 use native.Mathlib.Nat.{zero-add, suc-sub-suc, sub-zero, not-suc-le-zero, le-of-suc-le-suc}
 use mathlib.Core.Path.{_≡_, refl, ap, sym, _∙_}
-use mathlib.Core.Bool.{Bool, true, false, cond, _&&_}
+use mathlib.Core.Bool.{Bool, true, false, cond}
 use mathlib.Core.List.{List, [], _∷_}
 use lib.ListN.{length, getD, set, take, drop, replicate, length-set, length-drop}
 use lib.Seq.{getD-take, getD-drop, drop-set-add, drop-set-lt, take-set-lt, take-set-le, length-take-le, getD-set-same, getD-set-other}
 use Rattle.names.specs.declared.Name.{Name}
+use Rattle.names.specs.Packed.{sameName}
 use Rattle.scope_tree.specs.Views.{View, pushed-under, pushed, opened-last}
 use Rattle.scope_tree.specs.Views.{Sized as ViewSized}
 use Rattle.scope_tree.specs.Views as views
-use Rattle.scope_tree.specs.Index.{free-slot, place-in, spot-in, within}
+use Rattle.scope_tree.specs.Index.{free-slot, place-in, spot-in}
 use Rattle.scope_tree.specs.Nav.{current-of}
 use Rattle.scope_tree.specs.Staging.{is-at}
 use Rattle.scope_tree.specs.declared.look.Spot.{Spot}
@@ -198,13 +199,29 @@ opened-in c t = opened-at c (getD (t .opened) 10 0) t
 unfoldable pub added : ℕ → Tree → Entry → Tree
 added at t e = cond (e .opens) (opened-at (at + 1) (getD (t .opened) 10 0) (pushed-in at t e)) (pushed-in at t e)
 
-pub added-shut : (t : Tree) (e : Entry) (at b : ℕ) → b ≡ free-slot (index-of (t .cells)) (e .scope) (e .kind) (e .name) → e .opens ≡ false → put-at at b t e ≡ added at t e
-unfolding added
-added-shut t e at b q o = rw (o, q)
+-- the array of the open modules with one entry more
+unfoldable pub doors-added : List ℕ → ℕ → Bool → List ℕ
+doors-added o at b = cond b (set (set (set o 9 (at + 1)) (getD o 10 0) (at + 1)) 10 (getD o 10 0 + 1)) (set o 9 (at + 1))
 
-pub added-open : (t : Tree) (e : Entry) (at b d : ℕ) → b ≡ free-slot (index-of (t .cells)) (e .scope) (e .kind) (e .name) → d ≡ getD (t .opened) 10 0 → e .opens ≡ true → opened-at (at + 1) d (put-at at b t e) ≡ added at t e
-unfolding added
-added-open t e at b d q w o = rw (o, w, q)
+pub doors-shut : (o : List ℕ) (at : ℕ) {b : Bool} → b ≡ false → set o 9 (at + 1) ≡ doors-added o at b
+unfolding doors-added
+doors-shut o at z = rw z
+
+pub doors-open : (o : List ℕ) (at : ℕ) {b : Bool} → b ≡ true → {d : ℕ} → d ≡ getD o 10 0 → set (set (set o 9 (at + 1)) d (at + 1)) 10 (d + 1) ≡ doors-added o at b
+unfolding doors-added
+doors-open o at z q = rw (z, q)
+
+pub added-all : (t : Tree) (e : Entry) (at b : ℕ) → b ≡ free-slot (index-of (t .cells)) (e .scope) (e .kind) (e .name) → {x y : List ℕ} → x ≡ cells-of (t .cells) at b (e .kind) (e .origin) (e .target) (e .moment) → y ≡ doors-added (t .opened) at (e .opens)
+    → record { opened = y; cells = x; visible = set (t .visible) at (e .visible); scopes = set (t .scopes) at (e .scope); marks = set (t .marks) at (e .mark); n0 = set (t .n0) at (e .name .w0); n1 = set (t .n1) at (e .name .w1); n2 = set (t .n2) at (e .name .w2); n3 = set (t .n3) at (e .name .w3) }
+    ≡ added at t e
+unfolding added doors-added
+added-all t e at b q f g = rw (f, g, q) (go (e .opens))
+  where
+    go : (o : Bool)
+        → record { opened = cond o (set (set (set (t .opened) 9 (at + 1)) (getD (t .opened) 10 0) (at + 1)) 10 (getD (t .opened) 10 0 + 1)) (set (t .opened) 9 (at + 1)); cells = pushed-in at t e .cells; visible = pushed-in at t e .visible; scopes = pushed-in at t e .scopes; marks = pushed-in at t e .marks; n0 = pushed-in at t e .n0; n1 = pushed-in at t e .n1; n2 = pushed-in at t e .n2; n3 = pushed-in at t e .n3 }
+        ≡ cond {A = Tree} o (opened-at (at + 1) (getD (t .opened) 10 0) (pushed-in at t e)) (pushed-in at t e)
+    go true = refl
+    go false = refl
 
 pub view-sized : (t : Tree) → Sized t → ViewSized (view t)
 unfolding doors-of
@@ -303,8 +320,11 @@ cleared-view =
 pub via-place : {x y e l : ℕ} → x ≡ y → (e ≡ place-in x l) × (e ≤ l) → (e ≡ place-in y l) × (e ≤ l)
 via-place {x} {y} {e} {l} q p = (p .0 ∙ ap (λ (z : ℕ). place-in z l) q, p .1)
 
-pub via-sought : (s t i es k : ℕ) (en n : Name) {x y : ℕ} {f : Bool} → x ≡ y → f ≡ (within s t i && isRow es x en s k n) → f ≡ (within s t i && isRow es y en s k n)
-via-sought s t i es k en n q p = p ∙ ap (λ (z : ℕ). within s t i && isRow es z en s k n) q
+pub via-row : (r s k : ℕ) (n : Name) {x y : ℕ} {l m : Name} {f : Bool} → x ≡ y → l ≡ m → f ≡ isRow r x l s k n → f ≡ isRow r y m s k n
+via-row r s k n q e p = p ∙ (λ j. isRow r (q j) (e j) s k n)
+
+pub via-name : (n : Name) {l m : Name} {f : Bool} → l ≡ m → f ≡ sameName l n → f ≡ sameName m n
+via-name n e p = p ∙ (λ j. sameName (e j) n)
 
 pub via-held : (xs ss ks a b c d : List ℕ) (s k : ℕ) (n : Name) {t u : ℕ} {o : Bool} → t ≡ u → o ≡ is-at (spot-in xs ss ks a b c d s t k n) → o ≡ is-at (spot-in xs ss ks a b c d s u k n)
 via-held xs ss ks a b c d s k n q p = p ∙ ap (λ (x : ℕ). is-at (spot-in xs ss ks a b c d s x k n)) q

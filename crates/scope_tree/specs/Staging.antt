@@ -15,7 +15,7 @@ use Rattle.names.specs.Packed.{packed, sameName}
 use Rattle.scope_tree.specs.declared.look.Spot.{Spot}
 use Rattle.scope_tree.specs.declared.look.Spot.the-variants.{At, Nothing}
 use Rattle.scope_tree.specs.declared.look.Place.{Place as Site}
-use Rattle.scope_tree.specs.declared.stage.Choice.{Choice}
+use Rattle.scope_tree.specs.declared.Choice.{Choice}
 use Rattle.scope_tree.specs.Form.{string, local-name, after-element}
 use Rattle.scope_tree.specs.Rows.{Arrays, name-at, isRow, site}
 use Rattle.scope_tree.specs.Index.{look-up}
@@ -415,3 +415,8 @@ module _ (A : Arrays) (total here scope time : ℕ) (d : List ℕ) (at n : ℕ) 
     pub staging-end : n ≤ i → s ≡ everything
     unfolding staged-all
     staging-end h = let e : n - i ≡ 0 = omega arith in sym (w .same ∙ rw e)
+
+-- before an entry more there is place for it
+pub kinding-room : (A : Arrays) (total here scope time : ℕ) (x y : Name) (s₀ : Staged) (k v : ℕ) (s : Staged) → Kinding A total here scope time x y s₀ k v s → k < 4 → (d : List ℕ) (at n p : ℕ) {i : ℕ} → Staging A total here scope time d at n p i s₀ → i < n → n ≤ 32
+    → s .count < 96
+kinding-room A total here scope time x y s₀ k v s w h d at n p u j m = omega (arith, w .small, u .small)

@@ -164,48 +164,41 @@ module _ (t : View) (k v s m : ℕ) (n : Name) (o a u : ℕ) where
         stack = z .stack;
       }
 
-  -- the index holds the entry too
-  pub push-indexed : Sized t → t .count < 1024 → IndexOf (arrays-of t) (t .count) → IndexOf (arrays-of (pushed t k v s m n o a u)) (t .count + 1)
-  unfolding free-slot
-  push-indexed z l w =
-      let r = pushed t k v s m n o a u in
-      let w′ = walked-agree (t .index) start start′ way way′ (t .count) kept-start kept-way (w .walked) in
-      let e : start′ (t .count) ≡ bucket s k n = last-start in
-      let f : way′ (t .count) ≡ turn s k n = last-way in
-      let g = walked-more (t .index) start′ way′ (t .count) (z .index) l (rw e (bucket-below s k n)) (rw f (turn-below (mix s k n) s k n)) w′ in
-      let h : Walked (set (t .index) (reach (t .index) (turn s k n) 1024 0 (bucket s k n)) (suc (t .count))) start′ way′ (suc (t .count)) =
-      subst (λ (x : ℕ). Walked (set (t .index) x (suc (t .count))) start′ way′ (suc (t .count))) (λ j. reach (t .index) (f j) 1024 0 (e j)) g in
-      record { walked = subst (λ (x : ℕ). Walked (set (t .index) (reach (t .index) (turn s k n) 1024 0 (bucket s k n)) x) start′ way′ x) (sym (add-one (t .count))) h }
-    where
-      start : ℕ → ℕ
-      start = start-at (t .scopes) (t .kinds) (t .n0) (t .n1) (t .n2) (t .n3)
+  -- where the walks of the entries begin, and their bits: those before it have theirs
+  abbrev pub start-after : ℕ → ℕ
+  start-after i = let r = pushed t k v s m n o a u in start-at (r .scopes) (r .kinds) (r .n0) (r .n1) (r .n2) (r .n3) i
 
-      way : ℕ → ℕ → ℕ
-      way = way-at (t .scopes) (t .kinds) (t .n0) (t .n1) (t .n2) (t .n3)
+  abbrev pub way-after : ℕ → ℕ → ℕ
+  way-after i = let r = pushed t k v s m n o a u in way-at (r .scopes) (r .kinds) (r .n0) (r .n1) (r .n2) (r .n3) i
 
-      start′ : ℕ → ℕ
-      start′ i = let r = pushed t k v s m n o a u in start-at (r .scopes) (r .kinds) (r .n0) (r .n1) (r .n2) (r .n3) i
+  pub start-kept : (i : ℕ) → i < t .count → start-after i ≡ start-at (t .scopes) (t .kinds) (t .n0) (t .n1) (t .n2) (t .n3) i
+  start-kept i h =
+      let ne : i ≡ t .count → ⊥ = λ e. omega arith in
+      simp getD-set-other
 
-      way′ : ℕ → ℕ → ℕ
-      way′ i = let r = pushed t k v s m n o a u in way-at (r .scopes) (r .kinds) (r .n0) (r .n1) (r .n2) (r .n3) i
+  pub way-kept : (i : ℕ) → i < t .count → way-after i ≡ way-at (t .scopes) (t .kinds) (t .n0) (t .n1) (t .n2) (t .n3) i
+  way-kept i h =
+      let ne : i ≡ t .count → ⊥ = λ e. omega arith in
+      simp getD-set-other
 
-      kept-start : (i : ℕ) → i < t .count → start′ i ≡ start i
-      kept-start i h =
-          let ne : i ≡ t .count → ⊥ = λ e. omega arith in
-          simp getD-set-other
+  module _ (z : Sized t) (l : t .count < 1024) where
+    pub start-last : start-after (t .count) ≡ bucket s k n
+    start-last =
+        simp (same-set (t .kinds) (t .count) k (z .kinds) l, same-set (t .scopes) (t .count) s (z .scopes) l, same-set (t .n0) (t .count) (n .w0) (z .n0) l, same-set (t .n1) (t .count) (n .w1) (z .n1) l, same-set (t .n2) (t .count) (n .w2) (z .n2) l, same-set (t .n3) (t .count) (n .w3) (z .n3) l)
 
-      kept-way : (i : ℕ) → i < t .count → way′ i ≡ way i
-      kept-way i h =
-          let ne : i ≡ t .count → ⊥ = λ e. omega arith in
-          simp getD-set-other
+    pub way-last : way-after (t .count) ≡ turn s k n
+    way-last =
+        simp (same-set (t .kinds) (t .count) k (z .kinds) l, same-set (t .scopes) (t .count) s (z .scopes) l, same-set (t .n0) (t .count) (n .w0) (z .n0) l, same-set (t .n1) (t .count) (n .w1) (z .n1) l, same-set (t .n2) (t .count) (n .w2) (z .n2) l, same-set (t .n3) (t .count) (n .w3) (z .n3) l)
 
-      last-start : start′ (t .count) ≡ bucket s k n
-      last-start =
-          simp (same-set (t .kinds) (t .count) k (z .kinds) l, same-set (t .scopes) (t .count) s (z .scopes) l, same-set (t .n0) (t .count) (n .w0) (z .n0) l, same-set (t .n1) (t .count) (n .w1) (z .n1) l, same-set (t .n2) (t .count) (n .w2) (z .n2) l, same-set (t .n3) (t .count) (n .w3) (z .n3) l)
-
-      last-way : way′ (t .count) ≡ turn s k n
-      last-way =
-          simp (same-set (t .kinds) (t .count) k (z .kinds) l, same-set (t .scopes) (t .count) s (z .scopes) l, same-set (t .n0) (t .count) (n .w0) (z .n0) l, same-set (t .n1) (t .count) (n .w1) (z .n1) l, same-set (t .n2) (t .count) (n .w2) (z .n2) l, same-set (t .n3) (t .count) (n .w3) (z .n3) l)
+    -- the index holds the entry too
+    pub push-indexed : IndexOf (arrays-of t) (t .count) → IndexOf (arrays-of (pushed t k v s m n o a u)) (t .count + 1)
+    unfolding free-slot
+    push-indexed w =
+        let w′ = walked-agree (t .index) (start-at (t .scopes) (t .kinds) (t .n0) (t .n1) (t .n2) (t .n3)) start-after (way-at (t .scopes) (t .kinds) (t .n0) (t .n1) (t .n2) (t .n3)) way-after (t .count) start-kept way-kept (w .walked) in
+        let g = walked-more (t .index) start-after way-after (t .count) (z .index) l (rw start-last (bucket-below s k n)) (rw way-last (turn-below (mix s k n) s k n)) w′ in
+        let h : Walked (set (t .index) (reach (t .index) (turn s k n) 1024 0 (bucket s k n)) (suc (t .count))) start-after way-after (suc (t .count)) =
+        subst (λ (x : ℕ). Walked (set (t .index) x (suc (t .count))) start-after way-after (suc (t .count))) (λ j. reach (t .index) (way-last j) 1024 0 (start-last j)) g in
+        record { walked = subst (λ (x : ℕ). Walked (set (t .index) (reach (t .index) (turn s k n) 1024 0 (bucket s k n)) x) start-after way-after x) (sym (add-one (t .count))) h }
 
 -- DECLARATIONS
 abbrev pub refusing : ℕ → View → ViewOutcome

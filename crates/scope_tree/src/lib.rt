@@ -1,8 +1,7 @@
-// The module tree of ast/scope/modules.rs as a record, lookups in it, the bytes of a use and the entries that one adds. Nothing here
-// changes a tree: the calls are in the crate scopes.
+// The module tree of ast/scope/modules.rs as a record, lookups in it and the bytes of a use. Nothing here changes a tree: the calls are
+// in the crate scopes, and what each comes to in the crate decision.
 pub mod form;
 pub mod look;
-pub mod stage;
 
 use names::Name;
 
@@ -65,4 +64,27 @@ pub enum Answer {
     Mark(u16),
     // a number of the table; its place is 0
     Refused(u8),
+}
+
+// Places of `Batch.cells` and `Batch.names`.
+pub const STAGED_CELLS: usize = 480;
+
+pub const STAGED_NAMES: usize = 384;
+
+// Entries that a use adds, at most 96, all in one scope and of one visibility; or a number. The cells are kinds, marks, origins, targets
+// and times, the names their four words, each a part of 96.
+pub struct Batch {
+    pub number: u8,
+    pub count: usize,
+    pub cells: [u16; STAGED_CELLS],
+    pub names: [u64; STAGED_NAMES],
+}
+
+// What an item of a use copies: number 0 and the entry's mark, its number plus one, and what is inside it; or a number.
+pub struct Choice {
+    pub number: u8,
+    pub mark: u16,
+    pub origin: u16,
+    pub target: u16,
+    pub moment: u16,
 }

@@ -1,10 +1,9 @@
 // Lookups. Nothing here changes a tree.
 ghost use mathlib.Core.Path.{_≡_};
-ghost use Prim.Native.Nat.{_+_, _*_, _%_, _<_, _≤_};
-ghost use mathlib.Core.Bool.{_&&_};
+ghost use Prim.Native.Nat.{_+_, _*_, _/_, _%_, _<_, _≤_};
 ghost use lib.ListN.{getD};
-ghost use Rattle.scope_tree.specs.Rows.{isRow, isOwn, site};
-ghost use Rattle.scope_tree.specs.Index.{mix-again, mix, word-at, turn-of, below, within, place-in, free-slot, spot-in};
+ghost use Rattle.scope_tree.specs.Rows.{isRow, isOwn, name-at, site};
+ghost use Rattle.scope_tree.specs.Index.{mix-again, mix, word-at, turn-of, below, sought-at, place-in, free-slot, spot-in};
 ghost use Rattle.scope_tree.specs.Staging.{is-at};
 ghost use Rattle.scope_tree.specs.Nav.{barred, current-of, leads-on, wayed, Arrived};
 ghost use Rattle.scope_tree.specs.Trees.{part, index-of, doors-of};
@@ -45,14 +44,22 @@ pub fn is_row(scope0: u16, kind0: u16, name0: Name, scope: u16, kind: u16, name:
     same_name(name0, name)
 }
 
+// The two halves of a word, each times a multiplier.
+fn halves(word: u64, high: u64, low: u64) -> u64
+    requires { ⌜ (high < 268435456) × (low < 268435456) ⌝ }
+    ensures { λ r. ⌜ (r ≡ word / 4294967296 % 4294967296 * high + word % 4294967296 * low) × (r < 2305843009213693952) ⌝ }
+{
+    word / 4294967296 % 4294967296 * high + word % 4294967296 * low
+}
+
 // Scope, kind and name mixed into 36 bits, of which the lowest ten are the hash.
 pub fn mixed(scope: u16, kind: u16, name: Name) -> u64
     ensures { λ r. ⌜ r ≡ mix scope kind name ⌝ }
 {
-    let a = name.w0 / 4294967296 % 4294967296 * 165902239 + name.w0 % 4294967296 * 189812533;
-    let b = name.w1 / 4294967296 % 4294967296 * 232471937 + name.w1 % 4294967296 * 220889051;
-    let c = name.w2 / 4294967296 % 4294967296 * 176714393 + name.w2 % 4294967296 * 215493451;
-    let d = name.w3 / 4294967296 % 4294967296 * 150740719 + name.w3 % 4294967296 * 182388329;
+    let a = halves(name.w0, 165902239, 189812533);
+    let b = halves(name.w1, 232471937, 220889051);
+    let c = halves(name.w2, 176714393, 215493451);
+    let d = halves(name.w3, 150740719, 182388329);
     let e = (scope as u64) * 7000208109065 + (kind as u64) * 3387945472435;
     (a + b + c + d + e) / 268435456
 }
@@ -61,10 +68,10 @@ pub fn mixed(scope: u16, kind: u16, name: Name) -> u64
 fn mixed_again(scope: u16, kind: u16, name: Name) -> u64
     ensures { λ r. ⌜ r ≡ mix-again scope kind name ⌝ }
 {
-    let a = name.w0 / 4294967296 % 4294967296 * 220889051 + name.w0 % 4294967296 * 150740719;
-    let b = name.w1 / 4294967296 % 4294967296 * 182388329 + name.w1 % 4294967296 * 176714393;
-    let c = name.w2 / 4294967296 % 4294967296 * 189812533 + name.w2 % 4294967296 * 232471937;
-    let d = name.w3 / 4294967296 % 4294967296 * 215493451 + name.w3 % 4294967296 * 165902239;
+    let a = halves(name.w0, 220889051, 150740719);
+    let b = halves(name.w1, 182388329, 176714393);
+    let c = halves(name.w2, 189812533, 232471937);
+    let d = halves(name.w3, 215493451, 165902239);
     let e = (scope as u64) * 3387945472435 + (kind as u64) * 7000208109065;
     (a + b + c + d + e) / 268435456
 }
@@ -154,26 +161,51 @@ pub fn free_slot(cells: &[u16; CELLS], scope: u16, kind: u16, name: Name) -> usi
     slot
 }
 
-// Whether entry i is the one looked for: of those from the scope's first on and below the time.
-fn is_sought(
+// The name of entry i.
+fn name_held<'a>(
+    n0: &'a [u64; 1024],
+    n1: &'a [u64; 1024],
+    n2: &'a [u64; 1024],
+    n3: &'a [u64; 1024],
     i: usize,
-    scope0: u16,
-    kind0: u16,
-    name0: Name,
+) -> Name
+    requires { ⌜ i < 1024 ⌝ }
+    ensures { λ r. ⌜ r ≡ name-at (now (n0 .entry)) (now (n1 .entry)) (now (n2 .entry)) (now (n3 .entry)) i ⌝ }
+{
+    Name {
+        w0: n0[i],
+        w1: n1[i],
+        w2: n2[i],
+        w3: n3[i],
+    }
+}
+
+// Whether entry i is the one looked for: of those from the scope's first on and below the time.
+fn is_sought<'a>(
+    cells: &'a [u16; CELLS],
+    scopes: &'a [u16; 1024],
+    n0: &'a [u64; 1024],
+    n1: &'a [u64; 1024],
+    n2: &'a [u64; 1024],
+    n3: &'a [u64; 1024],
+    i: usize,
     scope: u16,
     time: usize,
     kind: u16,
     name: Name,
 ) -> bool
-    ensures { λ r. ⌜ r ≡ (within scope time i && isRow scope0 kind0 name0 scope kind name) ⌝ }
+    requires { ⌜ i < 1024 ⌝ }
+    ensures { λ r. ⌜ r ≡ sought-at (now (scopes .entry)) (part 0 (now (cells .entry))) (now (n0 .entry)) (now (n1 .entry)) (now (n2 .entry)) (now (n3 .entry)) scope time kind name i ⌝ }
 {
     if i < (scope as usize) {
         return false;
     }
-    if i < time {
-        return is_row(scope0, kind0, name0, scope, kind, name);
+    if time <= i {
+        return false;
     }
-    false
+    let n = name_held(n0, n1, n2, n3, i);
+    let k = cell(cells, KINDS, i);
+    is_row(scopes[i], k, n, scope, kind, name)
 }
 
 // The first entry of a kind and a name in a scope, among the first `time` entries: a walk through the index from the slot of the hash.
@@ -201,14 +233,7 @@ pub fn find_in<'a>(
             return Spot::Nothing;
         }
         let i = e - 1;
-        let n = Name {
-            w0: n0[i],
-            w1: n1[i],
-            w2: n2[i],
-            w3: n3[i],
-        };
-        let k = cell(cells, KINDS, i);
-        if is_sought(i, scopes[i], k, n, scope, time, kind, name) {
+        if is_sought(cells, scopes, n0, n1, n2, n3, i, scope, time, kind, name) {
             return Spot::At(i);
         }
         slot = slot_below(mix, scope, kind, name, depth, i);
@@ -348,14 +373,7 @@ fn leads<'a>(
     if 1024 < s {
         return false;
     }
-    let i = s - 1;
-    let n = Name {
-        w0: n0[i],
-        w1: n1[i],
-        w2: n2[i],
-        w3: n3[i],
-    };
-    same_name(n, name)
+    same_name(name_held(n0, n1, n2, n3, s - 1), name)
 }
 
 // Where a path leads: number 0 and the place, or the number. `next` is the place in the bytes after the path.

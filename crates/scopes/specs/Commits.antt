@@ -15,7 +15,7 @@ use Rattle.scope_tree.specs.declared.Tree.{Tree}
 use Rattle.scope_tree.specs.declared.Entry.{Entry}
 use Rattle.scope_tree.specs.Trees.{view, Sized}
 use Rattle.scope_tree.specs.Pack.{view-sized, added, added-sized, shut-view}
-use Rattle.scopes.specs.Decided.{Decided}
+use Rattle.decision.specs.Decided.{Decided}
 use Rattle.scopes.specs.Meets.{Meets, left}
 use Rattle.scopes.specs.Declares.{bridge}
 

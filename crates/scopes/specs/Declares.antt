@@ -15,17 +15,17 @@ use Rattle.scope_tree.specs.declared.look.Spot.the-variants.{At, Nothing}
 use Rattle.scope_tree.specs.declared.Answer.{Answer as Told}
 use Rattle.scope_tree.specs.declared.Answer.the-variants.{Done, Refused}
 use Rattle.scope_tree.specs.declared.Tree.{Tree}
-use Rattle.scopes.specs.declared.decide.Plan.{Plan}
+use Rattle.decision.specs.declared.decide.Plan.{Plan}
 use Rattle.scopes.specs.declared.lent.Kind.{Kind}
 use Rattle.scope_tree.specs.declared.Entry.{Entry}
 use Rattle.scope_tree.specs.Note.{accepted}
 use Rattle.scope_tree.specs.Form.{Request, enters, exits, inserts-alias, inserts-enum, inserts-function, resolves-use, gets-alias, gets-function}
 use Rattle.scope_tree.specs.Views.{View, ViewOutcome, ViewMeets, told, bit-of, no-entry, pushed, added-of, ended, ended-no, ended-yes, opened-last, current-spot, mark-at, got-of}
-use Rattle.scopes.specs.Calls.{popped, exit-root, exit-module, alias-meets, enum-meets, function-meets, enter-meets, got-alias, got-function}
+use Rattle.decision.specs.Calls.{popped, exit-root, exit-module, alias-meets, enum-meets, function-meets, enter-meets, got-alias, got-function}
 use Rattle.scope_tree.specs.Trees.{part, index-of, doors-of, view, Sized}
 use Rattle.scopes.specs.Meets.{Meets, Answers, number-of, request, left, with-opened}
 use Rattle.scope_tree.specs.Pack.{view-sized, added, added-sized, shut-view, opened-view}
-use Rattle.scopes.specs.Plan.{planned-of, planned-plan, carried, carried-no, carried-yes, plan-added, plan-room, Room}
+use Rattle.decision.specs.Plan.{planned-of, planned-plan, carried, carried-no, carried-yes, plan-added, plan-room, Room}
 
 abbrev of-view : Told → View → ViewOutcome
 of-view a t = record { answer = a; tree = t }
@@ -49,15 +49,19 @@ pub record Declares (t : Tree) (s : List ℕ) (k twice deepest : ℕ) (v : Bool)
   pub kept : accepted (told a) ≡ false → u ≡ t
   pub numbered : number-of a ≡ 0 → accepted (told a) ≡ true
 
+-- the entry of a plan
+abbrev pub entry-planned : ℕ → ℕ → ℕ → Bool → Plan → Entry
+entry-planned k v m o p = record { kind = k; visible = v; scope = p .scope; mark = m; name = p .name; origin = 0; target = 0; moment = 0; opens = o }
+
 abbrev pub entry-of : ℕ → Bool → ℕ → Bool → Plan → Entry
-entry-of k v m o p = record { kind = k; visible = bit-of v; scope = p .scope; mark = m; name = p .name; origin = 0; target = 0; moment = 0; opens = o }
+entry-of k v m o p = entry-planned k (bit-of v) m o p
 
 pub declare-room : (t : Tree) (s : List ℕ) (k twice deepest : ℕ) (p : Plan) → p ≡ planned-of t s k twice deepest → (twice ≡ 0 → ⊥) → p .number ≡ 0 → Room (view t) deepest
 declare-room t s k twice deepest p e nz z = plan-room (view t) s k twice deepest nz (ap (λ (x : Plan). x .number) (sym (e ∙ planned-plan t s k twice deepest)) ∙ z)
 
 pub declare-ready : (t : Tree) (s : List ℕ) (k twice deepest : ℕ) (p : Plan) → p ≡ planned-of t s k twice deepest → (twice ≡ 0 → ⊥) → p .number ≡ 0 → {o : Bool} → (o ≡ true → deepest ≡ 8) → (c : ℕ) → c ≡ getD (t .opened) 9 0
-    → (c < 1024) × (o ≡ true → getD (t .opened) 10 0 < 9)
-declare-ready t s k twice deepest p e nz z l c q = let r = declare-room t s k twice deepest p e nz z in (omega (arith, r .count, q), λ y. omega (arith, r .depth, l y))
+    → {x : Bool} → x ≡ o → (c < 1024) × (x ≡ true → getD (t .opened) 10 0 < 9)
+declare-ready t s k twice deepest p e nz z l c q f = let r = declare-room t s k twice deepest p e nz z in (omega (arith, r .count, q), λ y. omega (arith, r .depth, l (sym f ∙ y)))
 
 module _ (t : Tree) (s : List ℕ) (k twice deepest : ℕ) (v : Bool) (m : ℕ) (o : Bool) (p : Plan) (e : p ≡ planned-of t s k twice deepest) (nz : twice ≡ 0 → ⊥) where
   planned-same : carried (view t) k v m p ≡ added-of (view t) s k twice v m deepest
@@ -72,11 +76,10 @@ module _ (t : Tree) (s : List ℕ) (k twice deepest : ℕ) (v : Bool) (m : ℕ) 
         numbered = λ q. absurd (z q);
       }
 
-  pub declare-yes : p .number ≡ 0 → (o ≡ true → deepest ≡ 8) → (b : ℕ) → b ≡ bit-of v → (c : ℕ) → c ≡ getD (t .opened) 9 0 → (u : Tree)
-      → u ≡ added c t (record { kind = k; visible = b; scope = p .scope; mark = m; name = p .name; origin = 0; target = 0; moment = 0; opens = o }) → Declares t s k twice deepest v m o Done u
-  declare-yes z l b w c y₀ u q =
+  pub declare-yes : p .number ≡ 0 → (o ≡ true → deepest ≡ 8) → (b : ℕ) → b ≡ bit-of v → (c : ℕ) → c ≡ getD (t .opened) 9 0 → (x : Entry) → x ≡ entry-planned k b m o p → (u : Tree) → u ≡ added c t x → Declares t s k twice deepest v m o Done u
+  declare-yes z l b w c y₀ x f u q =
       let r = declare-room t s k twice deepest p e nz z in
-      let q′ : u ≡ added c t (entry-of k v m o p) = q ∙ ap (λ (x : ℕ). added c t (record { kind = k; visible = x; scope = p .scope; mark = m; name = p .name; origin = 0; target = 0; moment = 0; opens = o })) w in
+      let q′ : u ≡ added c t (entry-of k v m o p) = q ∙ ap (added c t) (f ∙ ap (λ (i : ℕ). entry-planned k i m o p) w) in
       record {
         sized = λ y. subst Sized (sym q′) (added-sized c t (entry-of k v m o p) y);
         same = λ y. ap (λ (x : Tree). of-view Done (view x)) q′ ∙ ap (of-view Done) (shown y r o refl) ∙ ended-yes (λ x. cond o (opened-last x) x) (no-entry 0 (pushed (view t) k (bit-of v) (p .scope) m (p .name) 0 0 0)) refl

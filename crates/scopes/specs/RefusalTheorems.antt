@@ -63,7 +63,8 @@ rest-small s p =
     counted-small (ltb p (length s)) (ltb 32 (getD s p 0)) _
     (or-small (elements-fault s (getD s p 0) (p + 1)) _ (elements-small s (getD s p 0) (p + 1)) (ended-small (ltb (after-elements s (getD s p 0) (p + 1)) (length s))))
 
-use-small : (s : List ℕ) → use-fault s ≤ 5
+-- arguments that are refused: 1, 3 or 5
+pub use-small : (s : List ℕ) → use-fault s ≤ 5
 unfolding use-fault
 use-small s =
     go (eqb (length s) 0) (ltb 17 (getD s 0 0)) _

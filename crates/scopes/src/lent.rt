@@ -7,13 +7,16 @@ ghost use Prim.Native.Nat.{_+_, _<_, _≤_};
 ghost use Rattle.scope_tree.specs.Form.{resolves-use};
 ghost use Rattle.scope_tree.specs.Views.{bit-of};
 ghost use Rattle.scope_tree.specs.Trees.{packed-in};
-ghost use Rattle.scope_tree.specs.Pack.{added};
+ghost use Rattle.scope_tree.specs.Pack.{added, cells-of, doors-added};
 ghost use Rattle.scopes.specs.Commits.{filled};
 ghost use Rattle.scope_tree.specs.Batches.{staged-of};
 ghost use Rattle.scopes.specs.Meets.{Meets, request, left, Leaves};
-ghost use Rattle.scopes.specs.Declares.{Declares, kind-of, asked-of};
-use crate::decide;
+ghost use Rattle.scopes.specs.Declares.{Declares, entry-planned, kind-of, asked-of};
+use decision::decide;
+use decision::decide::Plan;
+use decision::stage::entry_at;
 use scope_tree::Answer;
+use scope_tree::Batch;
 use scope_tree::CELLS;
 use scope_tree::COUNT;
 use scope_tree::DEPTH;
@@ -24,8 +27,32 @@ use scope_tree::ORIGINS;
 use scope_tree::TARGETS;
 use scope_tree::TIMES;
 use scope_tree::look;
-use scope_tree::stage::Batch;
-use scope_tree::stage::entry_at;
+
+// The cells of entry `at`, and its slot of the index.
+fn put_cells(cells: &mut [u16; CELLS], at: usize, slot: usize, entry: Entry)
+    requires { ⌜ (at < 1024) × (slot < 3072) ⌝ }
+    ensures { λ _. ⌜ now (cells .exit) ≡ cells-of (now (cells .entry)) at slot (entry .kind) (entry .origin) (entry .target) (entry .moment) ⌝ }
+{
+    cells[at] = entry.kind;
+    cells[ORIGINS + at] = entry.origin;
+    cells[TARGETS + at] = entry.target;
+    cells[TIMES + at] = entry.moment;
+    cells[INDEX + slot] = (at + 1) as u16;
+}
+
+// Entry `at` counted, and its module opened.
+fn put_opened(opened: &mut [u16; OPENED], at: usize, opens: bool)
+    requires { ⌜ (at < 1024) × (opens ≡ true → getD (now opened) 10 0 < 9) ⌝ }
+    ensures { λ _. ⌜ now (opened .exit) ≡ doors-added (now (opened .entry)) at opens ⌝ }
+{
+    let d = look::wide(opened[DEPTH]);
+    let next = (at + 1) as u16;
+    opened[COUNT] = next;
+    if opens {
+        opened[d] = next;
+        opened[DEPTH] = (d + 1) as u16;
+    }
+}
 
 // An entry at the tree's end, and a module opened with it.
 fn add(
@@ -44,9 +71,7 @@ fn add(
     requires { ⌜ (at < 1024) × (entry .opens ≡ true → getD (now opened) 10 0 < 9) ⌝ }
     ensures { λ _. ⌜ packed-in (now (opened .exit)) (now (cells .exit)) (now (visible .exit)) (now (scopes .exit)) (now (marks .exit)) (now (n0 .exit)) (now (n1 .exit)) (now (n2 .exit)) (now (n3 .exit)) ≡ added at (packed-in (now (opened .entry)) (now (cells .entry)) (now (visible .entry)) (now (scopes .entry)) (now (marks .entry)) (now (n0 .entry)) (now (n1 .entry)) (now (n2 .entry)) (now (n3 .entry))) entry ⌝ }
 {
-    let d = look::wide(opened[DEPTH]);
     let b = look::free_slot(&*cells, entry.scope, entry.kind, entry.name);
-    let next = (at + 1) as u16;
     visible[at] = entry.visible;
     scopes[at] = entry.scope;
     marks[at] = entry.mark;
@@ -54,22 +79,32 @@ fn add(
     n1[at] = entry.name.w1;
     n2[at] = entry.name.w2;
     n3[at] = entry.name.w3;
-    cells[at] = entry.kind;
-    cells[ORIGINS + at] = entry.origin;
-    cells[TARGETS + at] = entry.target;
-    cells[TIMES + at] = entry.moment;
-    cells[INDEX + b] = next;
-    opened[COUNT] = next;
-    if entry.opens {
-        opened[d] = next;
-        opened[DEPTH] = (d + 1) as u16;
-    }
+    put_cells(&mut *cells, at, b, entry);
+    put_opened(&mut *opened, at, entry.opens);
 }
 
 fn bit(b: bool) -> u8
     ensures { λ r. ⌜ r ≡ bit-of b ⌝ }
 {
     if b { 1 } else { 0 }
+}
+
+// The entry of a declaration.
+fn entry_of(plan: Plan, kind: u16, visible: u8, mark: u16, opens: bool) -> Entry
+    ensures { λ r. ⌜ r ≡ entry-planned kind visible mark opens plan ⌝ }
+{
+    let n = plan.name;
+    Entry {
+        kind: kind,
+        visible: visible,
+        scope: plan.scope,
+        mark: mark,
+        name: n,
+        origin: 0,
+        target: 0,
+        moment: 0,
+        opens: opens,
+    }
 }
 
 // A declaration of a kind, or a module opened: planned, then added.
@@ -97,9 +132,7 @@ fn declare(
     let p = decide::planned(
         &*opened,
         &*cells,
-        &*visible,
         &*scopes,
-        &*marks,
         &*n0,
         &*n1,
         &*n2,
@@ -114,18 +147,7 @@ fn declare(
     }
     let at = look::wide(opened[COUNT]);
     let v = bit(public);
-    let n = p.name;
-    let e = Entry {
-        kind: kind,
-        visible: v,
-        scope: p.scope,
-        mark: mark,
-        name: n,
-        origin: 0,
-        target: 0,
-        moment: 0,
-        opens: opens,
-    };
+    let e = entry_of(p, kind, v, mark, opens);
     add(
         &mut *opened,
         &mut *cells,
@@ -346,7 +368,6 @@ pub fn call(
         return decide::get(
             &*opened,
             &*cells,
-            &*visible,
             &*scopes,
             &*marks,
             &*n0,

@@ -5,7 +5,6 @@ use Rattle.scope_tree.proofs.look.find_in.Tie as tie
 use Prim.Native.Nat.{_-_}
 use Rattle.scope_tree.specs.Index.{Seeking, seeking-start, seeking-none, seeking-found, seeking-on, seeking-end}
 use Rattle.scope_tree.specs.Trees.{part, index-of}
-use Rattle.scope_tree.specs.Pack.{via-sought}
 
 abbrev Inv-loop : tie.InvT-loop
 Inv-loop cells scopes n0 n1 n2 n3 scope time kind name mix slot₀ depth₀ slot depth = Seeking (index-of cells) scopes (part 0 cells) n0 n1 n2 n3 scope time kind name depth slot
@@ -31,59 +30,26 @@ returns c = seeking-none _ _ _ _ _ _ _ _ _ _ _ _ _ ((c .before .before .before .
 sub-i : tie.Need-sub-i Inv-loop μ-loop
 sub-i c = let z = (c .if1) .left in omega arith
 
-mul-t19 : tie.Need-mul-t19 Inv-loop μ-loop
-mul-t19 c = let z = (c .if1) .left in let w = (c .before .held-at) .ensures .1 in omega arith
-
-element-copy-out-t22 : tie.Need-element-copy-out-t22 Inv-loop μ-loop
-element-copy-out-t22 c = let z = (c .if1) .left in let w = (c .before .held-at) .ensures .1 in omega arith
-
-mul-t23 : tie.Need-mul-t23 Inv-loop μ-loop
-mul-t23 c = let z = (c .before .if1) .left in let w = (c .before .before .held-at) .ensures .1 in omega arith
-
-element-copy-out-t26 : tie.Need-element-copy-out-t26 Inv-loop μ-loop
-element-copy-out-t26 c = let z = (c .before .if1) .left in let w = (c .before .before .held-at) .ensures .1 in omega arith
-
-mul-t27 : tie.Need-mul-t27 Inv-loop μ-loop
-mul-t27 c = let z = (c .before .before .if1) .left in let w = (c .before .before .before .held-at) .ensures .1 in omega arith
-
-element-copy-out-t30 : tie.Need-element-copy-out-t30 Inv-loop μ-loop
-element-copy-out-t30 c = let z = (c .before .before .if1) .left in let w = (c .before .before .before .held-at) .ensures .1 in omega arith
-
-mul-t31 : tie.Need-mul-t31 Inv-loop μ-loop
-mul-t31 c = let z = (c .before .before .before .if1) .left in let w = (c .before .before .before .before .held-at) .ensures .1 in omega arith
-
-element-copy-out-t34 : tie.Need-element-copy-out-t34 Inv-loop μ-loop
-element-copy-out-t34 c = let z = (c .before .before .before .if1) .left in let w = (c .before .before .before .before .held-at) .ensures .1 in omega arith
-
-cell-requires : tie.Need-cell-requires Inv-loop μ-loop
-cell-requires c κs = let z = (c .before .before .before .before .if1) .left in let w = (c .before .before .before .before .before .held-at) .ensures .1 in (omega arith, omega arith)
-
-mul-is-sought : tie.Need-mul-is-sought Inv-loop μ-loop
-mul-is-sought c = let z = (c .before .before .before .before .before .if1) .left in let w = (c .before .before .before .before .before .before .held-at) .ensures .1 in omega arith
-
-element-copy-out-is-sought : tie.Need-element-copy-out-is-sought Inv-loop μ-loop
-element-copy-out-is-sought c = let z = (c .before .before .before .before .before .if1) .left in let w = (c .before .before .before .before .before .before .held-at) .ensures .1 in omega arith
-
 is-sought-requires : tie.Need-is-sought-requires Inv-loop μ-loop
-is-sought-requires c κs = search needs
+is-sought-requires c κs = let z = (c .if1) .left in let w = (c .before .held-at) .ensures .1 in omega arith
 
 returns-2 : tie.Need-returns-2 Inv-loop μ-loop
-returns-2 c = seeking-found _ _ _ _ _ _ _ _ _ _ _ _ _ ((c .before .before .before .before .before .before .before .before .before .before .before .loop) .inv) ((c .before .before .before .before .before .before .before .before .before .before .loop-test) .taken) _ ((c .before .before .before .before .before .before .before .before .before .held-at) .ensures) ((c .before .before .before .before .before .before .before .before .if1) .left) _ (via-sought _ _ _ _ _ _ _ ((c .before .before .before .cell) .ensures) ((c .before .is-sought) .ensures)) ((c .if2) .taken)
+returns-2 c = seeking-found _ _ _ _ _ _ _ _ _ _ _ _ _ ((c .before .before .before .before .before .loop) .inv) ((c .before .before .before .before .loop-test) .taken) _ ((c .before .before .before .held-at) .ensures) ((c .before .before .if1) .left) _ ((c .before .is-sought) .ensures) ((c .if2) .taken)
 
 slot-below-requires : tie.Need-slot-below-requires Inv-loop μ-loop
-slot-below-requires c κs = let z = (c .before .before .before .before .before .before .before .before .if1) .left in let w = (c .before .before .before .before .before .before .before .before .before .held-at) .ensures .1 in omega arith
+slot-below-requires c κs = let z = (c .before .before .if1) .left in let w = (c .before .before .before .held-at) .ensures .1 in omega arith
 
 add-depth : tie.Need-add-depth Inv-loop μ-loop
-add-depth c = let t = (c .before .before .before .before .before .before .before .before .before .before .before .loop-test) .taken in omega arith
+add-depth c = let t = (c .before .before .before .before .before .loop-test) .taken in omega arith
 
 loop-less : tie.Need-loop-less Inv-loop μ-loop
-loop-less c = let t = (c .before .before .before .before .before .before .before .before .before .before .before .loop-test) .taken in omega arith
+loop-less c = let t = (c .before .before .before .before .before .loop-test) .taken in omega arith
 
 loop-again : tie.Need-loop-again Inv-loop μ-loop
-loop-again c = seeking-on _ _ _ _ _ _ _ _ _ _ _ _ _ ((c .before .before .before .before .before .before .before .before .before .before .before .before .loop) .inv) ((c .before .before .before .before .before .before .before .before .before .before .before .loop-test) .taken) _ ((c .before .before .before .before .before .before .before .before .before .before .held-at) .ensures) ((c .before .before .before .before .before .before .before .before .before .if1) .left) _ (via-sought _ _ _ _ _ _ _ ((c .before .before .before .before .cell) .ensures) ((c .before .before .is-sought) .ensures)) ((c .before .if2) .left) _ _ ((c .before .before .before .before .before .before .before .before .before .before .before .before .before .before .mixed) .ensures) ((c .slot-below) .ensures)
+loop-again c = seeking-on _ _ _ _ _ _ _ _ _ _ _ _ _ ((c .before .before .before .before .before .before .loop) .inv) ((c .before .before .before .before .before .loop-test) .taken) _ ((c .before .before .before .before .held-at) .ensures) ((c .before .before .before .if1) .left) _ ((c .before .before .is-sought) .ensures) ((c .before .if2) .left) _ _ ((c .before .before .before .before .before .before .before .before .mixed) .ensures) ((c .slot-below) .ensures)
 
 returns-3 : tie.Need-returns-3 Inv-loop μ-loop
 returns-3 c = seeking-end _ _ _ _ _ _ _ _ _ _ _ _ _ ((c .before .loop) .inv) ((c .loop-test) .left)
 
 pub find-in-spec : {M : Type 1} → statement M
-find-in-spec = tie.close (tie.spec Inv-loop μ-loop mixed-requires first-slot-requires loop-holds held-at-requires returns sub-i mul-t19 element-copy-out-t22 mul-t23 element-copy-out-t26 mul-t27 element-copy-out-t30 mul-t31 element-copy-out-t34 cell-requires mul-is-sought element-copy-out-is-sought is-sought-requires returns-2 slot-below-requires add-depth loop-less loop-again returns-3)
+find-in-spec = tie.close (tie.spec Inv-loop μ-loop mixed-requires first-slot-requires loop-holds held-at-requires returns sub-i is-sought-requires returns-2 slot-below-requires add-depth loop-less loop-again returns-3)

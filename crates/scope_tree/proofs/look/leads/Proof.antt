@@ -3,7 +3,7 @@ use native.Mathlib.Omega.{arith}
 use Rattle.scope_tree.proofs.look.leads.Statement.{statement}
 use Rattle.scope_tree.proofs.look.leads.Tie as tie
 use Rattle.scope_tree.specs.Nav.{leads-off, leads-short, leads-root, leads-far, leads-near}
-use Rattle.scope_tree.specs.Pack.{door-get}
+use Rattle.scope_tree.specs.Pack.{door-get, via-name}
 
 returns : tie.Need-returns
 returns c = leads-off _ _ _ _ _ _ _ _ ((c .if1) .left)
@@ -26,38 +26,17 @@ returns-3 c = leads-root _ _ _ _ _ _ _ _ ((c .before .before .before .before .if
 returns-4 : tie.Need-returns-4
 returns-4 c = leads-far _ _ _ _ _ _ _ _ ((c .before .before .before .before .before .if1) .taken) ((c .before .before .before .before .if2) .left) _ (door-get _ _ _ ((c .before .before .wide) .ensures) (let p = (c .before .before .before .before .before .before .pre) in let h = (c .before .before .before .before .if2) .left in omega arith)) ((c .before .if3) .left) ((c .if4) .taken)
 
-sub-i : tie.Need-sub-i
-sub-i c = search needs
+sub-name-held : tie.Need-sub-name-held
+sub-name-held c = search needs
 
-mul-t14 : tie.Need-mul-t14
-mul-t14 c = search needs
-
-element-copy-out-t20 : tie.Need-element-copy-out-t20
-element-copy-out-t20 c = search needs
-
-mul-t21 : tie.Need-mul-t21
-mul-t21 c = search needs
-
-element-copy-out-t24 : tie.Need-element-copy-out-t24
-element-copy-out-t24 c = search needs
-
-mul-t25 : tie.Need-mul-t25
-mul-t25 c = search needs
-
-element-copy-out-t28 : tie.Need-element-copy-out-t28
-element-copy-out-t28 c = search needs
-
-mul-t29 : tie.Need-mul-t29
-mul-t29 c = search needs
-
-element-copy-out-t32 : tie.Need-element-copy-out-t32
-element-copy-out-t32 c = search needs
+name-held-requires : tie.Need-name-held-requires
+name-held-requires c κs = search needs
 
 same-name-requires : tie.Need-same-name-requires
 same-name-requires c κs = search needs
 
 returns-5 : tie.Need-returns-5
-returns-5 c = leads-near _ _ _ _ _ _ _ _ ((c .before .before .before .before .before .before .before .before .before .before .if1) .taken) ((c .before .before .before .before .before .before .before .before .before .if2) .left) _ (door-get _ _ _ ((c .before .before .before .before .before .before .before .wide) .ensures) (let p = (c .before .before .before .before .before .before .before .before .before .before .before .pre) in let h = (c .before .before .before .before .before .before .before .before .before .if2) .left in omega arith)) ((c .before .before .before .before .before .before .if3) .left) ((c .before .before .before .before .before .if4) .left) _ ((c .same-name) .ensures)
+returns-5 c = leads-near _ _ _ _ _ _ _ _ ((c .before .before .before .before .before .before .before .if1) .taken) ((c .before .before .before .before .before .before .if2) .left) _ (door-get _ _ _ ((c .before .before .before .before .wide) .ensures) (let p = (c .before .before .before .before .before .before .before .before .pre) in let h = (c .before .before .before .before .before .before .if2) .left in omega arith)) ((c .before .before .before .if3) .left) ((c .before .before .if4) .left) _ (via-name _ ((c .before .name-held) .ensures) ((c .same-name) .ensures))
 
 pub leads-spec : {M : Type 1} → statement M
-leads-spec = tie.close (tie.spec returns returns-2 mul-wide element-copy-out-wide wide-requires returns-3 returns-4 sub-i mul-t14 element-copy-out-t20 mul-t21 element-copy-out-t24 mul-t25 element-copy-out-t28 mul-t29 element-copy-out-t32 same-name-requires returns-5)
+leads-spec = tie.close (tie.spec returns returns-2 mul-wide element-copy-out-wide wide-requires returns-3 returns-4 sub-name-held name-held-requires same-name-requires returns-5)

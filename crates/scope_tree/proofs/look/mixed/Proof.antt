@@ -4,41 +4,17 @@ use Rattle.scope_tree.proofs.look.mixed.Statement.{statement}
 use Rattle.scope_tree.proofs.look.mixed.Tie as tie
 use Rattle.scope_tree.specs.Index.{mix}
 
-mul-a : tie.Need-mul-a
-mul-a c = search needs
+halves-requires : tie.Need-halves-requires
+halves-requires c κs = search needs
 
-mul-a-2 : tie.Need-mul-a-2
-mul-a-2 c = search needs
+halves-requires-2 : tie.Need-halves-requires-2
+halves-requires-2 c κs = search needs
 
-add-a : tie.Need-add-a
-add-a c = search needs
+halves-requires-3 : tie.Need-halves-requires-3
+halves-requires-3 c κs = search needs
 
-mul-b : tie.Need-mul-b
-mul-b c = search needs
-
-mul-b-2 : tie.Need-mul-b-2
-mul-b-2 c = search needs
-
-add-b : tie.Need-add-b
-add-b c = search needs
-
-mul-c : tie.Need-mul-c
-mul-c c = search needs
-
-mul-c-2 : tie.Need-mul-c-2
-mul-c-2 c = search needs
-
-add-c : tie.Need-add-c
-add-c c = search needs
-
-mul-d : tie.Need-mul-d
-mul-d c = search needs
-
-mul-d-2 : tie.Need-mul-d-2
-mul-d-2 c = search needs
-
-add-d : tie.Need-add-d
-add-d c = search needs
+halves-requires-4 : tie.Need-halves-requires-4
+halves-requires-4 c κs = search needs
 
 mul-e : tie.Need-mul-e
 mul-e c = search needs
@@ -63,7 +39,7 @@ add-result-4 c = search needs
 
 returns : tie.Need-returns
 unfolding mix
-returns c = search needs
+returns c = rw ((c .before .before .before .halves) .ensures .0, (c .before .before .halves2) .ensures .0, (c .before .halves3) .ensures .0, (c .halves4) .ensures .0)
 
 pub mixed-spec : {M : Type 1} → statement M
-mixed-spec = tie.close (tie.spec mul-a mul-a-2 add-a mul-b mul-b-2 add-b mul-c mul-c-2 add-c mul-d mul-d-2 add-d mul-e mul-e-2 add-e add-result add-result-2 add-result-3 add-result-4 returns)
+mixed-spec = tie.close (tie.spec halves-requires halves-requires-2 halves-requires-3 halves-requires-4 mul-e mul-e-2 add-e add-result add-result-2 add-result-3 add-result-4 returns)

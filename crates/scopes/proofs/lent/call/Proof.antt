@@ -28,7 +28,7 @@ get-requires : tie.Need-get-requires
 get-requires c κs = search needs
 
 returns-3 : tie.Need-returns-3
-returns-3 c = call-get _ _ _ _ _ _ _ _ ((c .before .before .before .before .before .before .before .before .before .before .before .before .before .before .before .if1) .left) ((c .before .before .before .before .before .before .before .before .before .before .before .before .before .before .if2) .left) ((c .before .before .before .before .before .before .before .before .before .before .before .before .before .kind-of) .ensures) ((c .before .before .before .before .before .before .before .before .before .before .before .if3) .taken) ((c .before .asked) .ensures) ((c .get) .ensures)
+returns-3 c = call-get _ _ _ _ _ _ _ _ ((c .before .before .before .before .before .before .before .before .before .before .before .before .before .before .if1) .left) ((c .before .before .before .before .before .before .before .before .before .before .before .before .before .if2) .left) ((c .before .before .before .before .before .before .before .before .before .before .before .before .kind-of) .ensures) ((c .before .before .before .before .before .before .before .before .before .before .if3) .taken) ((c .before .asked) .ensures) ((c .get) .ensures _)
 
 declare-requires : tie.Need-declare-requires
 declare-requires c κs = call-ready _ _ ((c .before .before .before .before .before .before .before .before .before .before .before .kind-of) .ensures) ((c .before .before .before .before .before .before .before .before .before .if3) .left)
