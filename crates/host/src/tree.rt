@@ -11,7 +11,6 @@ use crate::ROWS;
 use crate::TREE_CELLS;
 use crate::TREE_OPENED;
 use scopes::Answer;
-use scopes::Tree;
 
 fn wide(mark: u16) -> usize
     ensures { λ r. ⌜ r ≡ mark ⌝ }
@@ -243,64 +242,48 @@ pub extern "C" fn gontsamy_resolve_use(
 
 // The mark of the type of that name in the current module. Ruled out: the mark of one in an outer module; 43 where a use imported it.
 #[no_mangle]
-pub extern "C" fn gontsamy_get_alias(
-    opened: &[u16; TREE_OPENED],
-    cells: &[u16; TREE_CELLS],
-    visible: &[u8; ENTRIES],
-    scopes: &[u16; ENTRIES],
-    marks: &[u16; ENTRIES],
-    n0: &[u64; ENTRIES],
-    n1: &[u64; ENTRIES],
-    n2: &[u64; ENTRIES],
-    n3: &[u64; ENTRIES],
-    name: &[u8],
+pub extern "C" fn gontsamy_get_alias<'a>(
+    opened: &'a [u16; TREE_OPENED],
+    cells: &'a [u16; TREE_CELLS],
+    visible: &'a [u8; ENTRIES],
+    scopes: &'a [u16; ENTRIES],
+    marks: &'a [u16; ENTRIES],
+    n0: &'a [u64; ENTRIES],
+    n1: &'a [u64; ENTRIES],
+    n2: &'a [u64; ENTRIES],
+    n3: &'a [u64; ENTRIES],
+    name: &'a [u8],
     mark: &mut [usize],
 ) -> u8
     ensures { λ r. ⌜ FoundTold (packed-in (now (opened .entry)) (now (cells .entry)) (now (visible .entry)) (now (scopes .entry)) (now (marks .entry)) (now (n0 .entry)) (now (n1 .entry)) (now (n2 .entry)) (now (n3 .entry))) (gets-alias (now (name .entry))) (now (mark .entry)) r (now (mark .exit)) ⌝ }
 {
-    let tree = Tree {
-        opened: *opened,
-        cells: *cells,
-        visible: *visible,
-        scopes: *scopes,
-        marks: *marks,
-        n0: *n0,
-        n1: *n1,
-        n2: *n2,
-        n3: *n3,
-    };
-    tell_found(scopes::get_alias(tree, name), mark)
+    tell_found(
+        decision::decide::get(opened, cells, scopes, marks, n0, n1, n2, n3, name, 1),
+        mark,
+    )
 }
 
 // The mark of the function of that name in the current module. Ruled out: the mark of a type of that name.
 #[no_mangle]
-pub extern "C" fn gontsamy_get_function(
-    opened: &[u16; TREE_OPENED],
-    cells: &[u16; TREE_CELLS],
-    visible: &[u8; ENTRIES],
-    scopes: &[u16; ENTRIES],
-    marks: &[u16; ENTRIES],
-    n0: &[u64; ENTRIES],
-    n1: &[u64; ENTRIES],
-    n2: &[u64; ENTRIES],
-    n3: &[u64; ENTRIES],
-    name: &[u8],
+pub extern "C" fn gontsamy_get_function<'a>(
+    opened: &'a [u16; TREE_OPENED],
+    cells: &'a [u16; TREE_CELLS],
+    visible: &'a [u8; ENTRIES],
+    scopes: &'a [u16; ENTRIES],
+    marks: &'a [u16; ENTRIES],
+    n0: &'a [u64; ENTRIES],
+    n1: &'a [u64; ENTRIES],
+    n2: &'a [u64; ENTRIES],
+    n3: &'a [u64; ENTRIES],
+    name: &'a [u8],
     mark: &mut [usize],
 ) -> u8
     ensures { λ r. ⌜ FoundTold (packed-in (now (opened .entry)) (now (cells .entry)) (now (visible .entry)) (now (scopes .entry)) (now (marks .entry)) (now (n0 .entry)) (now (n1 .entry)) (now (n2 .entry)) (now (n3 .entry))) (gets-function (now (name .entry))) (now (mark .entry)) r (now (mark .exit)) ⌝ }
 {
-    let tree = Tree {
-        opened: *opened,
-        cells: *cells,
-        visible: *visible,
-        scopes: *scopes,
-        marks: *marks,
-        n0: *n0,
-        n1: *n1,
-        n2: *n2,
-        n3: *n3,
-    };
-    tell_found(scopes::get_function(tree, name), mark)
+    tell_found(
+        decision::decide::get(opened, cells, scopes, marks, n0, n1, n2, n3, name, 2),
+        mark,
+    )
 }
 
 // A tree's entries in `rows`, ROW numbers each, and how many they are in `count`. 14 where `rows` is shorter than ROWS, and 51 where the

@@ -2,10 +2,11 @@ use borrow.Author.Needs.{needs}
 use native.Mathlib.Omega.{arith}
 use Rattle.host.proofs.tree.gontsamy_get_alias.Statement.{statement}
 use Rattle.host.proofs.tree.gontsamy_get_alias.Tie as tie
+use Rattle.scopes.specs.Declares.{answers-alias}
 use Rattle.host.specs.TreeTold.{found-told}
 
-get-alias-requires : tie.Need-get-alias-requires
-get-alias-requires c κs = search needs
+get-requires : tie.Need-get-requires
+get-requires c κs = search needs
 
 tell-found-requires : tie.Need-tell-found-requires
 tell-found-requires c κs = search needs
@@ -14,7 +15,7 @@ same-length : tie.Need-same-length
 same-length c = search needs
 
 returns : tie.Need-returns
-returns c = found-told ((c .before .before .before .before .get-alias) .ensures) ((c .before .before .tell-found) .ensures .0) ((c .before .before .tell-found) .ensures .1)
+returns c = found-told (answers-alias _ _ _ ((c .before .before .before .before .get) .ensures ((c .before .before .before .before .before .before .before .args) .visible .now))) ((c .before .before .tell-found) .ensures .0) ((c .before .before .tell-found) .ensures .1)
 
 pub gontsamy-get-alias-spec : {M : Type 1} → statement M
-gontsamy-get-alias-spec = tie.close (tie.spec get-alias-requires tell-found-requires same-length returns)
+gontsamy-get-alias-spec = tie.close (tie.spec get-requires tell-found-requires same-length returns)

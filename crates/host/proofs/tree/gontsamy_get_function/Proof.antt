@@ -2,10 +2,11 @@ use borrow.Author.Needs.{needs}
 use native.Mathlib.Omega.{arith}
 use Rattle.host.proofs.tree.gontsamy_get_function.Statement.{statement}
 use Rattle.host.proofs.tree.gontsamy_get_function.Tie as tie
+use Rattle.scopes.specs.Declares.{answers-function}
 use Rattle.host.specs.TreeTold.{found-told}
 
-get-function-requires : tie.Need-get-function-requires
-get-function-requires c κs = search needs
+get-requires : tie.Need-get-requires
+get-requires c κs = search needs
 
 tell-found-requires : tie.Need-tell-found-requires
 tell-found-requires c κs = search needs
@@ -14,7 +15,7 @@ same-length : tie.Need-same-length
 same-length c = search needs
 
 returns : tie.Need-returns
-returns c = found-told ((c .before .before .before .before .get-function) .ensures) ((c .before .before .tell-found) .ensures .0) ((c .before .before .tell-found) .ensures .1)
+returns c = found-told (answers-function _ _ _ ((c .before .before .before .before .get) .ensures ((c .before .before .before .before .before .before .before .args) .visible .now))) ((c .before .before .tell-found) .ensures .0) ((c .before .before .tell-found) .ensures .1)
 
 pub gontsamy-get-function-spec : {M : Type 1} → statement M
-gontsamy-get-function-spec = tie.close (tie.spec get-function-requires tell-found-requires same-length returns)
+gontsamy-get-function-spec = tie.close (tie.spec get-requires tell-found-requires same-length returns)
