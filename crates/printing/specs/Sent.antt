@@ -35,10 +35,14 @@ sent-whole s o o₁ r room x =
     let n : r ≡ length w = x .1 ∙ a .1 in
     ap (take r) e ∙ (take-append-le r w (drop (length w) o) (omega arith) ∙ take-all r w (omega arith))
 
+-- the same of a buffer of that length
+sent-of-size : (s : List ℕ) → Bytes s → (o o₁ : List ℕ) (r : ℕ) → length o ≡ text-size → Shows (reading-lines (read (take read-size s))) o o₁ r → take r o₁ ≡ printed s
+sent-of-size s B o o₁ r l x =
+    sent-whole s o o₁ r
+    (omega (arith, printed-fits s B))
+    (subst (λ (z : Reading). Shows (reading-lines z) o o₁ r) (read-enough s B read-size (omega arith)) x)
+
 -- THE PROGRAM: of a file of whatever bytes it reads the first read-size, and its buffer has text-size. What it sends is all that
 -- is printed of the file
 pub program-sends : (s : List ℕ) → Bytes s → (o₁ : List ℕ) (r : ℕ) → Shows (reading-lines (read (take read-size s))) (replicate text-size 0) o₁ r → take r o₁ ≡ printed s
-program-sends s B o₁ r x =
-    sent-whole s (replicate text-size 0) o₁ r
-    (omega (arith, printed-fits s B, length-replicate {A = ℕ} text-size 0))
-    (subst (λ (z : Reading). Shows (reading-lines z) (replicate text-size 0) o₁ r) (read-enough s B read-size (omega arith)) x)
+program-sends s B o₁ r x = sent-of-size s B (replicate text-size 0) o₁ r (length-replicate {A = ℕ} text-size 0) x

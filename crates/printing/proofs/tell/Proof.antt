@@ -18,13 +18,13 @@ slice-aggregate-link-new-2 : tie.Need-slice-aggregate-link-new-2
 slice-aggregate-link-new-2 c = search needs
 
 link-new-requires : tie.Need-link-new-requires
-link-new-requires c κs = search needs
+link-new-requires c κs = tt
 
 put-units-requires : tie.Need-put-units-requires
-put-units-requires c κs = search needs
+put-units-requires c κs = tt
 
 put-tree-requires : tie.Need-put-tree-requires
-put-tree-requires c κs = search needs
+put-tree-requires c κs = tt
 
 same-length : tie.Need-same-length
 same-length c = search needs
@@ -36,7 +36,7 @@ slice-aggregate-put-report : tie.Need-slice-aggregate-put-report
 slice-aggregate-put-report c = search needs
 
 put-report-requires : tie.Need-put-report-requires
-put-report-requires c κs = search needs
+put-report-requires c κs = tt
 
 same-length-2 : tie.Need-same-length-2
 same-length-2 c = search needs
@@ -45,10 +45,10 @@ returns-2 : tie.Need-returns-2
 returns-2 c = tell-report (now ((c .before .before .before .before .before .before .before .before .before .before .before .before .before .before .before .args) .s)) (replicate 4096 0) (replicate 65538 0) cleared ((c .before .before .before .before .before .before .before .before .before .before .link-new) .result .answer) ((c .before .before .before .before .before .before .before .before .before .before .link-new) .ensures .0) (now ((c .before .before .before .before .before .before .before .before .before .before .before .before .before .before .before .args) .out)) ((c .before .before .before .before .before .before .if1) .left) ((c .before .before .before .before .before .if2) .taken) ((c .before .before .before .before .before .before .before .before .before .before .link-new) .last .1 .0) ((c .before .before .before .before .before .before .before .before .before .before .link-new) .ensures .1 .0) ((c .before .before .put-report) .last .0) ((c .before .before .put-report) .result) ((c .before .before .put-report) .ensures) (reading-lines (read (now ((c .before .before .before .before .before .before .before .before .before .before .before .before .before .before .before .args) .s)))) (answer-lines (now ((c .before .before .before .before .before .before .before .before .before .before .before .before .before .before .before .args) .s)) (λ i. omega (arith, (c .before .before .before .before .before .before .before .before .before .before .before .before .before .before .shared-slice-known) .given i)))
 
 wide-requires : tie.Need-wide-requires
-wide-requires c κs = search needs
+wide-requires c κs = tt
 
 put-no-requires : tie.Need-put-no-requires
-put-no-requires c κs = search needs
+put-no-requires c κs = tt
 
 same-length-3 : tie.Need-same-length-3
 same-length-3 c = search needs

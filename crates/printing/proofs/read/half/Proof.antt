@@ -16,7 +16,7 @@ shared-slice-read-long : tie.Need-shared-slice-read-long
 shared-slice-read-long c = search needs
 
 long-requires : tie.Need-long-requires
-long-requires c κs = search needs
+long-requires c κs = tt
 
 returns : tie.Need-returns
 returns c = search needs

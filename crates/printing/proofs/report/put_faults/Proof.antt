@@ -25,7 +25,7 @@ mul-byte : tie.Need-mul-byte Inv-loop μ-loop
 mul-byte c = search needs
 
 byte-requires : tie.Need-byte-requires Inv-loop μ-loop
-byte-requires c κs = search needs
+byte-requires c κs = tt
 
 mul-byte-2 : tie.Need-mul-byte-2 Inv-loop μ-loop
 mul-byte-2 c = search needs
@@ -34,7 +34,7 @@ add-byte : tie.Need-add-byte Inv-loop μ-loop
 add-byte c = search needs
 
 byte-requires-2 : tie.Need-byte-requires-2 Inv-loop μ-loop
-byte-requires-2 c κs = search needs
+byte-requires-2 c κs = tt
 
 mul-p : tie.Need-mul-p Inv-loop μ-loop
 mul-p c = search needs
@@ -46,13 +46,13 @@ add-byte-2 : tie.Need-add-byte-2 Inv-loop μ-loop
 add-byte-2 c = search needs
 
 byte-requires-3 : tie.Need-byte-requires-3 Inv-loop μ-loop
-byte-requires-3 c κs = search needs
+byte-requires-3 c κs = tt
 
 add-p : tie.Need-add-p Inv-loop μ-loop
 add-p c = search needs
 
 put-no-requires : tie.Need-put-no-requires Inv-loop μ-loop
-put-no-requires c κs = search needs
+put-no-requires c κs = tt
 
 add-i : tie.Need-add-i Inv-loop μ-loop
 add-i c = search needs

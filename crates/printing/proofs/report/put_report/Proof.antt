@@ -12,10 +12,10 @@ use Rattle.printing.proofs.report.put_faults.Reads as put-faults-reads
 use Rattle.printing.proofs.report.put_ring.Reads as put-ring-reads
 
 byte-requires : tie.Need-byte-requires
-byte-requires c κs = search needs
+byte-requires c κs = tt
 
 put-ring-requires : tie.Need-put-ring-requires
-put-ring-requires c κs = search needs
+put-ring-requires c κs = tt
 
 same-length : tie.Need-same-length
 same-length c = search needs

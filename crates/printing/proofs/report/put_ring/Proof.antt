@@ -11,19 +11,19 @@ use Rattle.text.proofs.put_bytes.Reads as put-bytes-reads
 use Rattle.text.proofs.put_no.Reads as put-no-reads
 
 put-no-requires : tie.Need-put-no-requires
-put-no-requires c κs = search needs
+put-no-requires c κs = tt
 
 slice-aggregate-put-bytes : tie.Need-slice-aggregate-put-bytes
 slice-aggregate-put-bytes c = search needs
 
 put-bytes-requires : tie.Need-put-bytes-requires
-put-bytes-requires c κs = search needs
+put-bytes-requires c κs = tt
 
 put-ids-requires : tie.Need-put-ids-requires
-put-ids-requires c κs = search needs
+put-ids-requires c κs = tt
 
 put-requires : tie.Need-put-requires
-put-requires c κs = search needs
+put-requires c κs = tt
 
 same-length : tie.Need-same-length
 same-length c = search needs

@@ -20,7 +20,7 @@ loop-holds : tie.Need-loop-holds Inv-loop μ-loop
 loop-holds c = (omega arith, around-start (now ((c .before .args) .scopes)) ((c .before .args) .count) ((c .before .args) .s))
 
 parent-requires : tie.Need-parent-requires Inv-loop μ-loop
-parent-requires c κs = search needs
+parent-requires c κs = tt
 
 add-i : tie.Need-add-i Inv-loop μ-loop
 add-i c = search needs

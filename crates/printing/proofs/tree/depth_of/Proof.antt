@@ -23,7 +23,7 @@ returns : tie.Need-returns Inv-loop μ-loop
 returns c = depth-root (now ((c .before .before .before .before .args) .scopes)) ((c .before .before .before .before .args) .count) ((c .before .before .before .before .args) .s) ((c .before .before .loop) .at) ((c .before .before .loop) .d) ((c .before .before .loop) .inv .0) ((c .before .before .loop) .inv .1) ((c .if1) .taken)
 
 parent-requires : tie.Need-parent-requires Inv-loop μ-loop
-parent-requires c κs = search needs
+parent-requires c κs = tt
 
 add-d : tie.Need-add-d Inv-loop μ-loop
 add-d c = search needs

@@ -16,7 +16,7 @@ sub-e : tie.Need-sub-e
 sub-e c = search needs
 
 half-requires : tie.Need-half-requires
-half-requires c κs = search needs
+half-requires c κs = tt
 
 returns-2 : tie.Need-returns-2
 returns-2 c = (c .half) .ensures .0 ∙ parent-there (now ((c .before .before .before .before .args) .scopes)) ((c .before .before .before .before .args) .count) ((c .before .before .before .before .args) .s) ((c .before .before .if1) .left) ((c .before .if2) .taken)

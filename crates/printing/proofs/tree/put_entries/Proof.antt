@@ -22,7 +22,7 @@ loop-holds : tie.Need-loop-holds Inv-loop μ-loop
 loop-holds c = entries-none ((c .before .before .before .before .before .before .before .args) .count) (now ((c .before .before .before .before .before .before .before .args) .scopes)) (part 0 (now ((c .before .before .before .before .before .before .before .args) .cells))) (now ((c .before .before .before .before .before .before .before .args) .marks)) (now ((c .before .before .before .before .before .before .before .args) .n0)) (now ((c .before .before .before .before .before .before .before .args) .n1)) (now ((c .before .before .before .before .before .before .before .args) .n2)) (now ((c .before .before .before .before .before .before .before .args) .n3)) (now ((c .before .before .before .before .before .before .before .args) .out)) ((c .before .before .before .before .before .before .before .args) .at)
 
 put-entry-requires : tie.Need-put-entry-requires Inv-loop μ-loop
-put-entry-requires c κs = search needs
+put-entry-requires c κs = tt
 
 add-i : tie.Need-add-i Inv-loop μ-loop
 add-i c = search needs

@@ -15,7 +15,7 @@ use Rattle.printing.proofs.tree.put_shows.Reads as put-shows-reads
 use Rattle.text.proofs.put_bytes.Reads as put-bytes-reads
 
 half-requires : tie.Need-half-requires
-half-requires c κs = search needs
+half-requires c κs = tt
 
 returns : tie.Need-returns
 returns c = λ l x h. entry-unit l ((c .before .before .before .before .before .before .before .before .before .args) .count) (now ((c .before .before .before .before .before .before .before .before .before .args) .scopes)) (part 0 (now ((c .before .before .before .before .before .before .before .before .before .args) .cells))) (now ((c .before .before .before .before .before .before .before .before .before .args) .marks)) (now ((c .before .before .before .before .before .before .before .before .before .args) .n0)) (now ((c .before .before .before .before .before .before .before .before .before .args) .n1)) (now ((c .before .before .before .before .before .before .before .before .before .args) .n2)) (now ((c .before .before .before .before .before .before .before .before .before .args) .n3)) x ((c .before .before .before .before .before .before .before .before .before .args) .i) h ((c .before .half) .result) ((c .before .half) .ensures .0) ((c .if1) .taken) (now ((c .before .before .before .before .before .before .before .before .before .args) .out)) ((c .before .before .before .before .before .before .before .before .before .args) .at)
@@ -24,34 +24,34 @@ slice-aggregate-put-bytes : tie.Need-slice-aggregate-put-bytes
 slice-aggregate-put-bytes c = search needs
 
 put-bytes-requires : tie.Need-put-bytes-requires
-put-bytes-requires c κs = search needs
+put-bytes-requires c κs = tt
 
 put-module-requires : tie.Need-put-module-requires
-put-module-requires c κs = search needs
+put-module-requires c κs = tt
 
 kind-at-requires : tie.Need-kind-at-requires
-kind-at-requires c κs = search needs
+kind-at-requires c κs = tt
 
 cast-put-shows : tie.Need-cast-put-shows
 cast-put-shows c = search needs
 
 word-requires : tie.Need-word-requires
-word-requires c κs = search needs
+word-requires c κs = tt
 
 word-requires-2 : tie.Need-word-requires-2
-word-requires-2 c κs = search needs
+word-requires-2 c κs = tt
 
 word-requires-3 : tie.Need-word-requires-3
-word-requires-3 c κs = search needs
+word-requires-3 c κs = tt
 
 word-requires-4 : tie.Need-word-requires-4
-word-requires-4 c κs = search needs
+word-requires-4 c κs = tt
 
 half-requires-2 : tie.Need-half-requires-2
-half-requires-2 c κs = search needs
+half-requires-2 c κs = tt
 
 put-shows-requires : tie.Need-put-shows-requires
-put-shows-requires c κs = search needs
+put-shows-requires c κs = tt
 
 same-length : tie.Need-same-length
 same-length c = search needs

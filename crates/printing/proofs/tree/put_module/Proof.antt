@@ -25,10 +25,10 @@ slice-aggregate-put-bytes : tie.Need-slice-aggregate-put-bytes Inv-loop μ-loop
 slice-aggregate-put-bytes c = search needs
 
 put-bytes-requires : tie.Need-put-bytes-requires Inv-loop μ-loop
-put-bytes-requires c κs = search needs
+put-bytes-requires c κs = tt
 
 depth-of-requires : tie.Need-depth-of-requires Inv-loop μ-loop
-depth-of-requires c κs = search needs
+depth-of-requires c κs = tt
 
 loop-holds : tie.Need-loop-holds Inv-loop μ-loop
 loop-holds c = λ o a p. path-begin ((c .before .before .before .before .before .before .before .before .before .before .before .before .args) .count) (now ((c .before .before .before .before .before .before .before .before .before .before .before .before .args) .scopes)) (now ((c .before .before .before .before .before .before .before .before .before .before .before .before .args) .n0)) (now ((c .before .before .before .before .before .before .before .before .before .before .before .before .args) .n1)) (now ((c .before .before .before .before .before .before .before .before .before .before .before .before .args) .n2)) (now ((c .before .before .before .before .before .before .before .before .before .before .before .before .args) .n3)) ((c .before .before .before .before .before .before .before .before .before .before .before .before .args) .s) ((c .depth-of) .result) ((c .depth-of) .ensures) o a ((c .before .before .before .put-bytes) .last .0) ((c .before .before .before .put-bytes) .result) p
@@ -37,10 +37,10 @@ sub-k : tie.Need-sub-k Inv-loop μ-loop
 sub-k c = search needs
 
 around-requires : tie.Need-around-requires Inv-loop μ-loop
-around-requires c κs = search needs
+around-requires c κs = tt
 
 put-step-requires : tie.Need-put-step-requires Inv-loop μ-loop
-put-step-requires c κs = search needs
+put-step-requires c κs = tt
 
 loop-less : tie.Need-loop-less Inv-loop μ-loop
 loop-less c = search needs

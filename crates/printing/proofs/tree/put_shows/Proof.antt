@@ -10,25 +10,25 @@ use Rattle.text.proofs.put_decimal.Reads as put-decimal-reads
 use Rattle.text.proofs.put_name.Reads as put-name-reads
 
 put-requires : tie.Need-put-requires
-put-requires c κs = search needs
+put-requires c κs = tt
 
 put-decimal-requires : tie.Need-put-decimal-requires
-put-decimal-requires c κs = search needs
+put-decimal-requires c κs = tt
 
 put-requires-2 : tie.Need-put-requires-2
-put-requires-2 c κs = search needs
+put-requires-2 c κs = tt
 
 put-name-requires : tie.Need-put-name-requires
-put-name-requires c κs = search needs
+put-name-requires c κs = tt
 
 put-requires-3 : tie.Need-put-requires-3
-put-requires-3 c κs = search needs
+put-requires-3 c κs = tt
 
 put-decimal-requires-2 : tie.Need-put-decimal-requires-2
-put-decimal-requires-2 c κs = search needs
+put-decimal-requires-2 c κs = tt
 
 put-requires-4 : tie.Need-put-requires-4
-put-requires-4 c κs = search needs
+put-requires-4 c κs = tt
 
 same-length : tie.Need-same-length
 same-length c = search needs

@@ -10,10 +10,10 @@ use Rattle.printing.proofs.tree.put_tree.Lts as lts
 use Rattle.printing.proofs.tree.put_entries.Reads as put-entries-reads
 
 count-of-requires : tie.Need-count-of-requires
-count-of-requires c κs = search needs
+count-of-requires c κs = tt
 
 put-entries-requires : tie.Need-put-entries-requires
-put-entries-requires c κs = search needs
+put-entries-requires c κs = tt
 
 same-length : tie.Need-same-length
 same-length c = search needs

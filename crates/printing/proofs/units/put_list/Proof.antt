@@ -22,10 +22,10 @@ loop-holds : tie.Need-loop-holds Inv-loop μ-loop
 loop-holds c = units-none (now ((c .before .before .before .before .args) .s)) (now ((c .before .before .before .before .args) .files)) (now ((c .before .before .before .before .args) .ids)) ((c .before .before .before .before .args) .units) (now ((c .before .before .before .before .args) .out)) ((c .before .before .before .before .args) .at)
 
 half-requires : tie.Need-half-requires Inv-loop μ-loop
-half-requires c κs = search needs
+half-requires c κs = tt
 
 put-unit-requires : tie.Need-put-unit-requires Inv-loop μ-loop
-put-unit-requires c κs = search needs
+put-unit-requires c κs = tt
 
 add-i : tie.Need-add-i Inv-loop μ-loop
 add-i c = search needs

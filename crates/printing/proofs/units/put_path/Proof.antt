@@ -19,7 +19,7 @@ file-path-requires : tie.Need-file-path-requires
 file-path-requires c κs = search needs
 
 put-bytes-requires : tie.Need-put-bytes-requires
-put-bytes-requires c κs = search needs
+put-bytes-requires c κs = tt
 
 same-length : tie.Need-same-length
 same-length c = search needs
