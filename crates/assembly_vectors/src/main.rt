@@ -20,7 +20,7 @@ fn tell_hex(s: &[u8]) {
 fn tell(s: &[u8]) {
     let mut report = [0u8; 4096];
     let mut image = [0u8; SIZE];
-    let a = assembly::assemble(s, &mut report, &mut image);
+    let a = program::assemble(s, &mut report, &mut image);
     if a.number != 0 {
         lines::tell_refusal(a.number, a.place);
         return;

@@ -99,7 +99,7 @@ pub extern "C" fn steps_assemble(
     ensures { λ r. ⌜ now (image .exit) ≡ assembleImage (now (s .entry)) (now (image .entry)) ⌝ }
     ensures { λ r. ⌜ now (out .exit) ≡ assembleTold (assembleAnswer (now (s .entry)) (now (report .entry)) (now (image .entry))) (now (out .entry)) ⌝ }
 {
-    let a = assembly::assemble(s, report, image);
+    let a = program::assemble(s, report, image);
     let number = a.number;
     if number != 0 {
         tell(out, 0, a.place);

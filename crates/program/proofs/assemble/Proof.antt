@@ -1,12 +1,12 @@
 use borrow.Author.Needs.{needs}
 use native.Mathlib.Omega.{arith}
-use Rattle.assembly.proofs.assemble.Statement.{statement}
-use Rattle.assembly.proofs.assemble.Tie as tie
+use Rattle.program.proofs.assemble.Statement.{statement}
+use Rattle.program.proofs.assemble.Tie as tie
 use mathlib.Core.Path.{_≡_, sym, _∙_}
 use denote.Ref.{now}
 use Rattle.discovery.specs.Places.{fresh}
 use Rattle.assembly.specs.GivenLaws.{known-linked}
 use Rattle.assembly.specs.Join.{no-units, units-linked, faults-told, image-told}
 
 order-known-requires : tie.Need-order-known-requires
 order-known-requires c κs = fresh
