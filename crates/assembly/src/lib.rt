@@ -1,18 +1,17 @@
-// The parts of step 5 of document 01, `assemble_program`, and the image. The functions have the names of resolve_order.rs.
-mod answers;
+// Step 5 of document 01, `assemble_program`: its faults, and the items of the program with their length and their bytes. The functions have the names of resolve_order.rs.
 mod checks;
 mod enums;
-mod image;
 mod lengths;
 mod targets;
 mod units;
 mod writing;
 
-pub use answers::with_image;
 pub use checks::report_faults;
-pub use image::write_image;
+pub use lengths::LIMIT;
+pub use lengths::program_length;
 pub use units::unit_items;
 pub use writing::rewrite_use;
+pub use writing::write_program;
 
 // What a use's path becomes: `crate`, the name of a unit, and the last so many segments; or no segment, where it fails.
 pub enum Target {

@@ -186,8 +186,8 @@ pub fn link_units<'a>(
     if number != 0 {
         return told(order::refuse(number, place));
     }
-    let written = assembly::write_image(s, files, ids, units, image);
-    let answer = assembly::with_image(a, written);
+    let written = program::write_image(s, files, ids, units, image);
+    let answer = program::with_image(a, written);
     match written {
         Imaged::Refused(_, _) => told(answer),
         Imaged::Image(_) => Linked {

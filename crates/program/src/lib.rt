@@ -1,4 +1,9 @@
-// From bytes to an assembled program: steps 1 to 5 of document 01 and the image as one operation, without step 6.
+// The image of an assembled program; and from bytes to an image, steps 1 to 5 of document 01 as one operation, without step 6.
+mod answers;
+mod image;
+
+pub use answers::with_image;
+pub use image::write_image;
 ghost use mathlib.Core.Path.{_≡_};
 ghost use Rattle.assembly.specs.Call.{assembleAnswer, assembleReport, assembleImage};
 use discovery::known::KNOWN;
@@ -26,6 +31,6 @@ pub fn assemble(s: &[u8], report: &mut [u8], image: &mut [u8]) -> Answer
     if order::tells(told) {
         return order::report_told(told);
     }
-    let written = assembly::write_image(s, &known, &ids, units, image);
-    assembly::with_image(a, written)
+    let written = image::write_image(s, &known, &ids, units, image);
+    answers::with_image(a, written)
 }

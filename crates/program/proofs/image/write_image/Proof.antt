@@ -6,11 +6,11 @@ use lib.ListN.{length, take}
 use denote.Ref.{now}
 use borrow.Author.Needs.{needs}
 use Rattle.bundle.specs.Decode.{decode}
 use Rattle.assembly.specs.Image.{length-cap}
 use Rattle.assembly.specs.WholeImage.{too-long, too-small, all-written}
 use Rattle.assembly.specs.Given.{programBytes}
-use Rattle.assembly.proofs.image.write_image.Statement.{statement}
-use Rattle.assembly.proofs.image.write_image.Tie as tie
+use Rattle.program.proofs.image.write_image.Statement.{statement}
+use Rattle.program.proofs.image.write_image.Tie as tie
 
 program-length-requires : tie.Need-program-length-requires
 program-length-requires c κs = search needs

@@ -1,8 +1,8 @@
 -- `with_image` meets its contract. Assumes nothing.
 use mathlib.Core.Path.{refl}
 use borrow.Author.Needs.{needs}
-use Rattle.assembly.proofs.answers.with_image.Statement.{statement}
-use Rattle.assembly.proofs.answers.with_image.Tie as tie
+use Rattle.program.proofs.answers.with_image.Statement.{statement}
+use Rattle.program.proofs.answers.with_image.Tie as tie
 
 enum-known-r : tie.Need-enum-known-r
 enum-known-r c = search needs

@@ -1,7 +1,7 @@
 // The answer with an image.
 ghost use mathlib.Core.Path.{_≡_};
 ghost use Rattle.assembly.specs.Call.{imagedTo};
-use crate::Imaged;
+use assembly::Imaged;
 use order::Answer;
 use order::refuse;
 
