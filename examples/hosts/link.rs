@@ -21,6 +21,7 @@ fn main() -> ExitCode {
     let mut buffers = Box::new(Buffers::new());
     match link(&bundle, &mut buffers) {
         Ok(linked) => {
+            println!("ok {}", linked.units().count());
             for unit in linked.units() {
                 println!("unit {} {}", unit.id, String::from_utf8_lossy(unit.path));
             }
@@ -32,12 +33,14 @@ fn main() -> ExitCode {
             ExitCode::SUCCESS
         }
         Err(Refusal::At(number, place)) => {
-            println!("{number} at {place}");
+            println!("no {} {place}", number.0);
+            eprintln!("{number}");
             ExitCode::FAILURE
         }
         Err(Refusal::Report(records)) => {
             for record in records {
-                println!("{} at {} {:?}", record.number, record.place, record.ring);
+                println!("no {} {}", record.number.0, record.place);
+                eprintln!("{} {:?}", record.number, record.ring);
             }
             ExitCode::FAILURE
         }

@@ -2,29 +2,19 @@
 use Prim.Native.Nat.{ℕ, suc, _+_, _*_, _≤_, _<_}
 use native.Mathlib.Omega.{arith}
 use native.Mathlib.Numerals.{add-one}
-use mathlib.Core.Path.{_≡_, refl, sym, ap, _∙_, subst}
+use mathlib.Core.Path.{_≡_, refl, sym, ap, _∙_}
 use mathlib.Core.Bool.{Bool, true, false, cond}
 use mathlib.Core.List.{List, [], _∷_, _++_}
 use lib.Dec.{leb, ltb}
-use lib.ListN.{length, set, take, drop, getD, length-append}
+use lib.ListN.{length, set, take, drop, length-append}
 use lib.Seq.{sets, sets-eq, set-out}
 use borrow.Author.Tests.{le-leb, lt-leb, ltb-false}
-use Rattle.bundle.specs.Read.{Reading, value, refused, read}
-use Rattle.assembly.specs.Image.{imaging}
-use Rattle.assembly.specs.declared.Imaged.{Imaged}
-use Rattle.assembly.specs.declared.Imaged.the-variants as imaged
 use Rattle.order.specs.declared.Answer.{Answer}
-use Rattle.scope_tree.specs.declared.Tree.{Tree}
-use Rattle.scope_tree.specs.Flat.{Flat, Entry}
-use Rattle.scope_tree.specs.Rows.{length-tab}
-use Rattle.scope_tree.specs.Views.{rows as row-of}
-use Rattle.scope_tree.specs.Trees.{view, cleared, flat-of}
-use Rattle.scopes.specs.Runs.{first-is, first-good}
-use Rattle.scopes_c.specs.Lists.{put-at, written}
-use Rattle.scopes_c.specs.TreeRows.{numbers, all-numbers, Listed}
-use Rattle.linker.specs.Link.{Outcome, faulty, closed, ended, result, linkBundle}
-use Rattle.linker.specs.Call.{linkAnswer, linkReport, linkImage, TreeWith, TreeAfter, TreeTo, LinkTree}
-use Rattle.host.specs.LinkTold.{answer-length, rows-length, roomy, entriesWith, entriesAfter, entriesTo, linkEntries, answerOf, rowsOf, numberTold, reportTold, imageTold, answerTold, rowsTold}
+use Rattle.scope_tree.specs.Flat.{Entry}
+use Rattle.rows.specs.Written.{put-at, written}
+use Rattle.rows.specs.TreeRows.{numbers, all-numbers, Listed}
+use Rattle.linker.specs.Call.{linkAnswer, linkReport, linkImage, linkEntries}
+use Rattle.host.specs.LinkTold.{answer-length, rows-length, roomy, answerOf, rowsOf, numberTold, reportTold, imageTold, answerTold, rowsTold}
 
 -- STORES within what is lent
 written-sets : (o : List ℕ) (i : ℕ) (xs : List ℕ) → written o i xs ≡ sets o i xs
@@ -47,37 +37,6 @@ rows-whole es l h k =
     let b : 0 + length (all-numbers es) ≤ length l = omega (arith, n) in
     let e : 0 + length (all-numbers es) ≡ 11 * length es = omega (arith, n) in
     written-sets l 0 (all-numbers es) ∙ sets-eq (all-numbers es) l 0 b ∙ ap (λ (j : ℕ). all-numbers es ++ drop j l) e
-
--- THE ENTRIES of the record that comes back
-pub record Comes (es : List Entry) (u : Tree) : Type 0 where
-  pub small : getD (u .opened) 9 0 ≤ 1024
-  pub are : flat-of u .entries ≡ es
-
-module _ (u : Tree) where
-  kept : u ≡ cleared → Comes [] u
-  kept e =
-      record {
-        small = subst (λ (t : Tree). getD (t .opened) 9 0 ≤ 1024) (sym e) (first-good .good .small);
-        are = ap (λ (t : Tree). flat-of t .entries) e ∙ ap (λ (x : Flat). x .entries) first-is;
-      }
-
-  comes-with : (i : Imaged) (x : Flat) → TreeWith i x cleared u → Comes (entriesWith i x) u
-  comes-with (imaged.Image n) x h = record { small = h .good .good .small; are = ap (λ (y : Flat). y .entries) (h .is) }
-  comes-with (imaged.Refused n p) x h = kept h
-
-  comes-after : (m : ℕ) (o : Outcome) → TreeAfter m o cleared u → Comes (entriesAfter m o) u
-  comes-after m (faulty l) h = kept h
-  comes-after m (closed r) h = kept h
-  comes-after m (ended n p) h = kept h
-  comes-after m (result q) h = comes-with (imaging (q .items) m) (q .tree) h
-
-  comes-to : (r : Reading) (m : ℕ) → TreeTo r m cleared u → Comes (entriesTo r m) u
-  comes-to (refused k p) m h = kept h
-  comes-to (value b) m h = comes-after m (linkBundle b) h
-
-  pub comes : (s image : List ℕ) → LinkTree s image cleared u → Comes (linkEntries s image) u
-  unfolding LinkTree linkEntries
-  comes s image h = comes-to (read s) (length image) h
 
 -- AS THE CODE HAS IT
 pub answer-laid : (a : Answer) (n : ℕ) (l m₁ m₂ m₃ m₄ m₅ m₆ m₇ : List ℕ) → m₁ ≡ set l 0 (a .place) → m₂ ≡ set m₁ 1 (a .report) → m₃ ≡ set m₂ 2 (a .units) → m₄ ≡ set m₃ 3 (a .image)
@@ -108,14 +67,13 @@ module _ (s report image answer rows : List ℕ) where
       go true = lt-leb rows-length (length rows) h
       go false = refl
 
-  pub told : answer-length ≤ length answer → rows-length ≤ length rows → (u : Tree) → LinkTree s image cleared u → (a : Answer) → a ≡ linkAnswer s report image
-      → (report′ image′ answer′ rows′ : List ℕ) → report′ ≡ linkReport s report → image′ ≡ linkImage s image → (n : ℕ) → Listed (flat-of u .entries) rows n rows′ → answer′ ≡ answerOf a n answer
+  pub told : answer-length ≤ length answer → rows-length ≤ length rows → (a : Answer) → a ≡ linkAnswer s report image
+      → (report′ image′ answer′ rows′ : List ℕ) → report′ ≡ linkReport s report → image′ ≡ linkImage s image → (n : ℕ) → Listed (linkEntries s image) rows n rows′ × (n ≤ 1024) → answer′ ≡ answerOf a n answer
       → Told (a .number) report′ image′ answer′ rows′
   unfolding numberTold reportTold imageTold answerTold rowsTold
-  told h k u w a aq report′ image′ answer′ rows′ rq iq n l q =
-      let c = comes u s image w in
-      let b : length (linkEntries s image) ≤ 1024 = subst (λ (es : List Entry). length es ≤ 1024) (c .are) (rw (length-tab (row-of (view u)) (getD (u .opened) 9 0)) (c .small)) in
+  told h k a aq report′ image′ answer′ rows′ rq iq n (l, b) q =
       let z : roomy answer rows ≡ true = rw (le-leb answer-length (length answer) h) (le-leb rows-length (length rows) k) in
+      let f : length (linkEntries s image) ≤ 1024 = omega (arith, l .count, b) in
       rw z (
         ap (λ (x : Answer). x .number) aq,
         (
@@ -123,8 +81,8 @@ module _ (s report image answer rows : List ℕ) where
           (
             iq,
             (
-              q ∙ ap (λ (x : Answer). answerOf x n answer) aq ∙ ap (λ (m : ℕ). answerOf (linkAnswer s report image) m answer) (l .count ∙ ap length (c .are)),
-              l .out ∙ ap (λ (es : List Entry). written rows 0 (all-numbers es)) (c .are) ∙ rows-whole (linkEntries s image) rows b k,
+              q ∙ ap (λ (x : Answer). answerOf x n answer) aq ∙ ap (λ (m : ℕ). answerOf (linkAnswer s report image) m answer) (l .count),
+              l .out ∙ rows-whole (linkEntries s image) rows f k,
             ),
           ),
         ),

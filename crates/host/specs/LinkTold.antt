@@ -6,16 +6,11 @@ use lib.Dec.{leb}
 use lib.ListN.{length, take, drop}
 use lib.Seq.{sets}
 use Rattle.bundle.specs.Limits.{file-limit}
-use Rattle.bundle.specs.Read.{Reading, value, refused, read}
 use Rattle.order.specs.Report.{small-buffer}
-use Rattle.assembly.specs.Image.{imaging}
-use Rattle.assembly.specs.declared.Imaged.{Imaged}
-use Rattle.assembly.specs.declared.Imaged.the-variants as imaged
 use Rattle.order.specs.declared.Answer.{Answer}
-use Rattle.scope_tree.specs.Flat.{Flat, Entry}
-use Rattle.scopes_c.specs.TreeRows.{all-numbers}
-use Rattle.linker.specs.Link.{Outcome, faulty, closed, ended, result, linkBundle}
-use Rattle.linker.specs.Call.{linkAnswer, linkReport, linkImage}
+use Rattle.scope_tree.specs.Flat.{Entry}
+use Rattle.rows.specs.TreeRows.{all-numbers}
+use Rattle.linker.specs.Call.{linkAnswer, linkReport, linkImage, linkEntries}
 
 -- THE LAYOUT of the lent answer: a refusal's place, the report's length, how many units, the image's length, how many entries; then
 -- the units' files, and the ids in linked order
@@ -44,24 +39,6 @@ rows-length = row-length * entry-limit
 -- whether both are long enough
 abbrev pub roomy : List ℕ → List ℕ → Bool
 roomy answer rows = cond (leb answer-length (length answer)) (leb rows-length (length rows)) false
-
--- THE TREE'S ENTRIES: step 6's, where the bundle links and the image fits into a buffer of m bytes
-abbrev pub entriesWith : Imaged → Flat → List Entry
-entriesWith (imaged.Image n) x = x .entries
-entriesWith (imaged.Refused n p) x = []
-
-abbrev pub entriesAfter : ℕ → Outcome → List Entry
-entriesAfter m (faulty l) = []
-entriesAfter m (closed r) = []
-entriesAfter m (ended n p) = []
-entriesAfter m (result q) = entriesWith (imaging (q .items) m) (q .tree)
-
-abbrev pub entriesTo : Reading → ℕ → List Entry
-entriesTo (refused k p) m = []
-entriesTo (value b) m = entriesAfter m (linkBundle b)
-
-unfoldable pub linkEntries : List ℕ → List ℕ → List Entry
-linkEntries s image = entriesTo (read s) (length image)
 
 -- an answer and a count of entries as they are laid out; all other places as they were
 abbrev pub answerOf : Answer → ℕ → List ℕ → List ℕ

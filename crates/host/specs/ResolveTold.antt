@@ -1,29 +1,55 @@
--- How a resolution is told in numbers. Assumes nothing.
+-- How a verdict and a resolution are told in numbers. Assumes nothing.
 use Prim.Native.Nat.{ℕ}
-use mathlib.Core.Path.{_≡_, refl}
-use mathlib.Core.List.{List}
-use lib.ListN.{set}
+use mathlib.Core.Path.{_≡_, refl, sym, _∙_}
+use Rattle.bundle.specs.Read.{numberOf}
+use Rattle.bundle.specs.declared.Checked.{Checked}
+use Rattle.bundle.specs.declared.Checked.the-variants.{Ok, Refused}
 use Rattle.resolution.specs.declared.Resolution.{Resolution}
 use Rattle.resolution.specs.declared.Resolution.the-variants.{File, Folder, Refused as Refused′}
 
--- a resolution's kind: 0 a file, 255 a folder, else document 01's number
+-- the place of a refusal; where there is none, the number lent for it stays
+abbrev pub placeTold : Checked → ℕ → ℕ
+placeTold Ok a = a
+placeTold (Refused n p) a = p
+
+-- a resolution's kind: 0 a file, 255 a folder, else the number of a refusal
 abbrev pub kindOf : Resolution → ℕ
 kindOf (File i left) = 0
 kindOf (Folder i left) = 255
 kindOf (Refused′ n p) = n
 
--- which one and how many segments are left, or the place
-abbrev pub resolvedTold : Resolution → List ℕ → List ℕ
-resolvedTold (File i left) l = set (set l 0 i) 1 left
-resolvedTold (Folder i left) l = set (set l 0 i) 1 left
-resolvedTold (Refused′ n p) l = set l 0 p
+-- which file or folder, how many segments are left, and the place of a refusal; the number lent for what there is not stays
+abbrev pub indexTold : Resolution → ℕ → ℕ
+indexTold (File i left) a = i
+indexTold (Folder i left) a = i
+indexTold (Refused′ n p) a = a
 
-module _ (v : Resolution) (l m : List ℕ) where
-  pub told-file : (i left : ℕ) → v ≡ File i left → m ≡ set (set l 0 i) 1 left → (0 ≡ kindOf v) × (m ≡ resolvedTold v l)
-  told-file i left e q = rw e (refl, q)
+abbrev pub leftTold : Resolution → ℕ → ℕ
+leftTold (File i left) a = left
+leftTold (Folder i left) a = left
+leftTold (Refused′ n p) a = a
 
-  pub told-folder : (i left : ℕ) → v ≡ Folder i left → m ≡ set (set l 0 i) 1 left → (255 ≡ kindOf v) × (m ≡ resolvedTold v l)
-  told-folder i left e q = rw e (refl, q)
+abbrev pub faultTold : Resolution → ℕ → ℕ
+faultTold (File i left) a = a
+faultTold (Folder i left) a = a
+faultTold (Refused′ n p) a = p
 
-  pub told-fault : (n p : ℕ) → v ≡ Refused′ n p → m ≡ set l 0 p → (n ≡ kindOf v) × (m ≡ resolvedTold v l)
-  told-fault n p e q = rw e (refl, q)
+-- AS THE CODE HAS IT
+module _ (v w : Checked) (a : ℕ) (same : w ≡ v) where
+  pub told-ok : w ≡ Ok → (0 ≡ numberOf v) × (a ≡ placeTold v a)
+  unfolding numberOf
+  told-ok e = rw (sym same ∙ e) (refl, refl)
+
+  pub told-refused : (n p : ℕ) → w ≡ Refused n p → (n ≡ numberOf v) × (p ≡ placeTold v a)
+  unfolding numberOf
+  told-refused n p e = rw (sym same ∙ e) (refl, refl)
+
+module _ (v w : Resolution) (a b c : ℕ) (same : w ≡ v) where
+  pub told-file : (i left : ℕ) → w ≡ File i left → (0 ≡ kindOf v) × ((i ≡ indexTold v a) × ((left ≡ leftTold v b) × (c ≡ faultTold v c)))
+  told-file i left e = rw (sym same ∙ e) (refl, (refl, (refl, refl)))
+
+  pub told-folder : (i left : ℕ) → w ≡ Folder i left → (255 ≡ kindOf v) × ((i ≡ indexTold v a) × ((left ≡ leftTold v b) × (c ≡ faultTold v c)))
+  told-folder i left e = rw (sym same ∙ e) (refl, (refl, (refl, refl)))
+
+  pub told-fault : (n p : ℕ) → w ≡ Refused′ n p → (n ≡ kindOf v) × ((a ≡ indexTold v a) × ((b ≡ leftTold v b) × (p ≡ faultTold v c)))
+  told-fault n p e = rw (sym same ∙ e) (refl, (refl, (refl, refl)))

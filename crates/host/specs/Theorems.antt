@@ -26,9 +26,9 @@ use Rattle.assembly.specs.declared.Imaged.{Imaged}
 use Rattle.assembly.specs.declared.Imaged.the-variants as imaged
 use Rattle.order.specs.declared.Answer.{Answer}
 use Rattle.linker.specs.Link.{Outcome, faulty, closed, ended, result, linkBundle}
-use Rattle.linker.specs.Call.{answering, answerTo, linkAnswer}
+use Rattle.linker.specs.Call.{answering, answerTo, linkAnswer, linkEntries}
 use Rattle.linker.specs.Theorems.{linked-bundle}
-use Rattle.host.specs.LinkTold.{answer-files, answer-ids, answer-length, rows-length, linkEntries, answerOf, answerTold}
+use Rattle.host.specs.LinkTold.{answer-files, answer-ids, answer-length, rows-length, answerOf, answerTold}
 
 -- A RUN OF STORES, place by place
 sets-below : (vs l : List ℕ) (i j : ℕ) → j < i → getD (sets l i vs) j 0 ≡ getD l j 0

@@ -16,7 +16,7 @@ use Rattle.host.specs.TreeTold.{numberOf, TreeTold, FoundTold}
 pub data Calls : Tree → List Request → Tree → List ℕ → Type 0 where
   none : {t : Tree} → Calls t [] t []
   then : {t u w : Tree} {q : Request} {n : ℕ} {qs : List Request} {ns : List ℕ} → TreeTold t q n u → Calls u qs w ns → Calls t (q ∷ qs) w (n ∷ ns)
-  asks : {t w : Tree} {q : Request} {l m : List ℕ} {n : ℕ} {qs : List Request} {ns : List ℕ} → FoundTold t q l n m → Calls t qs w ns → Calls t (q ∷ qs) w (n ∷ ns)
+  asks : {t w : Tree} {q : Request} {l m n : ℕ} {qs : List Request} {ns : List ℕ} → FoundTold t q l n m → Calls t qs w ns → Calls t (q ∷ qs) w (n ∷ ns)
 
 record Ran (x : Flat) (qs : List Request) (w : Tree) (ns : List ℕ) : Type 0 where
   pub tree : flat-of w ≡ run flat x (calls-of qs) .0

@@ -5,7 +5,7 @@ use mathlib.Core.Path.{_≡_, refl, ap, sym, _∙_}
 use mathlib.Core.Bool.{true, false, cond}
 use mathlib.Core.List.{List}
 use lib.Dec.{eqb, leb}
-use lib.ListN.{set, getD, length}
+use lib.ListN.{getD, length}
 use borrow.Author.Tests.{eq-eqb, ne-eqb, le-leb, lt-leb}
 use Rattle.scope_tree.specs.declared.Tree.{Tree}
 use Rattle.scope_tree.specs.declared.Answer.{Answer as Told}
@@ -18,7 +18,7 @@ use Rattle.scope_tree.specs.Views.{told}
 use Rattle.scope_tree.specs.Rows.{length-tab}
 use Rattle.scope_tree.specs.Views.{rows as row-of}
 use Rattle.scope_tree.specs.Trees.{Good, view, flat-of}
-use Rattle.scopes_c.specs.TreeRows.{Listed}
+use Rattle.rows.specs.TreeRows.{Listed}
 use Rattle.order.specs.Report.{small-buffer}
 use Rattle.host.specs.LinkTold.{rows-length, entry-limit, rowsOf}
 use Rattle.host.specs.LinkLaws.{rows-whole}
@@ -30,11 +30,11 @@ numberOf ok = 0
 numberOf (marked m) = 0
 numberOf (refused n) = n
 
--- a mark that was found, at the start of what is lent, if that has a place
-abbrev pub markTold : Answer → List ℕ → List ℕ
-markTold ok l = l
-markTold (marked m) l = set l 0 m
-markTold (refused n) l = l
+-- a mark that was found; where there is none, the number lent for it stays
+abbrev pub markTold : Answer → ℕ → ℕ
+markTold ok a = a
+markTold (marked m) a = m
+markTold (refused n) a = a
 
 abbrev pub tree-full : ℕ
 tree-full = 51
@@ -48,12 +48,12 @@ pub record TreeTold (t : Tree) (q : Request) (n : ℕ) (u : Tree) : Type 0 where
   pub taken : Good t → n ≡ 0 → accepted (step flat (flat-of t) (call-of q) .1) ≡ true
   pub kept : (n ≡ 0 → ⊥) → u ≡ t
 
--- of a tree and a call that only asks: the number, and the mark in what is lent
-pub record FoundTold (t : Tree) (q : Request) (l : List ℕ) (n : ℕ) (m : List ℕ) : Type 0 where
+-- of a tree and a call that only asks: the number n, and the mark m in the place of the number a that was lent for it
+pub record FoundTold (t : Tree) (q : Request) (a n m : ℕ) : Type 0 where
   pub number : Good t → n ≡ numberOf (step flat (flat-of t) (call-of q) .1)
-  pub mark : Good t → m ≡ markTold (step flat (flat-of t) (call-of q) .1) l
+  pub mark : Good t → m ≡ markTold (step flat (flat-of t) (call-of q) .1) a
   pub same : Good t → step flat (flat-of t) (call-of q) .0 ≡ flat-of t
-  pub kept : (n ≡ 0 → ⊥) → m ≡ l
+  pub kept : (n ≡ 0 → ⊥) → m ≡ a
 
 -- THE ROWS of a tree: how many entries it counts, and whether they fit
 abbrev pub countOf : Tree → ℕ
@@ -73,7 +73,7 @@ rowsCount t l n = cond (eqb (rowsNumber t l) 0) (length (flat-of t .entries)) n
 abbrev pub numberIn : Told → ℕ
 numberIn a = numberOf (told a)
 
-abbrev pub markIn : Told → List ℕ → List ℕ
+abbrev pub markIn : Told → ℕ → ℕ
 markIn a l = markTold (told a) l
 
 number-in : (a : Told) → number-of a ≡ numberIn a
@@ -96,15 +96,15 @@ tree-told {t} {u} {q} {a} {n} m e =
       kept = λ z. m .kept (refusing a (λ y. z (e ∙ y)));
     }
 
-pub found-mark : (a : Told) (m w : ℕ) (l l′ : List ℕ) → a ≡ Mark m → w ≡ m → l′ ≡ set l 0 w → (0 ≡ numberIn a) × (l′ ≡ markIn a l)
-found-mark a m w l l′ e f g = rw e (refl, g ∙ ap (set l 0) f)
+pub found-mark : (a : Told) (m w l : ℕ) → a ≡ Mark m → w ≡ m → (0 ≡ numberIn a) × (w ≡ markIn a l)
+found-mark a m w l e f = rw e (refl, f)
 
-mark-kept : (a : Told) (l : List ℕ) → (numberIn a ≡ 0 → ⊥) → markIn a l ≡ l
+mark-kept : (a : Told) (l : ℕ) → (numberIn a ≡ 0 → ⊥) → markIn a l ≡ l
 mark-kept Done l h = refl
 mark-kept (Mark m) l h = absurd (h refl)
 mark-kept (Refused n) l h = refl
 
-pub found-told : {t : Tree} {q : Request} {a : Told} {l m : List ℕ} {n : ℕ} → Answers t q a → n ≡ numberIn a → m ≡ markIn a l → FoundTold t q l n m
+pub found-told : {t : Tree} {q : Request} {a : Told} {l m n : ℕ} → Answers t q a → n ≡ numberIn a → m ≡ markIn a l → FoundTold t q l n m
 found-told {t} {q} {a} {l} {m} {n} h e f =
     record {
       number = λ g. e ∙ ap numberOf (h .answer g);

@@ -2,8 +2,7 @@
 // operation that it calls.
 ghost use mathlib.Core.Path.{_≡_};
 ghost use Rattle.bundle.specs.Read.{numberOf, verdict};
-ghost use Rattle.steps_c.specs.Steps.{placeTold};
-ghost use Rattle.host.specs.ResolveTold.{kindOf, resolvedTold};
+ghost use Rattle.host.specs.ResolveTold.{placeTold, kindOf, indexTold, leftTold, faultTold};
 ghost use Rattle.host.specs.OrderTold.{orderNumberTold, orderReportTold, orderTold};
 ghost use Rattle.host.specs.GraphTold.{graphOf, orderedTold, countTold};
 ghost use Rattle.host.specs.LinkTold.{answerOf, numberTold, reportTold, imageTold, answerTold, rowsTold};
@@ -51,10 +50,13 @@ pub const ROW: usize = 11;
 
 pub const ROWS: usize = ROW * ENTRIES;
 
-// Checks a bundle: 0, or a number from 1 to 13 with its place in place[0]. Ruled out: 0 for a bundle that is refused; a place
+// The kind of a resolution that leads to a folder, which can't be read as a file; no refusal's number.
+pub const FOLDER: u8 = 255;
+
+// Checks a bundle: 0, or a number from 1 to 13 with its place in `place`. Ruled out: 0 for a bundle that is refused; a place
 // written where there is none.
 #[no_mangle]
-pub extern "C" fn gontsamy_check(s: &[u8], place: &mut [usize]) -> u8
+pub extern "C" fn gontsamy_check(s: &[u8], place: &mut usize) -> u8
     ensures { λ r. ⌜ r ≡ numberOf (verdict (now (s .entry))) ⌝ }
     ensures { λ r. ⌜ now (place .exit) ≡ placeTold (verdict (now (s .entry))) (now (place .entry)) ⌝ }
 {
@@ -62,31 +64,43 @@ pub extern "C" fn gontsamy_check(s: &[u8], place: &mut [usize]) -> u8
     match checked {
         bundle::Checked::Ok => 0,
         bundle::Checked::Refused(n, p) => {
-            steps_c::tell(place, 0, p);
+            *place = p;
             n
         }
     }
 }
 
-// Resolves a use: 0 for a file and 255 for a folder, with its index in out[0] and the number of segments left in out[1]; or a
-// number, with its place in out[0]. Ruled out: a file of pay's library for an importer in payroll; 24 where the lookup fails.
+// Resolves a use: 0 for a file and FOLDER for a folder, with its index in `index` and the number of segments left in `left`; or a
+// number, with its place in `place`. What is not told is as it was. Ruled out: a file of pay's library for an importer in payroll; 24
+// where the lookup fails.
 #[no_mangle]
-pub extern "C" fn gontsamy_resolve(s: &[u8], importer: &[u8], u: &[u8], out: &mut [usize]) -> u8
+pub extern "C" fn gontsamy_resolve(
+    s: &[u8],
+    importer: &[u8],
+    u: &[u8],
+    index: &mut usize,
+    left: &mut usize,
+    place: &mut usize,
+) -> u8
     ensures { λ r. ⌜ r ≡ kindOf (resolve (now (s .entry)) (now (importer .entry)) (now (u .entry))) ⌝ }
-    ensures { λ r. ⌜ now (out .exit) ≡ resolvedTold (resolve (now (s .entry)) (now (importer .entry)) (now (u .entry))) (now (out .entry)) ⌝ }
+    ensures { λ r. ⌜ now (index .exit) ≡ indexTold (resolve (now (s .entry)) (now (importer .entry)) (now (u .entry))) (now (index .entry)) ⌝ }
+    ensures { λ r. ⌜ now (left .exit) ≡ leftTold (resolve (now (s .entry)) (now (importer .entry)) (now (u .entry))) (now (left .entry)) ⌝ }
+    ensures { λ r. ⌜ now (place .exit) ≡ faultTold (resolve (now (s .entry)) (now (importer .entry)) (now (u .entry))) (now (place .entry)) ⌝ }
 {
     let resolved = resolution::resolve(s, importer, u);
     match resolved {
-        resolution::Resolution::File(i, left) => {
-            steps_c::tell_both(out, i, left);
+        resolution::Resolution::File(i, n) => {
+            *index = i;
+            *left = n;
             0
         }
-        resolution::Resolution::Folder(i, left) => {
-            steps_c::tell_both(out, i, left);
-            255
+        resolution::Resolution::Folder(i, n) => {
+            *index = i;
+            *left = n;
+            FOLDER
         }
         resolution::Resolution::Refused(n, p) => {
-            steps_c::tell(out, 0, p);
+            *place = p;
             n
         }
     }
@@ -185,21 +199,9 @@ pub extern "C" fn gontsamy_link(
     if rows.len() < ROWS {
         return 14;
     }
-    let l = linker::link_new(s, report, image);
+    let l = linker::link_rows(s, report, image, rows);
     let a = l.answer;
     let number = a.number;
-    let entries = scopes_c::put_rows(
-        &l.tree.opened,
-        &l.tree.cells,
-        &l.tree.visible,
-        &l.tree.scopes,
-        &l.tree.marks,
-        &l.tree.n0,
-        &l.tree.n1,
-        &l.tree.n2,
-        &l.tree.n3,
-        rows,
-    );
-    tell_link(answer, a, entries);
+    tell_link(answer, a, l.entries);
     number
 }

@@ -1,5 +1,5 @@
 // The eight tree calls on a tree that the caller lends as nine arrays (scopes::Tree has what each holds): zeros are a tree with no entry,
-// and no call copies it but `get`. On any arrays a call returns, and a refusal leaves them as they were; on a tree that calls from zeros
+// and no call copies it. On any arrays a call returns, and a refusal leaves them as they were; on a tree that calls from zeros
 // left, number and tree are the definition's (specs/TreeTold.antt). A visibility of 1 is public, any other private.
 ghost use Rattle.host.specs.TreeTold.{TreeTold, FoundTold, numberIn, markIn, rowsNumber, treeRows, rowsCount};
 ghost use Rattle.scope_tree.specs.Form.{enters, exits, inserts-alias, inserts-enum, inserts-function, resolves-use, gets-alias, gets-function};
@@ -18,14 +18,14 @@ fn wide(mark: u16) -> usize
     mark as usize
 }
 
-// An answer's number, and a mark at the start of what is lent, if that has a place.
-fn tell_found(answer: Answer, mark: &mut [usize]) -> u8
+// An answer's number, and its mark where it has one.
+fn tell_found(answer: Answer, mark: &mut usize) -> u8
     ensures { λ r. ⌜ (r ≡ numberIn answer) × (now (mark .exit) ≡ markIn answer (now (mark .entry))) ⌝ }
 {
     match answer {
         Answer::Done => 0,
         Answer::Mark(m) => {
-            steps_c::tell(mark, 0, wide(m));
+            *mark = wide(m);
             0
         }
         Answer::Refused(n) => n,
@@ -253,7 +253,7 @@ pub extern "C" fn gontsamy_get_alias<'a>(
     n2: &'a [u64; ENTRIES],
     n3: &'a [u64; ENTRIES],
     name: &'a [u8],
-    mark: &mut [usize],
+    mark: &mut usize,
 ) -> u8
     ensures { λ r. ⌜ FoundTold (packed-in (now (opened .entry)) (now (cells .entry)) (now (visible .entry)) (now (scopes .entry)) (now (marks .entry)) (now (n0 .entry)) (now (n1 .entry)) (now (n2 .entry)) (now (n3 .entry))) (gets-alias (now (name .entry))) (now (mark .entry)) r (now (mark .exit)) ⌝ }
 {
@@ -276,7 +276,7 @@ pub extern "C" fn gontsamy_get_function<'a>(
     n2: &'a [u64; ENTRIES],
     n3: &'a [u64; ENTRIES],
     name: &'a [u8],
-    mark: &mut [usize],
+    mark: &mut usize,
 ) -> u8
     ensures { λ r. ⌜ FoundTold (packed-in (now (opened .entry)) (now (cells .entry)) (now (visible .entry)) (now (scopes .entry)) (now (marks .entry)) (now (n0 .entry)) (now (n1 .entry)) (now (n2 .entry)) (now (n3 .entry))) (gets-function (now (name .entry))) (now (mark .entry)) r (now (mark .exit)) ⌝ }
 {
@@ -312,7 +312,7 @@ pub extern "C" fn gontsamy_rows<'a>(
     if ENTRIES < scopes::count_of(opened) {
         return 51;
     }
-    let entries = scopes_c::put_rows(opened, cells, visible, scopes, marks, n0, n1, n2, n3, rows);
+    let entries = rows::put_rows(opened, cells, visible, scopes, marks, n0, n1, n2, n3, rows);
     *count = entries;
     0
 }

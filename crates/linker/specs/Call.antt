@@ -1,9 +1,9 @@
 -- The operation: bytes, a lent report buffer, a lent image buffer and a tree, and what is answered. Assumes nothing.
 use Prim.Native.Nat.{ℕ}
 use mathlib.Core.Path.{_≡_}
-use mathlib.Core.List.{List}
+use mathlib.Core.List.{List, []}
 use lib.ListN.{length}
-use Rattle.bundle.specs.Read.{Reading, read}
+use Rattle.bundle.specs.Read.{Reading, value, refused, read}
 use Rattle.order.specs.Outcome.{resultOr, ResultOr}
 use Rattle.order.specs.Call.{unitFiles, answerBy, answerFrom, reportFrom, heldFrom, KeptFrom}
 use Rattle.order.specs.declared.Answer.{Answer}
@@ -13,7 +13,7 @@ use Rattle.assembly.specs.Assemble.{Built}
 use Rattle.assembly.specs.Call.{withImage}
 use Rattle.assembly.specs.declared.Imaged.{Imaged}
 use Rattle.assembly.specs.declared.Imaged.the-variants as imaged
-use Rattle.scope_tree.specs.Flat.{Flat}
+use Rattle.scope_tree.specs.Flat.{Flat, Entry}
 use Rattle.scope_tree.specs.Trees.{Good, flat-of}
 use Rattle.scope_tree.specs.declared.Tree.{Tree}
 use Rattle.linker.specs.Link.{Made, Outcome, linkBundle}
@@ -70,3 +70,18 @@ TreeTo x m t u = KeptFrom linkBundle (TreeOfMade m t u) (u ≡ t) x
 
 unfoldable pub LinkTree : List ℕ → List ℕ → Tree → Tree → Type 0
 LinkTree s image t u = TreeTo (read s) (length image) t u
+
+-- THE TREE'S ENTRIES as rows tell them: step 6's, where the bundle links and the image fits into a buffer of m bytes
+abbrev pub entriesWith : Imaged → Flat → List Entry
+entriesWith (imaged.Image n) x = x .entries
+entriesWith (imaged.Refused n p) x = []
+
+abbrev pub entriesAfter : ℕ → Outcome → List Entry
+entriesAfter m y = resultOr (λ q. entriesWith (imaging (q .items) m) (q .tree)) [] y
+
+abbrev pub entriesTo : Reading → ℕ → List Entry
+entriesTo (refused k p) m = []
+entriesTo (value b) m = entriesAfter m (linkBundle b)
+
+unfoldable pub linkEntries : List ℕ → List ℕ → List Entry
+linkEntries s image = entriesTo (read s) (length image)

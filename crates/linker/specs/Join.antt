@@ -5,7 +5,7 @@ use mathlib.Core.Path.{_≡_, refl, sym, ap, subst, _∙_}
 use mathlib.Core.Bool.{Bool, true, false, cond}
 use mathlib.Core.List.{List, [], _∷_, map}
 use lib.Dec.{eqb, leb}
-use lib.ListN.{length, take}
+use lib.ListN.{length, take, getD}
 use borrow.Author.Tests.{eq-eqb, ne-eqb, eqb-true, eqb-false}
 use Rattle.bundle.specs.Bundle.{Bundle}
 use Rattle.bundle.specs.Decode.{decode}
@@ -23,7 +23,16 @@ use Rattle.order.specs.declared.Reported.{Reported}
 use Rattle.order.specs.declared.Reported.the-variants as reported
 use Rattle.order.specs.Outcome.{andThen}
 use Rattle.order.specs.Carried.{order-read, carried}
-use Rattle.scope_tree.specs.Trees.{flat-of, cleared}
+use Rattle.scope_tree.specs.Flat.{Flat, Entry}
+use Rattle.scope_tree.specs.Rows.{length-tab}
+use Rattle.scope_tree.specs.Views.{rows as row-of}
+use Rattle.scope_tree.specs.Trees.{view, flat-of, cleared}
+use Rattle.scopes.specs.Runs.{first-is, first-good}
+use Rattle.rows.specs.TreeRows.{Listed, listed-as}
+use Rattle.discovery.specs.Complete.{Carries}
+use Rattle.discovery.specs.Known.{known-length, FilesPut}
+use Rattle.assembly.specs.GivenLaws.{known-linked}
+use Rattle.assembly.specs.Join.{units-linked}
 use Rattle.scope_tree.specs.declared.Tree.{Tree}
 use Rattle.assembly.specs.Assemble.{assembled, assemblyFaults, step5, assembleAfter, linearizeAndAssemble}
 use Rattle.assembly.specs.Image.{small-buffer, long-image, image-limit, itemsLength, imageLength, imaging, lentImage}
@@ -32,10 +41,11 @@ use Rattle.assembly.specs.Given as units
 use Rattle.assembly.specs.declared.Imaged.{Imaged}
 use Rattle.assembly.specs.declared.Imaged.the-variants as imaged
 use Rattle.linker.specs.Link.{Made, Outcome, faulty, closed, ended, result, linked, step6, linkAfter, linkBundle}
-use Rattle.linker.specs.Call.{recordsOf, builtOf, answering, imageAfter, TreeWith, TreeOfMade, TreeAfter, TreeTo, answerTo, linkAnswer, linkReport, linkImage, LinkTree}
+use Rattle.linker.specs.Call.{recordsOf, builtOf, answering, imageAfter, TreeWith, TreeOfMade, TreeAfter, TreeTo, answerTo, entriesWith, entriesAfter, entriesTo, linkAnswer, linkReport, linkImage, LinkTree, linkEntries}
 use Rattle.linker.specs.Steps.{reached}
-use Rattle.linker.specs.Units.{treeBy, LinkedAs}
+use Rattle.linker.specs.Units.{treeBy, LinkedAs, ToldAs, no-rows}
 use Rattle.linker.specs.declared.Linked.{Linked}
+use Rattle.linker.specs.declared.Told.{Told}
 
 -- which tree comes back where one was given: the one made, if the image has a length
 abbrev pub treeGiven : ℕ → Tree → Tree → Tree
@@ -140,6 +150,109 @@ module _ (s out img : List ℕ) where
               go : (c : Bool) → eqb (w .stop .number) 0 ≡ c → Due s out img report₂ image₂ x
               go true e = image-due (eqb-true (w .stop .number) 0 e)
               go false e = ended-due (eqb-false (w .stop .number) 0 e)
+
+pub due-as : (s out img rep im : List ℕ) {x y : Linked} → x ≡ y → Due s out img rep im y → Due s out img rep im x
+due-as s out img rep im e d = subst (Due s out img rep im) (sym e) d
+
+-- STEPS 1 TO 5 as the code has them: where a tells no units it is the answer; where it does, step 6 goes on from it
+pub record ReportedAs (s out rep known : List ℕ) (a : Answer) : Type 0 where
+  pub long : length known ≡ known-length
+  pub told : a .units ≡ 0 → (img : List ℕ) → Due s out img rep img (record { answer = a; tree = cleared })
+  pub given : (a .units ≡ 0 → ⊥) → units.OrderGiven s known (a .ids) (a .units)
+  pub due : (a .units ≡ 0 → ⊥) → (img img′ : List ℕ) (x : Linked) → LinkedAs (assembled (decode s) (take (a .units) (a .ids))) a img img′ x → Due s out img rep img′ x
+
+told-none : (r : Reported) → reportedTo r .units ≡ 0
+told-none (reported.Report n) = refl
+told-none (reported.Refused n p) = refl
+
+module _ (s out : List ℕ) (a : Answer) (rep : List ℕ) (is : a ≡ orderAnswer s out) (lent : rep ≡ orderReport s out) where
+  pub reported-none : a .units ≡ 0 → (known : List ℕ) → Carries s known → ReportedAs s out rep known a
+  reported-none h known y =
+      record {
+        long = y .long;
+        told = λ z img. no-units s out img a rep is lent h (record { answer = a; tree = cleared }) refl;
+        given = λ n. absurd (n h);
+        due = λ n. absurd (n h);
+      }
+
+  module _ (h : a .units ≡ 0 → ⊥) (r : Reported) (rep₂ : List ℕ) (e : r ≡ reporting (faultsTold (decode s) (take (a .units) (a .ids))) (length rep))
+      (f : rep₂ ≡ lentReport (faultsTold (decode s) (take (a .units) (a .ids))) rep) where
+    pub reported-faults : tells r ≡ true → (t known : List ℕ) → Carries s t → FilesPut t (a .files) known → (y : Answer) → y ≡ reportedTo r → ReportedAs s out rep₂ known y
+    reported-faults b t known g p y q =
+        let l = units-linked s out [] a rep is lent h in
+        let z : y .units ≡ 0 = ap (λ (x : Answer). x .units) q ∙ told-none r in
+        record {
+          long = p .wide ∙ g .long;
+          told = λ _ img. faults-due s out img a rep is lent (l .0) (l .1) r rep₂ e f b (record { answer = y; tree = cleared }) (ap (λ (x : Answer). record { answer = x; tree = cleared }) q);
+          given = λ n. absurd (n z);
+          due = λ n. absurd (n z);
+        }
+
+    pub reported-on : tells r ≡ false → (t known : List ℕ) → Carries s t → FilesPut t (a .files) known → ReportedAs s out rep₂ known a
+    reported-on t₀ t known y p =
+        let l = units-linked s out [] a rep is lent h in
+        record {
+          long = p .wide ∙ y .long;
+          told = λ z. absurd (h z);
+          given = λ n. known-linked (l .0) y p;
+          due = λ n img img′ x w. walked-due s out img a rep is lent (l .0) (l .1) r rep₂ e f t₀ img′ x w;
+        }
+
+-- THE ENTRIES of the tree that comes back
+pub record Comes (es : List Entry) (u : Tree) : Type 0 where
+  pub small : getD (u .opened) 9 0 ≤ 1024
+  pub are : flat-of u .entries ≡ es
+
+module _ (u : Tree) where
+  kept : u ≡ cleared → Comes [] u
+  kept e =
+      record {
+        small = subst (λ (t : Tree). getD (t .opened) 9 0 ≤ 1024) (sym e) (first-good .good .small);
+        are = ap (λ (t : Tree). flat-of t .entries) e ∙ ap (λ (x : Flat). x .entries) first-is;
+      }
+
+  comes-with : (i : Imaged) (x : Flat) → TreeWith i x cleared u → Comes (entriesWith i x) u
+  comes-with (imaged.Image n) x h = record { small = h .good .good .small; are = ap (λ (y : Flat). y .entries) (h .is) }
+  comes-with (imaged.Refused n p) x h = kept h
+
+  comes-after : (m : ℕ) (o : Outcome) → TreeAfter m o cleared u → Comes (entriesAfter m o) u
+  comes-after m (faulty l) h = kept h
+  comes-after m (closed r) h = kept h
+  comes-after m (ended n p) h = kept h
+  comes-after m (result q) h = comes-with (imaging (q .items) m) (q .tree) h
+
+  comes-to : (r : Reading) (m : ℕ) → TreeTo r m cleared u → Comes (entriesTo r m) u
+  comes-to (refused k p) m h = kept h
+  comes-to (value b) m h = comes-after m (linkBundle b) h
+
+  pub comes : (s image : List ℕ) → LinkTree s image cleared u → Comes (linkEntries s image) u
+  unfolding LinkTree linkEntries
+  comes s image h = comes-to (read s) (length image) h
+
+-- as rows tell them
+pub rows-due : (s out img rep im : List ℕ) (x : Linked) → Due s out img rep im x → (l l′ : List ℕ) (n : ℕ) → Listed (flat-of (x .tree) .entries) l n l′
+    → Listed (linkEntries s img) l n l′ × (n ≤ 1024)
+rows-due s out img rep im x d l l′ n h =
+    let c = comes (x .tree) s img (d .1 .1 .1) in
+    let b : length (flat-of (x .tree) .entries) ≤ 1024 = rw (length-tab (row-of (view (x .tree))) (getD (x .tree .opened) 9 0)) (c .small) in
+    (listed-as _ _ (c .are) l n l′ h, omega (arith, h .count, b))
+
+-- what is due of an answer whose tree is told as rows
+abbrev pub DueRows : (s report₀ image₀ report₁ image₁ out₀ out₁ : List ℕ) → Told → Type 0
+DueRows s report₀ image₀ report₁ image₁ out₀ out₁ x =
+    (x .answer ≡ linkAnswer s report₀ image₀)
+    × ((report₁ ≡ linkReport s report₀) × ((image₁ ≡ linkImage s image₀) × (Listed (linkEntries s image₀) out₀ (x .entries) out₁ × (x .entries ≤ 1024))))
+
+module _ (s out rep known : List ℕ) (a : Answer) (h : ReportedAs s out rep known a) (img l : List ℕ) where
+  pub rows-none : a .units ≡ 0 → DueRows s out img rep img l l (record { answer = a; entries = 0 })
+  rows-none z =
+      let d = h .told z img in
+      (d .0, (d .1 .0, (d .1 .1 .0, rows-due s out img rep img (record { answer = a; tree = cleared }) d l l 0 (no-rows l))))
+
+  pub rows-on : (a .units ≡ 0 → ⊥) → (img′ l′ : List ℕ) (x : Told) → ToldAs (assembled (decode s) (take (a .units) (a .ids))) a img img′ l l′ x → DueRows s out img rep img′ l l′ x
+  rows-on n img′ l′ x t =
+      let d = h .due n img img′ (t .whole) (t .linked) in
+      (t .answer ∙ d .0, (d .1 .0, (d .1 .1 .0, rows-due s out img rep img′ (t .whole) d l l′ (x .entries) (t .listed))))
 
 -- FROM NO TREE GIVEN TO ANY
 module _ (t u : Tree) where

@@ -37,6 +37,9 @@ pub walking-first : (s ids : List ℕ) (units : ℕ) (c : Cursor) → c ≡ firs
 walking-first s ids units c e = subst (λ (x : Cursor). Walking s ids units cleared x 0 0 true) (sym e)
     (record { stands = stands-first s units; accepted = λ g. refl; on = λ g r w h. walks-as (sym (calls-first s (take units ids))) h; over = λ g. true-false g })
 
+pub walking-from : {s ids : List ℕ} {units : ℕ} {t : Tree} {c : Cursor} → t ≡ cleared → c ≡ first-cursor → Walking s ids units t c 0 0 true
+walking-from {s} {ids} {units} {t} {c} z e = subst (λ (x : Tree). Walking s ids units x c 0 0 true) (sym z) (walking-first s ids units c e)
+
 -- the measure: the calls that are left, and one turn more
 abbrev pub turns : List ℕ → List ℕ → ℕ → Cursor → Bool → ℕ
 turns s ids units c going = length (callsFrom s (take units ids) c) + cond going 1 0

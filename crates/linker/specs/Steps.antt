@@ -89,6 +89,9 @@ pub record Stop : Type 0 where
   pub number : ℕ
   pub place : ℕ
 
+abbrev pub stop-at : ℕ → ℕ → Stop
+stop-at number place = record { number = number; place = place }
+
 -- what a stop tells: 0 and the tree, or a number and a place
 abbrev pub reached : Stop → Flat → Walked Flat
 reached r x = cond (eqb (r .number) 0) (done x) (stopped (r .number) (r .place))

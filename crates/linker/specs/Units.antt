@@ -15,7 +15,7 @@ use Rattle.bundle.specs.Stand.{Bytes}
 use Rattle.bundle.specs.Decode.{decode, itemsAt}
 use Rattle.bundle.specs.Theorems.{sound, accepted}
 use Rattle.scope_tree.specs.Form.{enters, exits}
-use Rattle.scope_tree.specs.Flat.{flat}
+use Rattle.scope_tree.specs.Flat.{Flat, flat}
 use Rattle.scopes.specs.Runs.{first-is, first-good}
 use Rattle.scope_tree.specs.Trees.{cleared, Good, flat-of}
 use Rattle.scope_tree.specs.declared.Tree.{Tree}
@@ -32,6 +32,9 @@ use Rattle.assembly.specs.Call.{imagedTo}
 use Rattle.assembly.specs.declared.Imaged.{Imaged}
 use Rattle.assembly.specs.declared.Imaged.the-variants as imaged
 use Rattle.linker.specs.declared.Linked.{Linked}
+use Rattle.linker.specs.declared.Told.{Told}
+use Rattle.rows.specs.Written.{written}
+use Rattle.rows.specs.TreeRows.{all-numbers, Listed, listed-as}
 
 -- the calls of a unit, and of units in an order
 unfoldable pub unitCalls : Bundle → ℕ → List Asked
@@ -124,3 +127,31 @@ module _ (p : Items) (a : Answer) (img img′ : List ℕ) (r : Linked) (x : Stop
           k,
         );
       }
+
+-- the same where the tree is told as rows: the entries of the tree that comes with such an answer, written
+pub record ToldAs (p : Items) (a : Answer) (img img′ out out′ : List ℕ) (x : Told) : Type 0 where
+  pub whole : Linked
+  pub linked : LinkedAs p a img img′ whole
+  pub answer : x .answer ≡ whole .answer
+  pub listed : Listed (flat-of (whole .tree) .entries) out (x .entries) out′
+
+pub no-rows : (out : List ℕ) → Listed (flat-of cleared .entries) out 0 out
+unfolding all-numbers written
+no-rows out = listed-as [] (flat-of cleared .entries) (sym (ap (λ (x : Flat). x .entries) first-is)) out 0 out (record { count = refl; out = refl })
+
+module _ (p : Items) (a : Answer) (img img′ out : List ℕ) (x : Stop) (u : Tree) (h : ScopedAs p x u) where
+  pub told-ended : (x .number ≡ 0 → ⊥) → (y : Answer) → y ≡ refusing (x .number) (x .place) → img′ ≡ img → ToldAs p a img img′ out out (record { answer = y; entries = 0 })
+  told-ended n y e k =
+      let z : Linked = record { answer = y; tree = cleared } in
+      record { whole = z; linked = linked-ended p a img img′ z x u h n y e refl k; answer = refl; listed = no-rows out }
+
+  module _ (n : x .number ≡ 0) (i : Imaged) (e : i ≡ imaging p (length img)) (y : Answer) (f : y ≡ imagedTo (a .units) (a .files) (a .ids) i) (k : img′ ≡ lentImage p img) where
+    pub told-refused : (m q : ℕ) → i ≡ imaged.Refused m q → ToldAs p a img img′ out out (record { answer = y; entries = 0 })
+    told-refused m q c =
+        let z : Linked = record { answer = y; tree = cleared } in
+        record { whole = z; linked = linked-imaged p a img img′ z x u h n i (imaged.Refused m q) e c y f refl k; answer = refl; listed = no-rows out }
+
+    pub told-rows : (m : ℕ) → i ≡ imaged.Image m → (r : ℕ) (out′ : List ℕ) → Listed (flat-of u .entries) out r out′ → ToldAs p a img img′ out out′ (record { answer = y; entries = r })
+    told-rows m c r out′ l =
+        let z : Linked = record { answer = y; tree = u } in
+        record { whole = z; linked = linked-imaged p a img img′ z x u h n i (imaged.Image m) e c y f refl k; answer = refl; listed = l }

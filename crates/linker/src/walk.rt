@@ -8,10 +8,12 @@ ghost use Rattle.discovery.specs.Walk.{UseMark};
 ghost use Rattle.assembly.specs.Assemble.{fileOf, assembled};
 ghost use Rattle.assembly.specs.Given.{UnitsGiven, OrderGiven};
 ghost use Rattle.assembly.specs.Targets.{InFile};
-ghost use Rattle.linker.specs.Steps.{use-size};
-ghost use Rattle.linker.specs.Units.{LinkedAs};
+ghost use Rattle.scope_tree.specs.Trees.{packed-in, cleared};
+ghost use Rattle.linker.specs.Steps.{use-size, Walks, stop-at};
+ghost use Rattle.linker.specs.Units.{programCalls, LinkedAs, ToldAs};
 ghost use Rattle.linker.specs.Cursor.{callCode, callPublic, takenBytes, Fitting, Put};
 use crate::Linked;
+use crate::Told;
 use crate::answers::told;
 use crate::cursor::Step;
 use crate::cursor::UNIT;
@@ -116,9 +118,84 @@ fn call_bytes<'a>(s: &'a [u8], put: &'a [u8], n: usize, kind: usize, place: usiz
     bundle::string(s, place + 4)
 }
 
+// Where step 6 ended: a number and the place of the call that is refused; 0 and any place where none is.
+pub struct Ended {
+    pub number: u8,
+    pub place: usize,
+}
+
+// The tree calls of the units in their order, made on a tree that the caller lends as its arrays, zeros before: up to the first that is
+// refused. Ruled out: the tree of the entry's items alone; a unit's number told with the mark of its first item.
+fn walk_units<'a>(
+    s: &[u8],
+    files: &'a [usize],
+    ids: &'a [u16],
+    units: usize,
+    opened: &mut [u16; OPENED],
+    cells: &mut [u16; CELLS],
+    visible: &mut [u8; 1024],
+    scopes: &mut [u16; 1024],
+    marks: &mut [u16; 1024],
+    n0: &mut [u64; 1024],
+    n1: &mut [u64; 1024],
+    n2: &mut [u64; 1024],
+    n3: &mut [u64; 1024],
+) -> Ended
+    requires { ⌜ OrderGiven (now s) (now files) (now ids) units × (packed-in (now opened) (now cells) (now visible) (now scopes) (now marks) (now n0) (now n1) (now n2) (now n3) ≡ cleared) ⌝ }
+    ensures { λ r. ⌜ Walks cleared (programCalls (decode (now (s .entry))) (take units (now (ids .entry)))) (stop-at (r .number) (r .place)) (packed-in (now (opened .exit)) (now (cells .exit)) (now (visible .exit)) (now (scopes .exit)) (now (marks .exit)) (now (n0 .exit)) (now (n1 .exit)) (now (n2 .exit)) (now (n3 .exit))) ⌝ }
+{
+    let mut put = [0u8; USE_SIZE];
+    let mut cursor = start();
+    let mut number: u8 = 0;
+    let mut place: usize = 0;
+    let mut going = true;
+    while going {
+        let n = next(s, files, ids, units, cursor);
+        let step = n.step;
+        cursor = n.cursor;
+        match step {
+            Step::Call(kind, p) => {
+                let m = put_call(s, files, units, cursor.id, kind, p, &mut put);
+                let public = is_public(s, kind, p);
+                place = p;
+                number = scopes::number_of(scopes::lent::call(
+                    &mut *opened,
+                    &mut *cells,
+                    &mut *visible,
+                    &mut *scopes,
+                    &mut *marks,
+                    &mut *n0,
+                    &mut *n1,
+                    &mut *n2,
+                    &mut *n3,
+                    call_code(kind),
+                    call_bytes(s, &put, m, kind, p),
+                    public,
+                    mark_of(p),
+                ));
+                going = number == 0;
+                continue;
+            }
+            Step::Exit(p) => {
+                place = p;
+                number = scopes::number_of(scopes::lent::exit(&mut *opened));
+                going = number == 0;
+                continue;
+            }
+            Step::End => {
+                going = false;
+                continue;
+            }
+        }
+    }
+    Ended {
+        number: number,
+        place: place,
+    }
+}
+
 // The units in their order, of which `a` tells: their tree and their image, the number and the place of the first call that is refused,
-// or 15, 14; without an image the tree is empty. Ruled out: the tree of the entry's items alone; a unit's number told with the mark of
-// its first item; an image where a call was refused.
+// or 15, 14; without an image the tree is empty. Ruled out: an image where a call was refused.
 pub fn link_units<'a>(
     s: &[u8],
     files: &'a [usize],
@@ -139,70 +216,110 @@ pub fn link_units<'a>(
     let mut n1 = [0u64; 1024];
     let mut n2 = [0u64; 1024];
     let mut n3 = [0u64; 1024];
-    let mut put = [0u8; USE_SIZE];
-    let mut cursor = start();
-    let mut number: u8 = 0;
-    let mut place: usize = 0;
-    let mut going = true;
-    while going {
-        let n = next(s, files, ids, units, cursor);
-        let step = n.step;
-        cursor = n.cursor;
-        match step {
-            Step::Call(kind, p) => {
-                let m = put_call(s, files, units, cursor.id, kind, p, &mut put);
-                let public = is_public(s, kind, p);
-                place = p;
-                number = scopes::number_of(scopes::lent::call(
-                    &mut opened,
-                    &mut cells,
-                    &mut visible,
-                    &mut scopes,
-                    &mut marks,
-                    &mut n0,
-                    &mut n1,
-                    &mut n2,
-                    &mut n3,
-                    call_code(kind),
-                    call_bytes(s, &put, m, kind, p),
-                    public,
-                    mark_of(p),
-                ));
-                going = number == 0;
-                continue;
-            }
-            Step::Exit(p) => {
-                place = p;
-                number = scopes::number_of(scopes::lent::exit(&mut opened));
-                going = number == 0;
-                continue;
-            }
-            Step::End => {
-                going = false;
-                continue;
-            }
-        }
-    }
-    if number != 0 {
-        return told(order::refuse(number, place));
+    let e = walk_units(
+        s,
+        files,
+        ids,
+        units,
+        &mut opened,
+        &mut cells,
+        &mut visible,
+        &mut scopes,
+        &mut marks,
+        &mut n0,
+        &mut n1,
+        &mut n2,
+        &mut n3,
+    );
+    if e.number != 0 {
+        return told(order::refuse(e.number, e.place));
     }
     let written = program::write_image(s, files, ids, units, image);
     let answer = program::with_image(a, written);
-    match written {
-        Imaged::Refused(_, _) => told(answer),
-        Imaged::Image(_) => Linked {
-            answer: answer,
-            tree: Tree {
-                opened: opened,
-                cells: cells,
-                visible: visible,
-                scopes: scopes,
-                marks: marks,
-                n0: n0,
-                n1: n1,
-                n2: n2,
-                n3: n3,
-            },
+    let Imaged::Image(_) = written else {
+        return told(answer);
+    };
+    Linked {
+        answer: answer,
+        tree: Tree {
+            opened: opened,
+            cells: cells,
+            visible: visible,
+            scopes: scopes,
+            marks: marks,
+            n0: n0,
+            n1: n1,
+            n2: n2,
+            n3: n3,
         },
+    }
+}
+
+// The same, the tree told as rows in `out`: no tree is copied. Ruled out: a row where there is no image.
+pub fn tell_units<'a>(
+    s: &[u8],
+    files: &'a [usize],
+    ids: &'a [u16],
+    units: usize,
+    a: Answer,
+    image: &mut [u8],
+    out: &mut [u64],
+) -> Told
+    requires { ⌜ OrderGiven (now s) (now files) (now ids) units ⌝ }
+    ensures { λ r. ⌜ ToldAs (assembled (decode (now (s .entry))) (take units (now (ids .entry)))) a (now (image .entry)) (now (image .exit)) (now (out .entry)) (now (out .exit)) r ⌝ }
+{
+    let mut opened = [0u16; OPENED];
+    let mut cells = [0u16; CELLS];
+    let mut visible = [0u8; 1024];
+    let mut scopes = [0u16; 1024];
+    let mut marks = [0u16; 1024];
+    let mut n0 = [0u64; 1024];
+    let mut n1 = [0u64; 1024];
+    let mut n2 = [0u64; 1024];
+    let mut n3 = [0u64; 1024];
+    let e = walk_units(
+        s,
+        files,
+        ids,
+        units,
+        &mut opened,
+        &mut cells,
+        &mut visible,
+        &mut scopes,
+        &mut marks,
+        &mut n0,
+        &mut n1,
+        &mut n2,
+        &mut n3,
+    );
+    if e.number != 0 {
+        return Told {
+            answer: order::refuse(e.number, e.place),
+            entries: 0,
+        };
+    }
+    let written = program::write_image(s, files, ids, units, image);
+    let answer = program::with_image(a, written);
+    let Imaged::Image(_) = written else {
+        return Told {
+            answer: answer,
+            entries: 0,
+        };
+    };
+    let entries = rows::put_rows(
+        &opened,
+        &cells,
+        &visible,
+        &scopes,
+        &marks,
+        &n0,
+        &n1,
+        &n2,
+        &n3,
+        out,
+    );
+    Told {
+        answer: answer,
+        entries: entries,
     }
 }

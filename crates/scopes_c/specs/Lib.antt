@@ -1,3 +1,2 @@
--- DEFINITIONS: lists of calls as bytes, a tree as rows of numbers; with their laws
+-- DEFINITIONS: lists of calls as bytes; with their laws
 pub mod Lists
-pub mod TreeRows

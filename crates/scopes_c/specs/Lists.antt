@@ -10,6 +10,7 @@ use lib.Dec.{eqb, ltb}
 use lib.ListN.{length, getD, set, take, drop, drop-of-length-le, replicate, length-replicate}
 use lib.Seq.{take-all}
 use borrow.Author.Tests.{eq-eqb, ne-eqb, lt-ltb, le-ltb}
+use Rattle.rows.specs.Written.{put-at, written}
 use Rattle.scope_tree.specs.declared.Tree.{Tree}
 use Rattle.scopes_c.specs.declared.Step.{Step}
 use Rattle.scope_tree.specs.declared.Answer.{Answer as Told}
@@ -95,15 +96,6 @@ left (suc k) x s p =
     cond (ltb p (length s))
     (cond (ltb p 16777216) (left k (turn x (order-at s p) .0) s (after-order s p)) x)
     x
-
--- a number at i, where there is place
-abbrev pub put-at : List ℕ → ℕ → ℕ → List ℕ
-put-at o i v = cond (ltb i (length o)) (set o i v) o
-
--- numbers written one after another from i on, as far as there is place
-unfoldable pub written : List ℕ → ℕ → List ℕ → List ℕ
-written o i [] = o
-written o i (v ∷ vs) = written (put-at o i v) (i + 1) vs
 
 -- a call on a tree
 pub record Turned (t : Tree) (o : Order) (n : ℕ) (u : Tree) : Type 0 where
@@ -350,13 +342,6 @@ shown-mark a m r q e = rw q (omega arith)
 
 pub shown-refused : (a : Told) (n w r : ℕ) → a ≡ Refused n → w ≡ n → r ≡ 2 * 65536 + w → r ≡ shown (told a)
 shown-refused a n w r q x e = rw q (omega arith)
-
-module _ (o : List ℕ) (i v : ℕ) where
-  pub put-inside : i < length o → (set o i v ≡ put-at o i v) × (length (set o i v) ≡ length o)
-  put-inside h = (rw (lt-ltb i (length o) h), lib.ListN.length-set o i v)
-
-  pub put-outside : length o ≤ i → (o ≡ put-at o i v) × (length o ≡ length o)
-  put-outside h = (rw (le-ltb i (length o) h), refl)
 
 pub after-mark : (p n x : ℕ) → p + 5 + n ≡ x → p + 2 + n + 3 ≡ x
 after-mark p n x h = omega (arith, h)

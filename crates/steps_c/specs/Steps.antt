@@ -1,4 +1,4 @@
--- How an answer of a step is told in numbers, by bare places, for the differential run. Assumes nothing.
+-- How an answer of a step is told in numbers, by named places, for the differential run. Assumes nothing.
 use Prim.Native.Nat.{ℕ, suc, _+_, _≤_, _<_}
 use native.Mathlib.Numerals.{add-one}
 use native.Mathlib.Omega.{arith}
@@ -10,6 +10,7 @@ use lib.ListN.{length, set, take, getD}
 use lib.Seq.{sets, take-suc, take-all, length-take-le}
 use borrow.Author.Tests.{eq-eqb, ne-eqb}
 use Rattle.bundle.specs.Read.{numberOf, verdict}
+use Rattle.bundle.specs.Limits.{file-limit}
 use Rattle.bundle.specs.Decode.{decode}
 use Rattle.discovery.specs.declared.Graph.{Graph}
 use Rattle.discovery.specs.Turns.{Discovers}
@@ -22,36 +23,49 @@ abbrev pub bitOf : Bool → ℕ
 bitOf true = 1
 bitOf false = 0
 
--- the place at the start of what is lent, if that has a place
-abbrev pub placeTold : Checked → List ℕ → List ℕ
-placeTold Ok l = l
-placeTold (Refused n p) l = set l 0 p
+-- where the lists of what is told stand
+abbrev pub assembled-files : ℕ
+assembled-files = 3
+
+abbrev pub assembled-ids : ℕ
+assembled-ids = assembled-files + file-limit
+
+abbrev pub graph-files : ℕ
+graph-files = 1
+
+abbrev pub graph-starts : ℕ
+graph-starts = graph-files + file-limit
+
+abbrev pub graph-lengths : ℕ
+graph-lengths = graph-starts + file-limit
+
+abbrev pub graph-ids : ℕ
+graph-ids = graph-lengths + file-limit
 
 -- a refusal's place; or the report's length, the number of units, the image's length, the units' files and the linked order
 unfoldable pub assembleTold : Answer → List ℕ → List ℕ
 assembleTold a l =
     cond (eqb (a .number) 0)
-    (sets (sets (set (set (set l 0 (a .report)) 1 (a .units)) 2 (a .image)) 3 (take (a .units) (a .files))) 67 (take (a .units) (a .ids)))
+    (sets (sets (set (set (set l 0 (a .report)) 1 (a .units)) 2 (a .image)) assembled-files (take (a .units) (a .files))) assembled-ids (take (a .units) (a .ids)))
     (set l 0 (a .place))
 
 -- the number of units, their files, and their lists
 abbrev pub graphTold : Graph → List ℕ → List ℕ
 graphTold g l =
-    sets (sets (sets (sets (set l 0 (g .units)) 1 (take (g .units) (g .files))) 65 (take (g .units) (g .start))) 129 (take (g .units) (g .len))) 193 (take (g .count) (g .ids))
+    sets (sets (sets (sets (set l 0 (g .units)) graph-files (take (g .units) (g .files))) graph-starts (take (g .units) (g .start))) graph-lengths (take (g .units) (g .len))) graph-ids (take (g .count) (g .ids))
 
 -- what is told of bytes: a refusal's place, or a record that holds the definition's graph
 pub data GraphTold (s l m : List ℕ) : Type 0 where
   refused : (n p : ℕ) → verdict s ≡ Refused n p → m ≡ set l 0 p → GraphTold s l m
   accepted : (g : Graph) → verdict s ≡ Ok → Discovers (decode s) g → m ≡ graphTold g l → GraphTold s l m
 
-module _ (v : Checked) (l : List ℕ) where
-  pub told-ok : v ≡ Ok → (0 ≡ numberOf v) × (l ≡ placeTold v l)
-  unfolding numberOf
-  told-ok e = rw e (refl, refl)
+pub told-ok : (v : Checked) → v ≡ Ok → 0 ≡ numberOf v
+unfolding numberOf
+told-ok v e = rw e
 
-  pub told-refused : (n p : ℕ) → v ≡ Refused n p → (m : List ℕ) → m ≡ set l 0 p → (n ≡ numberOf v) × (m ≡ placeTold v l)
-  unfolding numberOf
-  told-refused n p e m q = rw e (refl, q)
+pub told-refused : (v : Checked) (n p : ℕ) → v ≡ Refused n p → n ≡ numberOf v
+unfolding numberOf
+told-refused v n p e = rw e
 
 -- A RUN OF STORES, one more at a time
 sets-snoc : (vs l : List ℕ) (i a : ℕ) → sets l i (vs ++ (a ∷ [])) ≡ set (sets l i vs) (i + length vs) a
@@ -76,16 +90,16 @@ module _ (a : Answer) (l : List ℕ) where
   unfolding assembleTold
   assemble-refused h m e = rw (ne-eqb (a .number) 0 h) e
 
-  pub assemble-told : a .number ≡ 0 → (m₁ m₂ m₃ m₄ : List ℕ) → m₁ ≡ set (set l 0 (a .report)) 1 (a .units) → m₂ ≡ set m₁ 2 (a .image) → m₃ ≡ sets m₂ 3 (take (a .units) (a .files))
-      → m₄ ≡ sets m₃ 67 (take (a .units) (a .ids)) → m₄ ≡ assembleTold a l
+  pub assemble-told : a .number ≡ 0 → (m₁ m₂ m₃ m₄ : List ℕ) → m₁ ≡ set (set l 0 (a .report)) 1 (a .units) → m₂ ≡ set m₁ 2 (a .image) → m₃ ≡ sets m₂ assembled-files (take (a .units) (a .files))
+      → m₄ ≡ sets m₃ assembled-ids (take (a .units) (a .ids)) → m₄ ≡ assembleTold a l
   unfolding assembleTold
   assemble-told h m₁ m₂ m₃ m₄ e₁ e₂ e₃ e₄ =
       rw (eq-eqb (a .number) 0 h)
-      (e₄ ∙ ap (λ (m : List ℕ). sets m 67 (take (a .units) (a .ids))) (e₃ ∙ ap (λ (m : List ℕ). sets m 3 (take (a .units) (a .files))) (e₂ ∙ ap (λ (m : List ℕ). set m 2 (a .image)) e₁)))
+      (e₄ ∙ ap (λ (m : List ℕ). sets m assembled-ids (take (a .units) (a .ids))) (e₃ ∙ ap (λ (m : List ℕ). sets m assembled-files (take (a .units) (a .files))) (e₂ ∙ ap (λ (m : List ℕ). set m 2 (a .image)) e₁)))
 
-pub graph-told : (g : Graph) (l m₁ m₂ m₃ m₄ m₅ : List ℕ) → m₁ ≡ set l 0 (g .units) → m₂ ≡ sets m₁ 1 (take (g .units) (g .files)) → m₃ ≡ sets m₂ 65 (take (g .units) (g .start))
-    → m₄ ≡ sets m₃ 129 (take (g .units) (g .len)) → m₅ ≡ sets m₄ 193 (take (g .count) (g .ids)) → m₅ ≡ graphTold g l
+pub graph-told : (g : Graph) (l m₁ m₂ m₃ m₄ m₅ : List ℕ) → m₁ ≡ set l 0 (g .units) → m₂ ≡ sets m₁ graph-files (take (g .units) (g .files)) → m₃ ≡ sets m₂ graph-starts (take (g .units) (g .start))
+    → m₄ ≡ sets m₃ graph-lengths (take (g .units) (g .len)) → m₅ ≡ sets m₄ graph-ids (take (g .count) (g .ids)) → m₅ ≡ graphTold g l
 graph-told g l m₁ m₂ m₃ m₄ m₅ e₁ e₂ e₃ e₄ e₅ =
-    e₅ ∙ ap (λ (m : List ℕ). sets m 193 (take (g .count) (g .ids)))
-    (e₄ ∙ ap (λ (m : List ℕ). sets m 129 (take (g .units) (g .len)))
-    (e₃ ∙ ap (λ (m : List ℕ). sets m 65 (take (g .units) (g .start))) (e₂ ∙ ap (λ (m : List ℕ). sets m 1 (take (g .units) (g .files))) e₁)))
+    e₅ ∙ ap (λ (m : List ℕ). sets m graph-ids (take (g .count) (g .ids)))
+    (e₄ ∙ ap (λ (m : List ℕ). sets m graph-lengths (take (g .units) (g .len)))
+    (e₃ ∙ ap (λ (m : List ℕ). sets m graph-starts (take (g .units) (g .start))) (e₂ ∙ ap (λ (m : List ℕ). sets m graph-files (take (g .units) (g .files))) e₁)))

@@ -1,5 +1,5 @@
 // The steps one by one, for the differential run: numbers and byte slices alone, each with the contract of the operation that it calls.
-// What is told stands in a lent array by bare places, as far as there is room. Also how the library tells numbers (`tell`).
+// What is told stands in a lent array, as far as there is room, by the places named here. Also how the library tells numbers (`tell`).
 ghost use mathlib.Core.Path.{_≡_};
 ghost use Rattle.bundle.specs.Read.{numberOf, verdict};
 ghost use Prim.Native.Nat.{_+_, _<_, _^_};
@@ -9,6 +9,20 @@ ghost use lib.ListN.{set, take, length};
 ghost use lib.Seq.{sets};
 ghost use Rattle.names.specs.Keywords.{isKeyword};
 ghost use Rattle.names.specs.Prefix.{startsWith};
+
+// The layout of `steps_assemble`'s answer, as specs/Steps.antt has it: three numbers, the units' files, the ids in linked order.
+pub const ASSEMBLED_FILES: usize = 3;
+
+pub const ASSEMBLED_IDS: usize = ASSEMBLED_FILES + bundle::limits::FILES;
+
+// Of `steps_discover`'s: the number of units, their files, where their lists start, how long they are, the ids.
+pub const GRAPH_FILES: usize = 1;
+
+pub const GRAPH_STARTS: usize = GRAPH_FILES + bundle::limits::FILES;
+
+pub const GRAPH_LENGTHS: usize = GRAPH_STARTS + bundle::limits::FILES;
+
+pub const GRAPH_IDS: usize = GRAPH_LENGTHS + bundle::limits::FILES;
 
 fn bit(b: bool) -> u8
     ensures { λ r. ⌜ r ≡ bitOf b ⌝ }
@@ -85,8 +99,8 @@ pub fn tell_ids(out: &mut [usize], at: usize, l: &[u16], n: usize)
 }
 
 // Steps 1 to 5 and the image: a number from 1 to 15, with its place in out[0]; or 0 with the report's length in out[0], the number
-// of units in out[1], the image's length in out[2], the units' files' indices from out[3] on and the linked order from out[67]
-// on. Ruled out: an image with a report; a byte of the image buffer changed where there is no image.
+// of units in out[1], the image's length in out[2], the units' files' indices from ASSEMBLED_FILES on and the linked order from
+// ASSEMBLED_IDS on. Ruled out: an image with a report; a byte of the image buffer changed where there is no image.
 #[no_mangle]
 pub extern "C" fn steps_assemble(
     s: &[u8],
@@ -107,14 +121,14 @@ pub extern "C" fn steps_assemble(
     }
     tell_both(out, a.report, a.units);
     tell(out, 2, a.image);
-    tell_places(out, 3, &a.files, a.units);
-    tell_ids(out, 67, &a.ids, a.units);
+    tell_places(out, ASSEMBLED_FILES, &a.files, a.units);
+    tell_ids(out, ASSEMBLED_IDS, &a.ids, a.units);
     number
 }
 
 // The graph of a bundle: a number from 1 to 13, with its place in out[0]; or 0 with the number of units in out[0], their files'
-// indices from out[1] on, where their lists start among the ids from out[65] on, how long they are from out[129] on, and the
-// ids from out[193] on. Ruled out: a list with an id twice; a unit that nothing reached imports.
+// indices from GRAPH_FILES on, where their lists start among the ids from GRAPH_STARTS on, how long they are from GRAPH_LENGTHS on, and
+// the ids from GRAPH_IDS on. Ruled out: a list with an id twice; a unit that nothing reached imports.
 #[no_mangle]
 pub extern "C" fn steps_discover(s: &[u8], out: &mut [usize]) -> u8
     ensures { λ r. ⌜ r ≡ numberOf (verdict (now (s .entry))) ⌝ }
@@ -129,10 +143,10 @@ pub extern "C" fn steps_discover(s: &[u8], out: &mut [usize]) -> u8
         bundle::Checked::Ok => {
             let g = discovery::discover_dependencies(s);
             tell(out, 0, g.units);
-            tell_places(out, 1, &g.files, g.units);
-            tell_ids(out, 65, &g.start, g.units);
-            tell_ids(out, 129, &g.len, g.units);
-            tell_ids(out, 193, &g.ids, g.count);
+            tell_places(out, GRAPH_FILES, &g.files, g.units);
+            tell_ids(out, GRAPH_STARTS, &g.start, g.units);
+            tell_ids(out, GRAPH_LENGTHS, &g.len, g.units);
+            tell_ids(out, GRAPH_IDS, &g.ids, g.count);
             0
         }
     }

@@ -14,9 +14,10 @@ macro_rules! example {
     };
 }
 
-const EXAMPLES: [(&str, &str, &str); 4] = [
+const EXAMPLES: [(&str, &str, &str); 5] = [
     example!("printed"),
     example!("missing-file"),
+    example!("private-import"),
     example!("right-remapping"),
     example!("wrong-remapping"),
 ];

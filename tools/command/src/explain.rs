@@ -1,6 +1,7 @@
 //! `explain`: what a number means, with an example that the tests link.
 
-use gontsamy::Number;
+use gontsamy::layout::{ANSWER, ANSWER_PLACE, BUNDLE, ENTRIES, REPORT, ROWS};
+use gontsamy::{exports, link, Buffers, BuildError, Builder, Number, Refusal};
 
 /// How a number comes about.
 pub enum Example {
@@ -8,10 +9,8 @@ pub enum Example {
     Text(&'static str, usize),
     /// A bundle's bytes in hexadecimal, and the place told.
     Bytes(&'static str, usize),
-    /// No bundle tells it: a call that does, in words and as a function.
-    Call(&'static str, fn() -> u8),
-    /// No small bundle tells it: what does. tests/limits.rs of the crate has it.
-    Words(&'static str),
+    /// No small bundle tells it: what does, in words, and as a function that gives the number and the place told.
+    Call(&'static str, fn() -> (u8, usize)),
 }
 
 /// The entry, directly in the root, with this text among its items.
@@ -34,31 +33,103 @@ macro_rules! main_with {
     };
 }
 
-/// 29: the bundle lists one file, and another imports.
-fn unlisted_importer() -> u8 {
-    let mut bytes = [0; 64];
-    let bundle = gontsamy::Builder::new(&mut bytes, b"/").and_then(|mut builder| {
-        builder.file(b"/m.simf")?;
+/// A bundle with these parts.
+fn built(parts: impl FnOnce(&mut Builder) -> Result<(), BuildError>) -> Vec<u8> {
+    let mut bytes = vec![0; BUNDLE];
+    let bundle = Builder::new(&mut bytes, b"/r").and_then(|mut builder| {
+        parts(&mut builder)?;
         builder.finish()
     });
-    let bundle = bundle.expect("the bundle is small");
-    match gontsamy::resolve(bundle, b"/a.simf", b"\x02\x05crate\x01b") {
-        Err((number, 0)) => number.0,
-        _ => 0,
+    bundle.map_or_else(|_| Vec::new(), <[u8]>::to_vec)
+}
+
+/// The number and the place that a bundle is told first.
+fn told(bundle: &[u8]) -> (u8, usize) {
+    let mut buffers = Box::new(Buffers::new());
+    match link(bundle, &mut buffers) {
+        Ok(_) => (0, 0),
+        Err(Refusal::At(number, place)) => (number.0, place),
+        Err(Refusal::Report(mut records)) => records
+            .next()
+            .map_or((0, 0), |record| (record.number.0, record.place)),
     }
 }
 
+/// 14: the buffers of the crate hold every image, so that a shorter one is lent to the export.
+fn short_image() -> (u8, usize) {
+    let bundle = built(|builder| {
+        builder.folder(b"/r")?;
+        builder.file(b"/r/main.simf")?;
+        builder.use_item(false, &[b"crate", b"a"], &[(b"f", None)])?;
+        builder.function(false, b"main")?;
+        builder.file(b"/r/a.simf")?;
+        builder.function(true, b"f").map(drop)
+    });
+    let (mut report, mut image) = ([0; REPORT], [0; 61]);
+    let (mut answer, mut rows) = ([0; ANSWER], vec![0; ROWS]);
+    let number = exports::link(&bundle, &mut report, &mut image, &mut answer, &mut rows);
+    (number, answer[ANSWER_PLACE])
+}
+
+/// 15: in the image each path of a library of one letter grows by `crate::unit_1`.
+fn long_image() -> (u8, usize) {
+    let name = [b'f'; 32];
+    let aliases: Vec<String> = (0..960).map(|i| format!("a{i:031}")).collect();
+    told(&built(|builder| {
+        builder.folder(b"/r")?;
+        builder.folder(b"/l")?;
+        builder.remapping(b"/r", b"l", b"/l")?;
+        builder.file(b"/r/main.simf")?;
+        builder.function(false, b"main")?;
+        for part in aliases.chunks(32) {
+            let elements: Vec<(&[u8], Option<&[u8]>)> = part
+                .iter()
+                .map(|alias| (&name[..], Some(alias.as_bytes())))
+                .collect();
+            builder.use_item(false, &[b"l", b"a"], &elements)?;
+        }
+        for _ in 0..150 {
+            builder.use_item(false, &[b"l", b"a"], &[])?;
+        }
+        builder.file(b"/l/a.simf")?;
+        builder.function(true, &name).map(drop)
+    }))
+}
+
+/// 29: the bundle lists one file, and another imports.
+fn unlisted_importer() -> (u8, usize) {
+    let bundle = built(|builder| {
+        builder.folder(b"/r")?;
+        builder.file(b"/r/m.simf")
+    });
+    let resolved = gontsamy::resolve(&bundle, b"/r/a.simf", b"\x02\x05crate\x01b");
+    resolved.map_or_else(|(number, place)| (number.0, place), |_| (0, 0))
+}
+
 /// 40: no use of a linked bundle lacks the word, since its path was rewritten.
-fn use_of_no_crate() -> u8 {
+fn use_of_no_crate() -> (u8, usize) {
     let mut tree = Box::new(gontsamy::Tree::new());
     let told = tree.resolve_use(b"\x02\x03lib\x01a\x01\x01f\x00", false);
-    told.map_or_else(|number| number.0, |()| 0)
+    (told.map_or_else(|number| number.0, |()| 0), 0)
 }
 
 /// 50: a bundle's modules are closed where they end.
-fn exit_at_the_root() -> u8 {
+fn exit_at_the_root() -> (u8, usize) {
     let mut tree = Box::new(gontsamy::Tree::new());
-    tree.exit().map_or_else(|number| number.0, |()| 0)
+    (tree.exit().map_or_else(|number| number.0, |()| 0), 0)
+}
+
+/// 51: 1,024 functions and their unit are 1,025 entries.
+fn full_tree() -> (u8, usize) {
+    told(&built(|builder| {
+        builder.folder(b"/r")?;
+        builder.file(b"/r/main.simf")?;
+        builder.function(false, b"main")?;
+        for i in 1..ENTRIES {
+            builder.function(false, format!("f{i}").as_bytes())?;
+        }
+        Ok(())
+    }))
 }
 
 /// An example for each number.
@@ -114,11 +185,17 @@ pub const EXAMPLES: &[(u8, Example)] = &[
     ),
     (
         14,
-        Example::Words("the printed case of the README with an image buffer of 61 bytes: it needs 62"),
+        Example::Call(
+            "`gontsamy_link` of the README's printed case with an image buffer of 61 bytes, where the image has 62,",
+            short_image,
+        ),
     ),
     (
         15,
-        Example::Words("an entry of 65,000 bytes with 256 uses of a library of one letter: each path grows by `crate::unit_1`"),
+        Example::Call(
+            "an entry of 65,000 bytes with 180 uses of a library of one letter, each of whose paths grows by `crate::unit_1`,",
+            long_image,
+        ),
     ),
     (20, Example::Text(main_with!("    use {f}\n"), 36)),
     (21, Example::Text(main_with!("    use limits::daily::{check}\n"), 36)),
@@ -171,7 +248,7 @@ pub const EXAMPLES: &[(u8, Example)] = &[
     (
         29,
         Example::Call(
-            "`resolve` of `crate::b` for the importer `/a.simf` in a bundle whose one file is `/m.simf`",
+            "`resolve` of `crate::b` for the importer `/r/a.simf` in a bundle whose one file is `/r/m.simf`",
             unlisted_importer,
         ),
     ),
@@ -204,7 +281,13 @@ pub const EXAMPLES: &[(u8, Example)] = &[
     (48, Example::Text(main_with!("    type T\n    enum T\n"), 42)),
     (49, Example::Text(main_with!("    fn f\n    fn f\n"), 42)),
     (50, Example::Call("`exit` on an empty tree", exit_at_the_root)),
-    (51, Example::Words("an entry with 1,024 functions: with its unit they are 1,025 entries")),
+    (
+        51,
+        Example::Call(
+            "an entry with 1,024 functions, which with its unit are 1,025 entries,",
+            full_tree,
+        ),
+    ),
 ];
 
 /// The page of a number.
@@ -227,9 +310,9 @@ pub fn page(number: u8) -> Option<String> {
                 out += &format!("    the bytes {hex}\ntell `no {number} {place}`\n");
             }
             Example::Call(words, call) => {
-                out += &format!("    {words}\ntells `no {} 0`\n", call());
+                let (number, place) = call();
+                out += &format!("    {words}\ntells `no {number} {place}`\n");
             }
-            Example::Words(words) => out += &format!("    {words}\n"),
         }
     }
     Some(out)
@@ -258,9 +341,9 @@ pub fn pages() -> String {
                 out += &format!("The bytes `{hex}` tell `no {} {place}`.\n", meaning.number);
             }
             Example::Call(words, call) => {
-                out += &format!("{words} tells `no {} 0`.\n", call());
+                let (number, place) = call();
+                out += &format!("{words} tells `no {number} {place}`.\n");
             }
-            Example::Words(words) => out += &format!("{words}.\n"),
         }
     }
     out
@@ -270,20 +353,6 @@ pub fn pages() -> String {
 mod tests {
     use super::*;
     use crate::card::Card;
-    use gontsamy::{link, Buffers, Refusal};
-
-    /// The number and place that a bundle is told first.
-    fn told(bytes: &[u8]) -> (u8, usize) {
-        let mut buffers = Box::new(Buffers::new());
-        match link(bytes, &mut buffers) {
-            Ok(_) => (0, 0),
-            Err(Refusal::At(number, place)) => (number.0, place),
-            Err(Refusal::Report(mut records)) => {
-                let record = records.next().expect("a report has a record");
-                (record.number.0, record.place)
-            }
-        }
-    }
 
     fn bytes_of(hex: &str) -> Vec<u8> {
         let digits: Vec<u8> = hex
@@ -311,8 +380,10 @@ mod tests {
                     (told(&card.bytes), *place)
                 }
                 Example::Bytes(hex, place) => (told(&bytes_of(hex)), *place),
-                Example::Call(_, call) => ((call(), 0), 0),
-                Example::Words(_) => continue,
+                Example::Call(_, call) => {
+                    let told = call();
+                    (told, told.1)
+                }
             };
             if answer != (number, place) {
                 wrong.push(format!("{number}: {answer:?}, not {:?}", (number, place)));

@@ -1,4 +1,7 @@
-//! The library through the crate against the model of tools/generate, on generated bundles: units, order, entries, image, refusals.
+//! The library through the crate on generated bundles: units, order, entries, image and refusals are those of the model of
+//! tools/generate, and those of the proved printing program.
+
+use std::process::{Command, Stdio};
 
 use bundle_generate::link::run;
 use gontsamy::{link, Buffers, Kind, Refusal};
@@ -46,19 +49,25 @@ fn lines(bundle: &[u8], buffers: &mut Buffers) -> (String, Option<Vec<u8>>) {
     }
 }
 
+fn count() -> u64 {
+    let count = std::env::var("GONTSAMY_BUNDLES").ok();
+    count.and_then(|count| count.parse().ok()).unwrap_or(3_000)
+}
+
+/// Bundles of all families, and as many that reach to the limits.
+fn bundles(seed: u64, count: u64) -> impl Iterator<Item = Vec<u8>> {
+    (0..count).flat_map(move |index| {
+        let near = bundle_generate::bundle(seed, index, None);
+        [near, bundle_generate::far_bundle(seed, index)]
+    })
+}
+
 #[test]
 fn generated_bundles() {
-    let count: u64 = std::env::var("GONTSAMY_BUNDLES")
-        .ok()
-        .and_then(|count| count.parse().ok())
-        .unwrap_or(3_000);
+    let count = count();
     let mut buffers = Box::new(Buffers::new());
     let mut linked = 0;
-    let all = (0..count).flat_map(|index| {
-        let near = bundle_generate::bundle(5, index, None);
-        [near, bundle_generate::far_bundle(5, index)]
-    });
-    for bundle in all {
+    for bundle in bundles(5, count) {
         let expected = run(&bundle, 100_000);
         if expected.too_large {
             continue;
@@ -69,4 +78,48 @@ fn generated_bundles() {
         linked += u64::from(image.is_some());
     }
     assert!(linked > count / 2);
+}
+
+/// The printing program on a stream of bundles, with the image of each that links (crates/link_vectors).
+fn printed(bundles: &[Vec<u8>]) -> String {
+    let path = std::env::temp_dir().join(format!("gontsamy-stream-{}", std::process::id()));
+    let mut stream = Vec::new();
+    for bundle in bundles {
+        stream.extend((bundle.len() as u32).to_be_bytes());
+        stream.extend(bundle);
+    }
+    std::fs::write(&path, &stream).unwrap();
+    let program = concat!(
+        env!("CARGO_MANIFEST_DIR"),
+        "/../../target/bin/link_vectors"
+    );
+    let output = Command::new(program)
+        .stdin(Stdio::from(std::fs::File::open(&path).unwrap()))
+        .output()
+        .unwrap();
+    std::fs::remove_file(&path).unwrap();
+    String::from_utf8(output.stdout).unwrap()
+}
+
+#[test]
+#[cfg_attr(
+    not(printing),
+    ignore = "target/bin/link_vectors is not there: `rt check link_vectors` makes it"
+)]
+fn printing_program() {
+    let mut buffers = Box::new(Buffers::new());
+    let all: Vec<Vec<u8>> = bundles(6, count()).collect();
+    for some in all.chunks(1_000) {
+        let mut expected = String::new();
+        for bundle in some {
+            let (text, image) = lines(bundle, &mut buffers);
+            expected += &text;
+            if let Some(image) = image {
+                let digits: String = image.iter().map(|byte| format!("{byte:02x}")).collect();
+                expected += &format!("image {digits}\n");
+            }
+            expected += "--\n";
+        }
+        assert!(printed(some) == expected, "the lines differ");
+    }
 }

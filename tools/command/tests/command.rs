@@ -34,6 +34,7 @@ fn examples() {
         "right-remapping",
         "wrong-remapping",
         "missing-file",
+        "private-import",
     ] {
         let stored =
             std::fs::read_to_string(root().join(format!("examples/{name}.stdout"))).unwrap();

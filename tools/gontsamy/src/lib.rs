@@ -35,7 +35,7 @@ mod number;
 mod parts;
 mod tree;
 
-pub use builder::{BuildError, Builder};
+pub use builder::{BuildError, Builder, Part, Reason};
 pub use graph::{linearize, Graph, Ids, Linearized};
 pub use image::{Body, Element, Elements, Item, Items, Strings};
 pub use number::{Meaning, Number, MEANINGS};
@@ -155,6 +155,8 @@ pub struct Entry {
     pub mark: usize,
     /// The entry that it was imported from; none of a declaration.
     pub origin: Option<usize>,
+    /// Of an imported module: what it shows.
+    pub shown: Option<Scope>,
     name: [u8; 32],
     length: usize,
 }
@@ -164,6 +166,15 @@ impl Entry {
     pub fn name(&self) -> &[u8] {
         &self.name[..self.length]
     }
+}
+
+/// What a module holds, or what an imported one shows: the entries of a module among the first of all.
+#[derive(Clone, Copy, Debug, PartialEq, Eq)]
+pub struct Scope {
+    /// The entry of the module; none for the root.
+    pub module: Option<usize>,
+    /// Among how many first entries.
+    pub first: usize,
 }
 
 /// The units of an answer in linked order.
@@ -205,6 +216,70 @@ impl<'a> Linked<'a> {
     pub fn entry_count(&self) -> usize {
         self.rows.len() / ROW
     }
+
+    /// The entry of that number.
+    pub fn entry(&self, index: usize) -> Option<Entry> {
+        self.rows.chunks_exact(ROW).nth(index).map(entry)
+    }
+
+    /// The root, whose entries are the units.
+    pub fn root(&self) -> Scope {
+        let first = self.entry_count();
+        Scope {
+            module: None,
+            first,
+        }
+    }
+
+    /// The entry of a kind and a name in a scope.
+    ///
+    /// ```
+    /// use gontsamy::{link, Buffers, Builder, Kind};
+    ///
+    /// // `m` is imported before its `late` is declared, so that the copy does not show it.
+    /// let mut bytes = [0; 256];
+    /// let mut builder = Builder::new(&mut bytes, b"/").unwrap();
+    /// builder.file(b"/main.simf").unwrap();
+    /// builder.function(false, b"main").unwrap();
+    /// builder.open_module(true, b"m").unwrap();
+    /// let mark = builder.function(true, b"f").unwrap();
+    /// builder.use_item(true, &[b"crate", b"main"], &[(b"m", Some(b"early"))]).unwrap();
+    /// builder.function(true, b"late").unwrap();
+    /// builder.close_module().unwrap();
+    /// let bundle = builder.finish().unwrap();
+    ///
+    /// let mut buffers = Buffers::new();
+    /// let linked = link(bundle, &mut buffers).unwrap();
+    /// let module = |scope, name| linked.inside(scope, linked.find(scope, Kind::Module, name)?);
+    /// let unit = module(linked.root(), b"unit_0").unwrap();
+    /// let m = module(unit, b"m").unwrap();
+    /// let early = module(m, b"early").unwrap();
+    /// assert!(linked.find(m, Kind::Function, b"late").is_some());
+    /// assert!(linked.find(early, Kind::Function, b"late").is_none());
+    /// let f = linked.find(early, Kind::Function, b"f").unwrap();
+    /// assert_eq!(linked.entry(f).unwrap().mark, mark);
+    /// ```
+    pub fn find(&self, scope: Scope, kind: Kind, name: &[u8]) -> Option<usize> {
+        self.entries().take(scope.first).position(|entry| {
+            entry.scope == scope.module && entry.kind == kind && entry.name() == name
+        })
+    }
+
+    /// What is inside an entry that was found in a scope, where it is a module: its own entries, or what an imported one shows.
+    pub fn inside(&self, scope: Scope, index: usize) -> Option<Scope> {
+        let entry = self.entry(index)?;
+        match entry.shown {
+            Some(shown) => Some(Scope {
+                first: shown.first.min(scope.first),
+                ..shown
+            }),
+            None if entry.kind == Kind::Module => Some(Scope {
+                module: Some(index),
+                ..scope
+            }),
+            None => None,
+        }
+    }
 }
 
 fn entry(row: &[u64]) -> Entry {
@@ -213,16 +288,22 @@ fn entry(row: &[u64]) -> Entry {
     for (bytes, word) in name.chunks_exact_mut(8).zip(&row[ROW_NAME..]) {
         bytes.copy_from_slice(&word.to_be_bytes());
     }
+    let kind = match row[ROW_KIND] {
+        1 => Kind::Type,
+        2 => Kind::Function,
+        _ => Kind::Module,
+    };
+    let origin = number(ROW_ORIGIN).checked_sub(1);
     Entry {
-        kind: match row[ROW_KIND] {
-            1 => Kind::Type,
-            2 => Kind::Function,
-            _ => Kind::Module,
-        },
+        kind,
         public: row[ROW_PUBLIC] == 1,
         scope: number(ROW_SCOPE).checked_sub(1),
         mark: number(ROW_MARK),
-        origin: number(ROW_ORIGIN).checked_sub(1),
+        origin,
+        shown: (kind == Kind::Module && origin.is_some()).then(|| Scope {
+            module: number(ROW_SHOWN).checked_sub(1),
+            first: number(ROW_TIME),
+        }),
         length: name.iter().position(|&byte| byte == 0).unwrap_or(32),
         name,
     }

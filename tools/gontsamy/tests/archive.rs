@@ -1,19 +1,10 @@
-//! The archive as a host in C has it: what it needs from outside, the header in two languages, and the example.
+//! The archive as a host in C has it: what it needs from outside, the header in two languages, and a tree filled call by call.
 
-use std::path::{Path, PathBuf};
+mod common;
+
 use std::process::Command;
 
-fn root() -> PathBuf {
-    PathBuf::from(env!("CARGO_MANIFEST_DIR")).join("../..")
-}
-
-fn archive() -> PathBuf {
-    root().join("target/staticlib/libhost.a")
-}
-
-fn scratch(name: &str) -> PathBuf {
-    std::env::temp_dir().join(format!("gontsamy-{}-{name}", std::process::id()))
-}
+use common::{archive, compile, root, scratch};
 
 /// The archive needs memcpy and memset alone.
 #[test]
@@ -34,28 +25,6 @@ fn undefined_symbols() {
     }
 }
 
-fn compile(words: &[&str], source: &Path, out: &Path) {
-    let output = Command::new(words[0])
-        .args(&words[1..])
-        .args(["-Wall", "-Wextra", "-pedantic", "-Werror", "-I"])
-        .arg(root().join("include"))
-        .arg(source)
-        .args(if words.contains(&"-c") {
-            vec![]
-        } else {
-            vec![archive()]
-        })
-        .arg("-o")
-        .arg(out)
-        .output()
-        .expect("a compiler is there");
-    assert!(
-        output.status.success(),
-        "{}",
-        String::from_utf8_lossy(&output.stderr)
-    );
-}
-
 /// The header compiles clean as C11 and as C++17.
 #[test]
 fn header_compiles() {
@@ -71,43 +40,6 @@ fn header_compiles() {
         std::fs::remove_file(source).unwrap();
     }
     std::fs::remove_file(&out).unwrap();
-}
-
-/// The host in C links the printed case, and refuses the import of a private function with 44.
-#[test]
-fn host_in_c() {
-    let program = scratch("host");
-    compile(
-        &["cc", "-std=c11", "-O1"],
-        &root().join("examples/hosts/link.c"),
-        &program,
-    );
-    let mut bytes = [0; gontsamy::layout::BUNDLE];
-    let bundle = scratch("bundle");
-    for (public, status, answer) in [
-        (
-            true,
-            0,
-            "ok 2\nunit 1 is file 1\nunit 0 is file 0\n5 entries, image of 62 bytes\n",
-        ),
-        (false, 1, "no 44 27\n"),
-    ] {
-        let mut builder = gontsamy::Builder::new(&mut bytes, b"/r").unwrap();
-        builder.folder(b"/r").unwrap();
-        builder.file(b"/r/main.simf").unwrap();
-        builder
-            .use_item(false, &[b"crate", b"a"], &[(b"f", None)])
-            .unwrap();
-        builder.function(false, b"main").unwrap();
-        builder.file(b"/r/a.simf").unwrap();
-        builder.function(public, b"f").unwrap();
-        std::fs::write(&bundle, builder.finish().unwrap()).unwrap();
-        let output = Command::new(&program).arg(&bundle).output().unwrap();
-        assert_eq!(String::from_utf8_lossy(&output.stdout), answer);
-        assert_eq!(output.status.code(), Some(status));
-    }
-    std::fs::remove_file(&bundle).unwrap();
-    std::fs::remove_file(&program).unwrap();
 }
 
 /// The host in C that fills a tree.

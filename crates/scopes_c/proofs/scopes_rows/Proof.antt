@@ -4,7 +4,7 @@ use Rattle.scopes_c.proofs.scopes_rows.Statement.{statement}
 use Rattle.scopes_c.proofs.scopes_rows.Tie as tie
 use mathlib.Core.Path.{ap}
 use Rattle.scope_tree.specs.Flat.{Flat}
-use Rattle.scopes_c.specs.TreeRows.{listed-as}
+use Rattle.rows.specs.TreeRows.{listed-as}
 
 slice-aggregate-replayed : tie.Need-slice-aggregate-replayed
 slice-aggregate-replayed c = search needs

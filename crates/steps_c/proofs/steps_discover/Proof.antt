@@ -53,7 +53,7 @@ same-length c = search needs
 returns : tie.Need-returns
 returns c =
     let e = sym (c .before .before .before .before .before .before .before .check .ensures) ∙ c .before .before .before .before .before .checked .given .1 in
-    (told-refused _ (c .before .before .before .before .before .before .before .before .before .before .args .out .now) _ _ e _ (c .before .before .tell .ensures) .0, refused _ _ e (c .before .before .tell .ensures))
+    (told-refused _ _ _ e, refused _ _ e (c .before .before .tell .ensures))
 
 -- src/lib.rt:153:1
 same-length-2 : tie.Need-same-length-2
@@ -63,7 +63,7 @@ same-length-2 c = search needs
 returns-2 : tie.Need-returns-2
 returns-2 c =
     let e = sym (c .before .before .before .before .before .before .before .before .before .before .before .before .before .before .before .before .before .before .before .before .before .before .before .before .before .before .before .before .before .before .before .before .before .before .before .check .ensures) ∙ c .before .before .before .before .before .before .before .before .before .before .before .before .before .before .before .before .before .before .before .before .before .before .before .before .before .before .before .before .before .before .before .before .before .enum-told .given .1 in (
-      told-ok _ (c .before .before .before .before .before .before .before .before .before .before .before .before .before .before .before .before .before .before .before .before .before .before .before .before .before .before .before .before .before .before .before .before .before .before .before .before .before .before .args .out .now) e .0,
+      told-ok _ e,
       accepted (c .before .before .before .before .before .before .before .before .before .before .before .before .before .before .before .before .before .before .before .before .before .before .before .before .before .before .before .before .before .before .before .before .discover-dependencies .result) e (c .before .before .before .before .before .before .before .before .before .before .before .before .before .before .before .before .before .before .before .before .before .before .before .before .before .before .before .before .before .before .before .before .discover-dependencies .ensures)
           (graph-told (c .before .before .before .before .before .before .before .before .before .before .before .before .before .before .before .before .before .before .before .before .before .before .before .before .before .before .before .before .before .before .before .before .discover-dependencies .result) (c .before .before .before .before .before .before .before .before .before .before .before .before .before .before .before .before .before .before .before .before .before .before .before .before .before .before .before .before .before .before .before .before .before .before .before .before .before .before .args .out .now) _ _ _ _ _ (c .before .before .before .before .before .before .before .before .before .before .before .before .before .before .before .before .before .before .before .before .before .before .before .before .before .before .before .before .before .before .tell2 .ensures) (c .before .before .before .before .before .before .before .before .before .before .before .before .before .before .before .before .before .before .before .before .before .before .before .tell-places .ensures) (c .before .before .before .before .before .before .before .before .before .before .before .before .before .before .before .before .tell-ids .ensures) (c .before .before .before .before .before .before .before .before .before .tell-ids2 .ensures) (c .before .before .tell-ids3 .ensures)),
     )

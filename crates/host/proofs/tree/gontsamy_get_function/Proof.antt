@@ -11,11 +11,8 @@ get-requires c κs = search needs
 tell-found-requires : tie.Need-tell-found-requires
 tell-found-requires c κs = search needs
 
-same-length : tie.Need-same-length
-same-length c = search needs
-
 returns : tie.Need-returns
-returns c = found-told (answers-function _ _ _ ((c .before .before .before .before .get) .ensures ((c .before .before .before .before .before .before .before .args) .visible .now))) ((c .before .before .tell-found) .ensures .0) ((c .before .before .tell-found) .ensures .1)
+returns c = found-told (answers-function _ _ _ ((c .before .before .get) .ensures ((c .before .before .before .before .args) .visible .now))) ((c .tell-found) .ensures .0) ((c .tell-found) .ensures .1)
 
 pub gontsamy-get-function-spec : {M : Type 1} → statement M
-gontsamy-get-function-spec = tie.close (tie.spec get-requires tell-found-requires same-length returns)
+gontsamy-get-function-spec = tie.close (tie.spec get-requires tell-found-requires returns)

@@ -13,7 +13,7 @@ use Rattle.scope_tree.specs.Step.{Came, declared, used}
 use Rattle.scope_tree.specs.Flat.{Body, own, copy, Entry, none}
 use Rattle.scope_tree.specs.Rows.{tab, length-tab, getD-tab, isOwn, row, row-at, name-at, came-of, body-of}
 use Rattle.scope_tree.specs.Views.{View, rows, entries-of}
-use Rattle.scopes_c.specs.Lists.{put-at, put-inside, written}
+use Rattle.rows.specs.Written.{put-at, put-inside, written}
 
 -- 0 for a declaration, else the number of the entry copied, plus one
 abbrev pub origin-of : Came → ℕ

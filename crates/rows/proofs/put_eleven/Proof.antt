@@ -2,9 +2,9 @@ use borrow.Author.Needs.{below-set, set-long}
 use native.Mathlib.Omega.{arith}
 use Prim.Native.Nat.{_+_, _<_}
 use lib.ListN.{length}
-use Rattle.scopes_c.specs.TreeRows.{eleven-stored}
-use Rattle.scopes_c.proofs.put_eleven.Statement.{statement}
-use Rattle.scopes_c.proofs.put_eleven.Tie as tie
+use Rattle.rows.specs.TreeRows.{eleven-stored}
+use Rattle.rows.proofs.put_eleven.Statement.{statement}
+use Rattle.rows.proofs.put_eleven.Tie as tie
 
 mul-out : tie.Need-mul-out
 mul-out c = let (g, h) = c .pre in omega arith

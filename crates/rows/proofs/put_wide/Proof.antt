@@ -1,7 +1,7 @@
 use borrow.Author.Needs.{needs}
-use Rattle.scopes_c.proofs.put_wide.Statement.{statement}
-use Rattle.scopes_c.proofs.put_wide.Tie as tie
-use Rattle.scopes_c.specs.Lists.{put-inside, put-outside}
+use Rattle.rows.proofs.put_wide.Statement.{statement}
+use Rattle.rows.proofs.put_wide.Tie as tie
+use Rattle.rows.specs.Written.{put-inside, put-outside}
 
 mul-out : tie.Need-mul-out
 mul-out c = search needs

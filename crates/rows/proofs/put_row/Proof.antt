@@ -1,7 +1,7 @@
 use borrow.Author.Needs.{needs}
-use Rattle.scopes_c.specs.TreeRows.{row-put}
-use Rattle.scopes_c.proofs.put_row.Statement.{statement}
-use Rattle.scopes_c.proofs.put_row.Tie as tie
+use Rattle.rows.specs.TreeRows.{row-put}
+use Rattle.rows.proofs.put_row.Statement.{statement}
+use Rattle.rows.proofs.put_row.Tie as tie
 
 is-own-requires : tie.Need-is-own-requires
 is-own-requires c κs = search needs

@@ -1,10 +1,10 @@
 use borrow.Author.Needs.{needs}
 use native.Mathlib.Omega.{arith}
-use Rattle.scopes_c.proofs.put_rows.Statement.{statement}
-use Rattle.scopes_c.proofs.put_rows.Tie as tie
+use Rattle.rows.proofs.put_rows.Statement.{statement}
+use Rattle.rows.proofs.put_rows.Tie as tie
 use Prim.Native.Nat.{_-_}
 use Rattle.scope_tree.specs.Trees.{view, packed-in}
-use Rattle.scopes_c.specs.TreeRows.{row-read, Listing, listing-start, listing-turn, listing-end}
+use Rattle.rows.specs.TreeRows.{row-read, Listing, listing-start, listing-turn, listing-end}
 
 abbrev Inv-loop : tie.InvT-loop
 Inv-loop opened cells visible scopes marks n0 n1 n2 n3 out₀ count i₀ out i = Listing out₀ (view (packed-in opened cells visible scopes marks n0 n1 n2 n3)) out i

@@ -1,9 +1,9 @@
 use borrow.Author.Needs.{needs}
 use Prim.Native.Nat.{_-_}
 use native.Mathlib.Omega.{arith}
-use Rattle.scopes_c.specs.TreeRows.{Putting, putting-start, putting-turn, putting-end}
-use Rattle.scopes_c.proofs.put_all.Statement.{statement}
-use Rattle.scopes_c.proofs.put_all.Tie as tie
+use Rattle.rows.specs.TreeRows.{Putting, putting-start, putting-turn, putting-end}
+use Rattle.rows.proofs.put_all.Statement.{statement}
+use Rattle.rows.proofs.put_all.Tie as tie
 
 abbrev Inv-loop : tie.InvT-loop
 Inv-loop out₀ at row i₀ out i = Putting out₀ at row out i

@@ -1,5 +1,5 @@
-use Rattle.scopes_c.proofs.is_own.Statement.{statement}
-use Rattle.scopes_c.proofs.is_own.Tie as tie
+use Rattle.rows.proofs.is_own.Statement.{statement}
+use Rattle.rows.proofs.is_own.Tie as tie
 use borrow.Author.Tests.{eq-eqb, ne-eqb}
 use Rattle.scope_tree.specs.Rows.{isOwn}
 

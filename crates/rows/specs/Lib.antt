@@ -1,0 +1,3 @@
+-- DEFINITIONS: a tree as rows of numbers; with their laws
+pub mod Written
+pub mod TreeRows
