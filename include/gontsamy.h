@@ -2,7 +2,7 @@
  *
  * No call allocates, keeps a pointer, or is unsafe because of what was called before. Any bytes may be handed over. A pointer may be null
  * where its length is 0; one without a length points at an array of the length that is named here. Buffers must not overlap. The archive
- * needs memcpy and memset alone. x86-64 Linux; a link takes up to 420 KB of stack (docs/BENCHMARKS.md).
+ * needs memcpy and memset alone. x86-64 Linux; a link takes up to 360 KB of stack (docs/BENCHMARKS.md).
  *
  * A call returns 0, or a number that refuses: GONTSAMY_CUT and so on below. What each means and what to do is in docs/NUMBERS.md.
  */
@@ -63,15 +63,17 @@ uint8_t gontsamy_link(const uint8_t *bundle, size_t bundle_length,
                       size_t *answer, size_t answer_length,
                       uint64_t *rows, size_t rows_length);
 
-/* Tests a bundle by the numbers 1 to 13 alone: 0, or a number with its place in place[0] where there is such a place. */
-uint8_t gontsamy_check(const uint8_t *bundle, size_t bundle_length, size_t *place, size_t place_length);
+/* Tests a bundle by the numbers 1 to 13 alone: 0, and `place` is as it was; or a number, with its place in `place`. */
+uint8_t gontsamy_check(const uint8_t *bundle, size_t bundle_length, size_t *place);
 
-/* Resolves a use of a listed file: 0 for a file and 255 for a folder, with its index in out[0] and the number of segments left in out[1];
- * or a number, with its place in out[0]. `use` is in the bundle's form: a count of segments, and the segments. */
+/* Resolves a use of a listed file: 0 for a file and GONTSAMY_FOLDER for a folder, with its place among the bundle's files or folders in
+ * `index` and the number of segments left in `left`; or a number, with its place in `place`. What is not told is as it was. `use` is in
+ * the bundle's form: a count of segments, and the segments. */
+#define GONTSAMY_FOLDER 255
 uint8_t gontsamy_resolve(const uint8_t *bundle, size_t bundle_length,
                          const uint8_t *importer, size_t importer_length,
                          const uint8_t *use, size_t use_length,
-                         size_t *out, size_t out_length);
+                         size_t *index, size_t *left, size_t *place);
 
 /* The linked order of a bundle, without assembly, tree and image: what gontsamy_link answers after its steps 1 to 4.
  *
@@ -124,11 +126,11 @@ uint8_t gontsamy_resolve_use(uint16_t *opened, uint16_t *cells, uint8_t *visible
 uint8_t gontsamy_get_alias(const uint16_t *opened, const uint16_t *cells, const uint8_t *visible,
                            const uint16_t *scopes, const uint16_t *marks, const uint64_t *n0,
                            const uint64_t *n1, const uint64_t *n2, const uint64_t *n3,
-                           const uint8_t *name, size_t name_length, size_t *mark, size_t mark_length);
+                           const uint8_t *name, size_t name_length, size_t *mark);
 uint8_t gontsamy_get_function(const uint16_t *opened, const uint16_t *cells, const uint8_t *visible,
                               const uint16_t *scopes, const uint16_t *marks, const uint64_t *n0,
                               const uint64_t *n1, const uint64_t *n2, const uint64_t *n3,
-                              const uint8_t *name, size_t name_length, size_t *mark, size_t mark_length);
+                              const uint8_t *name, size_t name_length, size_t *mark);
 uint8_t gontsamy_rows(const uint16_t *opened, const uint16_t *cells, const uint8_t *visible,
                       const uint16_t *scopes, const uint16_t *marks, const uint64_t *n0,
                       const uint64_t *n1, const uint64_t *n2, const uint64_t *n3,
@@ -180,18 +182,18 @@ static inline uint8_t gontsamy_tree_resolve_use(gontsamy_tree *tree, const uint8
                      use, use_length, is_public);
 }
 
-/* The mark of the type of that name in the innermost open module, in mark[0] where there is such a place. */
-static inline uint8_t gontsamy_tree_get_alias(const gontsamy_tree *tree, const uint8_t *name, size_t name_length, size_t *mark, size_t mark_length)
+/* The mark of the type of that name in the innermost open module, in `mark`; GONTSAMY_NO_ITEM where there is none, and it is as it was. */
+static inline uint8_t gontsamy_tree_get_alias(const gontsamy_tree *tree, const uint8_t *name, size_t name_length, size_t *mark)
 {
     return gontsamy_get_alias(tree->opened, tree->cells, tree->visible, tree->scopes, tree->marks, tree->n0, tree->n1, tree->n2, tree->n3,
-                     name, name_length, mark, mark_length);
+                     name, name_length, mark);
 }
 
 /* The same of the function of that name. */
-static inline uint8_t gontsamy_tree_get_function(const gontsamy_tree *tree, const uint8_t *name, size_t name_length, size_t *mark, size_t mark_length)
+static inline uint8_t gontsamy_tree_get_function(const gontsamy_tree *tree, const uint8_t *name, size_t name_length, size_t *mark)
 {
     return gontsamy_get_function(tree->opened, tree->cells, tree->visible, tree->scopes, tree->marks, tree->n0, tree->n1, tree->n2, tree->n3,
-                     name, name_length, mark, mark_length);
+                     name, name_length, mark);
 }
 
 /* The tree's entries in `rows`, GONTSAMY_ROW numbers each, and how many they are in `count`. GONTSAMY_SMALL_BUFFER where `rows` has less

@@ -15,7 +15,7 @@ static uint64_t rows[GONTSAMY_ROWS];
 
 int main(void)
 {
-    size_t mark[1] = {0}, count = 0;
+    size_t mark = 0, count = 0;
     printf("enter %d\n", gontsamy_tree_enter(&tree, BYTES("lib"), 1, 10));
     printf("function %d\n", gontsamy_tree_insert_function(&tree, BYTES("f"), 1, 11));
     printf("function again %d\n", gontsamy_tree_insert_function(&tree, BYTES("f"), 1, 12));
@@ -27,9 +27,9 @@ int main(void)
     printf("use %d\n", gontsamy_tree_resolve_use(&tree, BYTES("\2\5crate\3lib\1\1f\1g"), 0));
     printf("use of no crate %d\n", gontsamy_tree_resolve_use(&tree, BYTES("\2\3own\3lib\1\1f\1h"), 0));
     printf("use of a private type %d\n", gontsamy_tree_resolve_use(&tree, BYTES("\2\5crate\3lib\1\1T\0"), 0));
-    printf("get function %d", gontsamy_tree_get_function(&tree, BYTES("g"), mark, 1));
-    printf(" %zu\n", mark[0]);
-    printf("get type %d\n", gontsamy_tree_get_alias(&tree, BYTES("T"), mark, 1));
+    printf("get function %d", gontsamy_tree_get_function(&tree, BYTES("g"), &mark));
+    printf(" %zu\n", mark);
+    printf("get type %d\n", gontsamy_tree_get_alias(&tree, BYTES("T"), &mark));
     printf("rows %d", gontsamy_tree_rows(&tree, rows, GONTSAMY_ROWS, &count));
     printf(" %zu\n", count);
     for (size_t i = 0; i < count; i++) {

@@ -1,4 +1,4 @@
--- Step 5 of document 01: the units of a linked order become one program. The names are those of resolve_order.rs. Assumes nothing.
+-- Step 5: the units of a linked order become one program. The names are those of resolve_order.rs. Assumes nothing.
 use Prim.Native.Nat.{ℕ, zero, suc}
 use mathlib.Core.Bool.{Bool, false, cond, _&&_, _||_}
 use mathlib.Core.List.{List, [], _∷_, _++_, map}
@@ -23,7 +23,7 @@ function-kind = 2
 abbrev pub enum-kind : ℕ
 enum-kind = 4
 
--- document 01's numbers
+-- the specification's numbers
 abbrev pub no-main : ℕ
 no-main = 27
 

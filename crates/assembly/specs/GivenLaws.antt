@@ -12,7 +12,7 @@ use borrow.Author.Tests.{eq-eqb, ne-eqb}
 use Rattle.names.specs.Bytes.{same, same-eq, same-differs, different}
 use Rattle.names.specs.Decimal.{unitName}
 use Rattle.bundle.specs.Bundle.{Text, Items, File, Bundle}
-use Rattle.bundle.specs.Limits.{count-limit, file-limit, depth-limit, module-kind}
+use Rattle.bundle.specs.Limits.{file-limit, depth-limit, module-kind}
 use Rattle.bundle.specs.Encode.{string, items}
 use Rattle.bundle.specs.Stand.{Bytes}
 use Rattle.bundle.specs.Decode.{decode, fileAt, itemsAt}
@@ -64,9 +64,6 @@ module _ (s files : List ℕ) (u : ℕ) (x : OneUnit s files u) where
 
   pub index-below : getD files u 0 < length (b .files)
   index-below = let p = id-found (fileOf b u) (pathsOf b) listed .0 in let i = x .index in omega (arith, length-map (b .files) (λ (f : File). f .path))
-
-  pub index-small : getD files u 0 < count-limit
-  index-small = let r = checked-roomy s (x .checked) .files in let i = index-below in omega arith
 
   pub index-few : getD files u 0 < file-limit
   index-few = let r = checked-roomy s (x .checked) .files in let i = index-below in omega arith

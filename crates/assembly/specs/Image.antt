@@ -16,7 +16,7 @@ use Rattle.bundle.specs.declared.Width.the-variants.{Word}
 use Rattle.assembly.specs.declared.Imaged.{Imaged}
 use Rattle.assembly.specs.declared.Imaged.the-variants as imaged
 
--- document 01's numbers
+-- the specification's numbers
 abbrev pub small-buffer : ℕ
 small-buffer = 14
 

@@ -10,7 +10,7 @@ use lib.Seq.{drop-at}
 use Rattle.names.specs.Bytes.{ascii, member}
 use Rattle.names.specs.Decimal.{unitName}
 use Rattle.bundle.specs.Bundle.{Text, Bundle}
-use Rattle.bundle.specs.Limits.{file-limit}
+use Rattle.bundle.specs.Limits.{file-limit, use-limit}
 use Rattle.bundle.specs.Decode.{decode}
 use Rattle.resolution.specs.Lists.{Lists, listsOf}
 use Rattle.resolution.specs.Resolution.{Resolved, to, fails, resolvePathInternal}
@@ -135,7 +135,7 @@ module _ (s files : List ℕ) (units id : ℕ) (u : UnitOf s files units id) (ma
   Tells t = (rewriteUse (decode s) (fileOf (decode s) id) (useAt s mark .segments) ≡ pathBy (useAt s mark .segments) t) × Within (useAt s mark .segments) t
 
   module _ (i : ℕ) (w : Finds files index mark i) where
-    pub entry-small : i < 256
+    pub entry-small : i < use-limit
     entry-small = let f = u .table .fits in omega (arith, w .to)
 
     entry : EntryOf (listsOf (decode s)) (fileOf (decode s) id) files i (useAt s mark)

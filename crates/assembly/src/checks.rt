@@ -15,7 +15,7 @@ use crate::units::unit_items;
 use bundle::limits::DEPTH;
 use order::Reported;
 
-// Document 01's numbers.
+// The specification's numbers.
 const NO_MAIN: u8 = 27;
 
 const FOREIGN_ENUM: u8 = 28;

@@ -1,4 +1,4 @@
-// Step 5 of document 01, `assemble_program`: its faults, and the items of the program with their length and their bytes. The functions have the names of resolve_order.rs.
+// Step 5, `assemble_program`: its faults, and the items of the program with their length and their bytes. The functions have the names of resolve_order.rs.
 mod checks;
 mod enums;
 mod lengths;

@@ -1,4 +1,4 @@
--- Document 01's printed case, the cases of its header and cuts, and a case of each number, computed. Assumes nothing.
+-- The printed case, the cases of the header and of cuts, and a case of each number, computed. Assumes nothing.
 use Prim.Native.Nat.{ℕ, zero, suc, _≤_}
 use native.Mathlib.Omega.{arith}
 use mathlib.Core.Path.{_≡_, refl, _∙_}

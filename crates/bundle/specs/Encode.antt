@@ -1,4 +1,4 @@
--- How a bundle is written as bytes: document 01, "The bundle". The image's items have the same form. Assumes nothing.
+-- How a bundle is written as bytes: docs/SPECIFICATION.md 1. The image's items have the same form. Assumes nothing.
 use Prim.Native.Nat.{ℕ, _/_, _%_}
 use mathlib.Core.List.{List, [], _∷_, _++_}
 use lib.ListN.{length}

@@ -1,4 +1,4 @@
--- The versions, the limits and the widths of document 01's bundle, in one place. What a version sets is a function of it; the
+-- The versions, the limits and the widths of a bundle, in one place. What a version sets is a function of it; the
 -- plain names are the most of any version, for arrays and bounds. Assumes nothing.
 use Prim.Native.Nat.{ℕ, _+_, _*_}
 use mathlib.Core.Bool.{Bool, _&&_}
@@ -6,7 +6,7 @@ use lib.Dec.{leb}
 use Rattle.bundle.specs.declared.Width.{Width}
 use Rattle.bundle.specs.declared.Width.the-variants.{Byte, Word}
 
--- document 01's version; byte 0 of an image
+-- the first version; byte 0 of an image
 abbrev pub version : ℕ
 version = 1
 

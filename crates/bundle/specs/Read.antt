@@ -1,4 +1,4 @@
--- What document 01 says of any bytes: the bundle that they are, or a number from 1 to 13 and a place. Assumes nothing.
+-- What any bytes are: the bundle that they are, or a number from 1 to 13 and a place. Assumes nothing.
 use Prim.Native.Nat.{ℕ, _<_}
 use mathlib.Core.List.{List}
 use lib.ListN.{length}

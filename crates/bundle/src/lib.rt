@@ -42,7 +42,7 @@ pub use bytes::word_at;
 pub use steps::next_path;
 pub use steps::next_remapping;
 
-// What the check of a bundle answers: a refusal has document 01's number, 1 to 13, and the place.
+// What the check of a bundle answers: a refusal has the specification's number, 1 to 13, and the place.
 pub enum Checked {
     Ok,
     Refused(u8, usize),

@@ -4,7 +4,7 @@ ghost use Prim.Native.Nat.{_≤_};
 ghost use Rattle.bundle.specs.Limits.{defined as Limits·defined, width as Limits·width, folder-width, file-width, most-folders, most-files, most-uses};
 use crate::Width;
 
-// Document 01's version; byte 0 of an image.
+// The first version; byte 0 of an image.
 pub const VERSION: usize = 1;
 
 // The newest version that is defined.

@@ -16,6 +16,8 @@ use scope_tree::Batch;
 use scope_tree::CELLS;
 use scope_tree::COUNT;
 use scope_tree::DEPTH;
+use scope_tree::ENTRIES;
+use scope_tree::OPEN;
 use scope_tree::OPENED;
 use scope_tree::form;
 use scope_tree::look;
@@ -53,11 +55,11 @@ fn begun<'a>(opened: &'a [u16; OPENED], name: &'a [u8]) -> Plan
         return no_plan(5);
     }
     let at = look::wide(opened[COUNT]);
-    if 1024 < at {
+    if ENTRIES < at {
         return no_plan(51);
     }
     let depth = look::wide(opened[DEPTH]);
-    if 9 < depth {
+    if OPEN < depth {
         return no_plan(51);
     }
     Plan {
@@ -71,7 +73,7 @@ fn begun<'a>(opened: &'a [u16; OPENED], name: &'a [u8]) -> Plan
 fn is_full(opened: &[u16; OPENED], deepest: usize) -> bool
     ensures { λ r. ⌜ r ≡ full-of (now (opened .entry)) deepest ⌝ }
 {
-    if 1024 <= look::wide(opened[COUNT]) {
+    if ENTRIES <= look::wide(opened[COUNT]) {
         return true;
     }
     deepest < look::wide(opened[DEPTH])
@@ -166,11 +168,11 @@ fn started<'a>(opened: &'a [u16; OPENED], decl: &'a [u8]) -> Start
         return no_start(number);
     }
     let total = look::wide(opened[COUNT]);
-    if 1024 < total {
+    if ENTRIES < total {
         return no_start(51);
     }
     let depth = look::wide(opened[DEPTH]);
-    if 9 < depth {
+    if OPEN < depth {
         return no_start(51);
     }
     let segments = form::byte_at(decl, 0);
@@ -253,7 +255,7 @@ pub fn uses<'a>(
     if told != 0 {
         return staged;
     }
-    if 1024 < b.total + staged.count {
+    if ENTRIES < b.total + staged.count {
         return refused(51);
     }
     staged

@@ -12,6 +12,7 @@ use scope_tree::Batch;
 use scope_tree::CELLS;
 use scope_tree::Choice;
 use scope_tree::Entry;
+use scope_tree::STAGED;
 use scope_tree::STAGED_CELLS;
 use scope_tree::STAGED_NAMES;
 use scope_tree::form::local_at;
@@ -23,13 +24,13 @@ use scope_tree::look::inside_at;
 use scope_tree::look::is_held;
 use scope_tree::look::is_row;
 
-const SECOND: usize = 96;
+const SECOND: usize = STAGED;
 
-const THIRD: usize = 192;
+const THIRD: usize = 2 * STAGED;
 
-const FOURTH: usize = 288;
+const FOURTH: usize = 3 * STAGED;
 
-const FIFTH: usize = 384;
+const FIFTH: usize = 4 * STAGED;
 
 pub fn refused(number: u8) -> Batch
     ensures { λ r. ⌜ staged-of r ≡ refusal number ⌝ }

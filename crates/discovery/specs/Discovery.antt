@@ -1,4 +1,4 @@
--- Step 3 of document 01: discovery. The names are those of driver/mod.rs. Assumes nothing.
+-- Step 3: discovery. The names are those of driver/mod.rs. Assumes nothing.
 use Prim.Native.Nat.{ℕ, zero, suc}
 use mathlib.Core.Bool.{Bool, false, cond, _||_}
 use mathlib.Core.List.{List, [], _∷_, _++_, map}

@@ -1,4 +1,4 @@
--- A graph given directly, and what is answered to it: 3, 1, 29, the ring (26) or the linked order, in document 01's numbers, all at place 0. Assumes nothing.
+-- A graph given directly, and what is answered to it: 3, 1, 29, the ring (26) or the linked order, in the specification's numbers, all at place 0. Assumes nothing.
 use mathlib.Core.Bool.{Bool, true, cond, _&&_}
 use mathlib.Core.List.{List, [], _∷_, _++_}
 use Prim.Native.Nat.{ℕ, zero, suc, _+_}
@@ -9,7 +9,7 @@ use Rattle.graph.specs.declared.Linearized.{Linearized}
 use Rattle.graph.specs.Limits.{unit-limit, id-limit}
 use Rattle.graph.specs.Linearize.{Out, order, ring, linearize}
 
--- document 01's numbers
+-- the specification's numbers
 abbrev pub cut : ℕ
 cut = 1
 

@@ -13,7 +13,7 @@ use crate::IDS;
 use crate::Linearized;
 use crate::UNITS;
 
-// Document 01's numbers.
+// The specification's numbers.
 const CUT: u8 = 1;
 
 const TOO_MANY: u8 = 3;

@@ -16,7 +16,7 @@ mod tree;
 // The most units, and the most entries of a tree.
 pub const FILES: usize = bundle::limits::FILES;
 
-pub const ENTRIES: usize = 1024;
+pub const ENTRIES: usize = scopes::ENTRIES;
 
 // The most units of a graph given directly, and the most ids in its lists.
 pub const UNITS: usize = graph::UNITS;

@@ -1,4 +1,4 @@
-// Reads a bundle on standard input and prints document 01's lines for it: `printed` of its bytes (printing's specs/Lines.antt).
+// Reads a bundle on standard input and prints the lines for it: `printed` of its bytes (printing's specs/Lines.antt).
 //
 // For a file of whatever bytes that follows from the contract of `printing::tell` (printing's specs/Sent.antt: program-sends). READ
 // bytes are enough: the first 65,539 decide what is told of a file (specs/ReadTheorems.antt: verdict-enough, read-enough). TEXT bytes

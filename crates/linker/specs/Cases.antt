@@ -37,7 +37,7 @@ use Rattle.scope_tree.specs.Form as request
 use Rattle.assembly.specs.Assemble.{rewriteUse, rewriteItems, localItems, assembled, enumDeclarations, forbidEnumDecInDeps, hasMain, mainFaults, assemblyFaults, linearizeAndAssemble}
 use Rattle.assembly.specs.Image.{imageBytes, itemsLength, segmentsLength, elementsLength, imaging}
 use Rattle.order.specs.declared.Answer.{Answer}
-use Rattle.linker.specs.Scopes.{scopeCalls, walkFrom, scopeWalk}
+use Rattle.scope_walk.specs.Scopes.{scopeCalls, walkFrom, scopeWalk}
 use Rattle.linker.specs.Call.{linkAnswer}
 use Rattle.linker.specs.Link.{Outcome, faulty, closed, ended, result, linkBundle}
 

@@ -34,7 +34,7 @@ use Rattle.assembly.specs.Theorems.{Program, program-only, FaultsFrom, of-disco
 use Rattle.order.specs.declared.Answer.{Answer}
 use Rattle.assembly.specs.declared.Imaged.{Imaged}
 use Rattle.assembly.specs.declared.Imaged.the-variants as imaged
-use Rattle.linker.specs.Scopes.{Walked, done, stopped, scopeCalls, scopeWalk}
+use Rattle.scope_walk.specs.Scopes.{Walked, done, stopped, scopeCalls, scopeWalk}
 use Rattle.linker.specs.Link.{Outcome, faulty, closed, ended, result, linked, step6, linkAfter, linkBundle}
 use Rattle.linker.specs.Call.{recordsOf, answering, imageAfter, TreeOf, TreeWith, TreeAfter, answerTo, reportTo, imageTo, TreeTo, linkAnswer, linkReport, linkImage, LinkTree}
 use Rattle.linker.specs.InForm.{walk-number}

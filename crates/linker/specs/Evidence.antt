@@ -1,4 +1,4 @@
--- DOCUMENT 01, EVIDENCE c: what no answer that meets the contracts can be. Each lemma takes what a call left, as its contract has it,
+-- SIX WRONG LINKERS (docs/EVIDENCE.md, Q3): what no answer that meets the contracts can be. Each lemma takes what a call left, as its contract has it,
 -- and a behaviour that 01 rules out, and comes to a contradiction. Assumes nothing.
 use Prim.Native.Nat.{ℕ, zero, suc, _<_, _≤_}
 use native.Mathlib.Omega.{arith}
@@ -40,7 +40,7 @@ use Rattle.assembly.specs.Call.{refusing, imagedTo, NoImage, too-long, too-smal
 use Rattle.assembly.specs.Theorems.{Program}
 use Rattle.order.specs.declared.Answer as answers
 use Rattle.assembly.specs.declared.Imaged.the-variants as imaged
-use Rattle.linker.specs.Scopes.{Asked, scopeCalls, walkFrom, done}
+use Rattle.scope_walk.specs.Scopes.{Asked, scopeCalls, walkFrom, done}
 use Rattle.linker.specs.Link.{linked, linkBundle}
 use Rattle.linker.specs.Call.{recordsOf, linkAnswer, linkReport, linkImage, LinkTree}
 use Rattle.linker.specs.Theorems.{LinkedBundle, linked-bundle}

@@ -25,7 +25,7 @@ use Rattle.scopes.specs.Meets.{declares}
 use Rattle.assembly.specs.Paths.{ImagePath}
 use Rattle.assembly.specs.ImageForm.{ImageFormed, assembled-formed}
 use Rattle.assembly.specs.Theorems.{Program}
-use Rattle.linker.specs.Scopes.{Asked, asked, isPublic, useForm, scopeCalls}
+use Rattle.scope_walk.specs.Scopes.{Asked, asked, isPublic, useForm, scopeCalls}
 use Rattle.linker.specs.Theorems.{Ends}
 use Rattle.linker.specs.Refusals.{RefusedBy, by-form, by-rule, by-limit, refused-by}
 

@@ -42,8 +42,8 @@ use Rattle.assembly.specs.declared.Imaged.{Imaged}
 use Rattle.assembly.specs.declared.Imaged.the-variants as imaged
 use Rattle.linker.specs.Link.{Made, Outcome, faulty, closed, ended, result, linked, step6, linkAfter, linkBundle}
 use Rattle.linker.specs.Call.{recordsOf, builtOf, answering, imageAfter, TreeWith, TreeOfMade, TreeAfter, TreeTo, answerTo, entriesWith, entriesAfter, entriesTo, linkAnswer, linkReport, linkImage, LinkTree, linkEntries}
-use Rattle.linker.specs.Steps.{reached}
-use Rattle.linker.specs.Units.{treeBy, LinkedAs, ToldAs, no-rows}
+use Rattle.scope_walk.specs.Steps.{reached}
+use Rattle.linker.specs.Ends.{treeBy, LinkedAs, ToldAs, no-rows}
 use Rattle.linker.specs.declared.Linked.{Linked}
 use Rattle.linker.specs.declared.Told.{Told}
 

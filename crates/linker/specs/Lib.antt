@@ -1,5 +1,4 @@
 -- DEFINITIONS: what contracts and theorems speak of
-pub mod Scopes
 pub mod Link
 pub mod Call
 -- THEOREMS to cite
@@ -10,9 +9,5 @@ pub mod Cases
 -- LAWS for code and proofs
 pub mod Refusals
 pub mod InForm
-pub mod Steps
-pub mod Fit
-pub mod Units
-pub mod Cursor
-pub mod Loop
+pub mod Ends
 pub mod Join

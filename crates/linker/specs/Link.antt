@@ -1,4 +1,4 @@
--- The steps of document 01 in their order: what becomes of a bundle. Assumes nothing.
+-- The steps of a link in their order: what becomes of a bundle. Assumes nothing.
 use Prim.Native.Nat.{ℕ}
 use mathlib.Core.List.{List}
 use Rattle.bundle.specs.Bundle.{Items, Bundle}
@@ -8,7 +8,7 @@ use Rattle.assembly.specs.Assemble as assembly
 use Rattle.order.specs.Outcome as steps
 use Rattle.order.specs.Outcome.{andThen}
 pub use Rattle.order.specs.Outcome.{faulty, closed, ended, result}
-use Rattle.linker.specs.Scopes.{Walked, done, stopped, scopeWalk}
+use Rattle.scope_walk.specs.Scopes.{Walked, done, stopped, scopeWalk}
 
 -- the ids of the units in linked order, the program, and its tree
 pub record Made : Type 0 where

@@ -22,7 +22,7 @@ use Rattle.assembly.specs.Assemble.{linearizeAndAssemble}
 use Rattle.assembly.specs.Assemble as assembly
 use Rattle.assembly.specs.Theorems.{Assembled, assembly-read, Program, program-only, FaultsMet}
 use Rattle.assembly.specs.Theorems.{faults-only as assembly-faults-only, faults-always as assembly-faults-always, ring-only as assembly-ring-only, ring-always as assembly-ring-always}
-use Rattle.linker.specs.Scopes.{Asked, scopeCalls, Walked, done, stopped, onwards, walkFrom, scopeWalk}
+use Rattle.scope_walk.specs.Scopes.{Asked, scopeCalls, Walked, done, stopped, onwards, walkFrom, scopeWalk}
 use Rattle.linker.specs.Link.{Made, Outcome, faulty, closed, ended, result, linked, step6, linkAfter, linkBundle}
 
 -- the calls alone

@@ -1,7 +1,6 @@
-// From a bundle to one linked program: steps 1 to 6 of document 01 and the image as one operation.
+// From a bundle to one linked program: steps 1 to 6 and the image as one operation.
 mod answers;
-mod cursor;
-mod walk;
+mod units;
 
 ghost use mathlib.Core.Path.{_≡_};
 ghost use Rattle.scope_tree.specs.Trees.{cleared};
@@ -34,14 +33,14 @@ fn reported(s: &[u8], report: &mut [u8], known: &mut [usize; KNOWN]) -> Answer
     ensures { λ r. ⌜ ReportedAs (now (s .entry)) (now (report .entry)) (now (report .exit)) (now (known .exit)) r ⌝ }
 {
     let a = order::order_known(s, report, &mut *known);
-    let count = a.units;
-    if count == 0 {
+    let units = a.units;
+    if units == 0 {
         return a;
     }
     let files = a.files;
     let ids = a.ids;
     put_files(&mut *known, files);
-    let told = assembly::report_faults(s, &*known, &ids, count, report);
+    let told = assembly::report_faults(s, &*known, &ids, units, report);
     if order::tells(told) {
         return order::report_told(told);
     }
@@ -65,7 +64,7 @@ pub fn link_new(s: &[u8], report: &mut [u8], image: &mut [u8]) -> Linked
         return answers::told(a);
     }
     let ids = a.ids;
-    walk::link_units(s, &known, &ids, count, a, image)
+    units::link_units(s, &known, &ids, count, a, image)
 }
 
 // The same, with the tree's entries as rows of numbers in `out`, as far as there is place. Ruled out: an entry left out; a row where
@@ -78,15 +77,15 @@ pub fn link_rows(s: &[u8], report: &mut [u8], image: &mut [u8], out: &mut [u64])
 {
     let mut known = [0usize; KNOWN];
     let a = reported(s, report, &mut known);
-    let count = a.units;
-    if count == 0 {
+    let n = a.units;
+    if n == 0 {
         return Told {
             answer: a,
             entries: 0,
         };
     }
     let ids = a.ids;
-    walk::tell_units(s, &known, &ids, count, a, image, out)
+    units::tell_units(s, &known, &ids, n, a, image, out)
 }
 
 // The same, with a tree given, which comes back where there is no image. Ruled out: an empty tree for the one that was given.

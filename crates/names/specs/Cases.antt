@@ -1,4 +1,4 @@
--- Cases of document 01 on paths and names, computed over the definitions. Assumes nothing.
+-- Cases of paths and names, computed over the definitions. Assumes nothing.
 use Prim.Native.Nat.{ℕ}
 use Prim.Native.String.{String}
 use mathlib.Core.Bool.{Bool, true, not}

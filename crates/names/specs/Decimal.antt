@@ -21,7 +21,7 @@ digits (suc k) n = cond (ltb n 10) [] (digits k (n / 10)) ++ ((48 + n % 10) ∷ 
 unfoldable pub decimal : ℕ → List ℕ
 decimal n = digits (suc n) n
 
--- document 01's unit name: `unit_` and the id in decimal
+-- the specification's unit name: `unit_` and the id in decimal
 unfoldable pub unitName : ℕ → List ℕ
 unitName n = ascii "unit_" ++ decimal n
 

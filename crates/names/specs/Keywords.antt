@@ -6,7 +6,7 @@ use mathlib.Core.Path.{_≡_, refl}
 use lib.ListN.{length}
 use Rattle.names.specs.Bytes.{ascii, member, same}
 
--- document 01's `KEYWORDS`
+-- the specification's `KEYWORDS`
 unfoldable pub keywords : List (List ℕ)
 keywords =
     ascii "pub" ∷ ascii "use" ∷ ascii "as" ∷ ascii "fn" ∷ ascii "let" ∷ ascii "type" ∷ ascii "mod"

@@ -53,6 +53,6 @@ isComponent c =
 unfoldable pub wellFormed : List (List ℕ) → Bool
 wellFormed cs = leb (length cs) component-limit && all isComponent cs
 
--- document 01's path form
+-- the specification's path form
 unfoldable pub isPath : List ℕ → Bool
 isPath s = eqb (getD s 0 0) slash && (leb (length s) path-limit && wellFormed (components s))

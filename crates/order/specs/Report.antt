@@ -17,7 +17,7 @@ use Rattle.order.specs.Outcome.{Outcome, faulty, closed, ended, result}
 use Rattle.order.specs.declared.Reported.{Reported}
 use Rattle.order.specs.declared.Reported.the-variants as reported
 
--- document 01's numbers
+-- the specification's numbers
 abbrev pub small-buffer : ℕ
 small-buffer = 14
 

@@ -1,4 +1,4 @@
--- Steps 3 and 4 of document 01, one after the other: discovery, then the linked order or a ring. Assumes nothing.
+-- Steps 3 and 4, one after the other: discovery, then the linked order or a ring. Assumes nothing.
 use Prim.Native.Nat.{ℕ}
 use mathlib.Core.List.{List, []}
 use lib.ListN.{length, getD}

@@ -1,4 +1,4 @@
-// From a bundle to the linked order of its units, or a report: steps 3 and 4 of document 01.
+// From a bundle to the linked order of its units, or a report: steps 3 and 4.
 mod report;
 mod steps;
 

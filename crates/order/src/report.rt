@@ -7,7 +7,7 @@ ghost use Rattle.order.specs.Report.{low as Report·low, lentReport, rep
 ghost use Rattle.order.specs.Writing.{faultRecords, ringRecords, written3};
 use crate::Reported;
 
-// Document 01's numbers.
+// The specification's numbers.
 const SMALL_BUFFER: u8 = 14;
 
 const RING: u8 = 26;

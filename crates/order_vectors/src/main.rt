@@ -30,7 +30,7 @@ fn tell_ids(ids: &[u16], first: u16, n: usize) {
 }
 
 fn tell_path(s: &[u8], index: usize) {
-    if index < 256 {
+    if index < bundle::limits::FILES {
         let at = bundle::file_at(s, index);
         io::write_all(1, bundle::file_path(s, at));
     }

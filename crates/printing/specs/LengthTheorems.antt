@@ -9,6 +9,7 @@ use lib.Dec.{eqb, leb}
 use lib.ListN.{length, getD, take, length-map, length-take, drop}
 use lib.Seq.{take-at}
 use borrow.Author.Tests.{leb-true}
+use Rattle.bundle.specs.Limits.{file-limit}
 use Rattle.names.specs.Bytes.{slash, and-left, and-right}
 use Rattle.names.specs.Identifier.{isIdentifier}
 use Rattle.names.specs.Packed.{packed}
@@ -43,10 +44,10 @@ use Rattle.assembly.specs.Image.{itemsLength, image-limit}
 use Rattle.assembly.specs.Assemble.{enum-kind, rewriteUse, rewriteItems, fileOf, itemsOf, localItems, assembled, enumDeclarations, foreignEnum, forbidEnumDecInDeps, hasMain, noMain, mainFaults, assemblyFaults, step5, assembleAfter, linearizeAndAssemble}
 use Rattle.assembly.specs.Faults.{step5-numbers}
 use Rattle.assembly.specs.Theorems.{FaultsFrom, of-discovery, of-step5, program-always}
-use Rattle.linker.specs.Scopes.{Asked, isPublic, useForm, scopeCalls, Walked, done, stopped, scopeWalk}
+use Rattle.scope_walk.specs.Scopes.{Asked, isPublic, useForm, scopeCalls, Walked, done, stopped, scopeWalk}
 use Rattle.linker.specs.Link.{Outcome, faulty, closed, ended, result, linked, step6, linkAfter, linkBundle}
-use Rattle.linker.specs.Steps.{Plain}
-use Rattle.linker.specs.Fit.{unit-plain}
+use Rattle.scope_walk.specs.Steps.{Plain}
+use Rattle.scope_walk.specs.Fit.{unit-plain}
 use Rattle.linker.specs.Refusals.{RefusedBy, by-form, by-rule, by-limit, refused-by, bad-small}
 use Rattle.linker.specs.Theorems.{requests, walk-stopped, faults-only, linked-always, LinkedBundle, linked-bundle}
 use Rattle.printing.specs.Lines.{fault-line, linked-lines, outcome-lines, reading-lines, printed}
@@ -175,7 +176,7 @@ module _ (s : List ℕ) (B : Bytes s) (b : Bundle) (v : read s ≡ value b) wher
   w : WellFormed b
   w = sound s B b v .1
 
-  units-few : length (unitsOf b) ≤ 64
+  units-few : length (unitsOf b) ≤ file-limit
   units-few =
       omega (arith, w .form .file-count, pigeons (discovered b .once) (pathsOf b) (λ p m. reached-file b p (discovered b .sound p m)), length-map (b .files) (λ (f : File). f .path))
 
@@ -203,7 +204,7 @@ module _ (s : List ℕ) (B : Bytes s) (b : Bundle) (v : read s ≡ value b) wher
       tree : Limited Small x
       tree = linked-tree o p x e
 
-      units : (u : ℕ) → List·Memᴰ u o → (u < 100) × (length (getD (unitsOf b) u []) ≤ 255)
+      units : (u : ℕ) → List·Memᴰ u o → (u < file-limit) × (length (getD (unitsOf b) u []) ≤ 255)
       units u m =
           let h = lk .assembled .only-units u m in
           let n = units-few in

@@ -9,6 +9,7 @@ use mathlib.Core.Path.{_≡_, refl, sym, subst}
 use mathlib.Core.List.{List, [], _∷_, _++_, map, List·Memᴰ, List·Memᴰ·head, List·Memᴰ·tail, List·Memᴰ·cases-cons, List·Memᴰ·not-nil, List·Memᴰ·append-cases, Memᴰ·of-map}
 use lib.Dec.{eqb}
 use lib.ListN.{length, getD, length-append, length-map}
+use Rattle.bundle.specs.Limits.{file-limit}
 use Rattle.names.specs.Bytes.{ascii}
 use Rattle.names.specs.Decimal.{decimal, width, width-one, width-more}
 use Rattle.names.specs.declared.Name.{Name}
@@ -174,14 +175,14 @@ ok-short : (n : ℕ) → n < 100 → length (line (ascii "ok" ∷ decimal n ∷ 
 ok-short n h = omega (arith, line-more (ascii "ok") (decimal n) [], line-last (decimal n), ok-length, two-digits n h)
 
 -- LINKED
-pub linked-fits : (paths : List Text) (o : List ℕ) (l : List Entry) → length o ≤ 64 → ((u : ℕ) → List·Memᴰ u o → (u < 100) × (length (getD paths u []) ≤ 255)) → length l ≤ 1024
+pub linked-fits : (paths : List Text) (o : List ℕ) (l : List Entry) → length o ≤ file-limit → ((u : ℕ) → List·Memᴰ u o → (u < file-limit) × (length (getD paths u []) ≤ 255)) → length l ≤ 1024
     → ((e : Entry) → List·Memᴰ e l → Within 9 l (e .scope) × ((e .shows .kind < 10) × (e .shows .mark < 65536))) → length (lines (linked-lines paths o l)) ≤ 400000
 linked-fits paths o l few units most entries =
     let n = lines-length 357 (linked-lines paths o l) each in
     omega (arith, length-append (map (unit-line paths) o) (has-lines l l), length-map o (unit-line paths), has-few l l)
   where
     of-units : (w : List Text) → List·Memᴰ w (map (unit-line paths) o) → length (line w) ≤ 357
-    of-units w m = let t = Memᴰ·of-map (unit-line paths) o m in let u = units (t .0) (t .1) in subst (λ (x : List Text). length (line x) ≤ 357) (t .2) (unit-short paths (t .0) (u .0) (u .1))
+    of-units w m = let t = Memᴰ·of-map (unit-line paths) o m in let u = units (t .0) (t .1) in subst (λ (x : List Text). length (line x) ≤ 357) (t .2) (unit-short paths (t .0) (omega (arith, u .0)) (u .1))
 
     of-entries : (w : List Text) → List·Memᴰ w (has-lines l l) → length (line w) ≤ 357
     of-entries w m = let t = has-from l l w m in let u = entries (t .0) (t .1 .0) in subst (λ (x : List Text). length (line x) ≤ 357) (sym (t .1 .1)) (has-short l (t .0) (u .0) (u .1 .0) (u .1 .1))
@@ -202,11 +203,11 @@ faults-fit l few small = let n = lines-length 27 (map fault-line l) each in omeg
         subst (λ (x : List Text). length (line x) ≤ 27) (t .2) (no-short (t .0 .number) (t .0 .place) (u .0) (let d = five-digits (t .0 .place) (u .1) in omega arith))
 
 -- A RING
-ids-short : (w : Text) (r : List ℕ) → ((u : ℕ) → List·Memᴰ u r → u < 100) → length (line (w ∷ map decimal r)) ≤ length w + 1 + length r * 3
+ids-short : (w : Text) (r : List ℕ) → ((u : ℕ) → List·Memᴰ u r → u < file-limit) → length (line (w ∷ map decimal r)) ≤ length w + 1 + length r * 3
 ids-short w [] h = omega (arith, line-last w)
-ids-short w (u ∷ r) h = omega (arith, line-more w (decimal u) (map decimal r), two-digits u (h u (List·Memᴰ·head refl)), ids-short (decimal u) r (λ x m. h x (List·Memᴰ·tail m)))
+ids-short w (u ∷ r) h = omega (arith, line-more w (decimal u) (map decimal r), two-digits u (omega (arith, h u (List·Memᴰ·head refl))), ids-short (decimal u) r (λ x m. h x (List·Memᴰ·tail m)))
 
-pub ring-fits : (r : List ℕ) → length r ≤ 64 → ((u : ℕ) → List·Memᴰ u r → u < 100) → length (lines (ring-lines r)) ≤ 400000
+pub ring-fits : (r : List ℕ) → length r ≤ file-limit → ((u : ℕ) → List·Memᴰ u r → u < file-limit) → length (lines (ring-lines r)) ≤ 400000
 ring-fits r few small =
     lines-short (lines-length 357 (ring-lines r) (λ w m.
     ⊎-elim (λ q. subst (λ (x : List Text). length (line x) ≤ 357) (sym q) (let k = no-short 26 0 (omega arith) (let d = one-digit 0 (omega arith) in omega arith) in omega arith))

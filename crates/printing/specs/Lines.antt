@@ -1,4 +1,4 @@
--- DOCUMENT 01'S PRINTED LINES, of what becomes of a bundle. Assumes nothing.
+-- THE PRINTED LINES (docs/SPECIFICATION.md 8), of what becomes of a bundle. Assumes nothing.
 use Prim.Native.Nat.{ℕ, zero, suc}
 use mathlib.Core.Bool.{cond}
 use mathlib.Core.List.{List, [], _∷_, _++_, map}

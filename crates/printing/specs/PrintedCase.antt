@@ -32,7 +32,7 @@ use Rattle.scope_tree.specs.Form.{after-strings, names-from, local-name, elemen
 use Rattle.scope_tree.specs.Form as request
 use Rattle.assembly.specs.Assemble.{rewriteUse, rewriteItems, localItems, assembled, enumDeclarations, forbidEnumDecInDeps, hasMain, mainFaults, assemblyFaults, linearizeAndAssemble}
 use Rattle.assembly.specs.Image.{itemsLength, segmentsLength, elementsLength}
-use Rattle.linker.specs.Scopes.{scopeCalls, walkFrom, scopeWalk}
+use Rattle.scope_walk.specs.Scopes.{scopeCalls, walkFrom, scopeWalk}
 use Rattle.linker.specs.Link.{linkBundle}
 use Rattle.text.specs.Words.{line, lines, bytes-of, spelled}
 use Rattle.printing.specs.Lines.{module-path, has-lines, outcome-lines, reading-lines, printed}

@@ -5,6 +5,7 @@ use mathlib.Core.Path.{_≡_, refl, sym, ap, subst, _∙_}
 use mathlib.Core.List.{List, [], _∷_, _++_, map, append-assoc}
 use lib.ListN.{length, getD, take}
 use lib.Seq.{take-all, getD-take, length-take-le}
+use Rattle.bundle.specs.Limits.{file-limit}
 use Rattle.names.specs.Bytes.{ascii}
 use Rattle.names.specs.Decimal.{decimal}
 use Rattle.text.specs.Words.{line, lines}
@@ -14,7 +15,7 @@ use Rattle.bundle.specs.Decode.{decode, fileAt}
 use Rattle.order.specs.Run.{unitsOf}
 use Rattle.assembly.specs.Assemble.{fileOf}
 use Rattle.assembly.specs.Given.{OneUnit}
-use Rattle.assembly.specs.GivenLaws.{index-small, path-is}
+use Rattle.assembly.specs.GivenLaws.{index-few, path-is}
 use Rattle.printing.specs.Lines.{unit-line}
 use Rattle.printing.specs.Reports.{lines-more}
 
@@ -26,8 +27,8 @@ pub path-there : (s : List ℕ) (f place : ℕ) (o o₁ : List ℕ) (at r : ℕ)
 path-there s f place o o₁ at r g p files u x e =
     put-as p (path-is s files u x place (λ d h. subst (λ (i : ℕ). i < length (decode s .files) → getD (decode s .files) i d ≡ fileAt s place) e (g d) h))
 
-pub path-none : (s : List ℕ) (f : ℕ) (o : List ℕ) (at : ℕ) → 256 ≤ f → PathOf s f o at o at
-path-none s f o at h files u x e = absurd (omega (arith, index-small s files u x))
+pub path-none : (s : List ℕ) (f : ℕ) (o : List ℕ) (at : ℕ) → file-limit ≤ f → PathOf s f o at o at
+path-none s f o at h files u x e = absurd (omega (arith, index-few s files u x))
 
 pub unit-put : (s files : List ℕ) (u f : ℕ) → OneUnit s files u → f ≡ getD files u 0 → {o o₁ o₂ o₃ o₄ o₅ : List ℕ} {at a b c d e : ℕ} → Put (117 ∷ 110 ∷ 105 ∷ 116 ∷ 32 ∷ []) o at o₁ a → Put (decimal u) o₁ a o₂ b → Put (32 ∷ []) o₂ b o₃ c
     → PathOf s f o₃ c o₄ d → Put (10 ∷ []) o₄ d o₅ e → Put (line (unit-line (unitsOf (decode s)) u)) o at o₅ e

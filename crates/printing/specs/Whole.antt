@@ -1,4 +1,4 @@
--- The lines of what the linker answers are document 01's, of any bytes. Assumes nothing.
+-- The lines of what the linker answers are the specification's, of any bytes. Assumes nothing.
 use Prim.Native.Nat.{ℕ, _+_, _≤_, _<_}
 use native.Mathlib.Omega.{arith}
 use mathlib.Core.Bool.{Bool, true, false, cond}
@@ -47,8 +47,8 @@ use Rattle.assembly.specs.Theorems.{assembly, program-only, ring-first, FaultsF
 use Rattle.order.specs.declared.Answer.{Answer}
 use Rattle.assembly.specs.declared.Imaged.{Imaged}
 use Rattle.assembly.specs.declared.Imaged.the-variants as imaged
-use Rattle.linker.specs.Steps.{Plain}
-use Rattle.linker.specs.Fit.{unit-plain}
+use Rattle.scope_walk.specs.Steps.{Plain}
+use Rattle.scope_walk.specs.Fit.{unit-plain}
 use Rattle.linker.specs.Link.{Outcome, faulty, closed, ended, result, linked, linkAfter, linkBundle}
 use Rattle.linker.specs.Theorems.{linked-steps, faults-only, ring-only}
 use Rattle.linker.specs.Call.{recordsOf, answering, TreeWith, TreeAfter, linkAnswer, linkReport, LinkTree}
@@ -240,7 +240,7 @@ module _ (s : List ℕ) (B : Bytes s) (rep img : List ℕ) (rep-size : length re
   unfolding linkAnswer linkReport LinkTree reading-lines
   accepted-lines = rw (accepted s v) (due (linkBundle (decode s)) refl)
 
--- THE LINES OF THE ANSWER for any bytes, in a report buffer of 4,096 bytes and an image buffer of 65,538, are document 01's
+-- THE LINES OF THE ANSWER for any bytes, in a report buffer of 4,096 bytes and an image buffer of 65,538, are the specification's
 pub answer-lines-in : (s : List ℕ) → Bytes s → (rep img : List ℕ) → length rep ≡ report-size → length img ≡ image-size → (t : Tree) → AnswerLines s rep img t (reading-lines (read s))
 answer-lines-in s B rep img hr hi t = go (verdict s) refl
   where

@@ -1,4 +1,4 @@
-// Document 01's printed lines: what the linker answers to a bundle, written into a lent buffer.
+// The specification's printed lines: what the linker answers to a bundle, written into a lent buffer.
 ghost use Rattle.bundle.specs.Read.{read};
 ghost use Rattle.printing.specs.Lines.{reading-lines};
 ghost use Rattle.printing.specs.Answers.{Shows};

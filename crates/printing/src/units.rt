@@ -8,12 +8,13 @@ ghost use Rattle.printing.specs.Lines.{unit-line};
 ghost use Rattle.printing.specs.Units.{PathOf, UnitLines, OkLines};
 use crate::read::half;
 use crate::read::place;
+use bundle::limits::FILES;
 
 // The path of a file of the bundle.
 fn put_path(out: &mut [u8], at: usize, s: &[u8], f: usize) -> usize
     ensures { λ r. ⌜ PathOf (now (s .entry)) f (now (out .entry)) at (now (out .exit)) r ⌝ }
 {
-    if f < 256 {
+    if f < FILES {
         let p = bundle::file_at(s, f);
         return text::put_bytes(out, at, bundle::file_path(s, p));
     }

@@ -14,7 +14,7 @@ use bundle::limits::VERSION;
 use encoder::put;
 use encoder::put_two;
 
-// Document 01's numbers.
+// The specification's numbers.
 const SMALL_BUFFER: u8 = 14;
 
 const LONG_IMAGE: u8 = 15;

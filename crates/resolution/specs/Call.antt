@@ -1,4 +1,4 @@
--- The resolution call: its tests in document 01's order, and its answer. Assumes nothing.
+-- The resolution call: its tests in the specification's order, and its answer. Assumes nothing.
 use Prim.Native.Nat.{ℕ, suc}
 use mathlib.Core.Bool.{cond}
 use mathlib.Core.List.{List, [], _∷_}

@@ -1,4 +1,4 @@
--- Document 01's corner cases of resolution.rs, C1 to C5, and a case of each number, over bundles in bytes. Assumes nothing.
+-- The corner cases of resolution.rs, C1 to C5, and a case of each number, over bundles in bytes. Assumes nothing.
 use Prim.Native.Nat.{ℕ}
 use Prim.Native.String.{String}
 use mathlib.Core.List.{List, [], _∷_, _++_, map}

@@ -1,4 +1,4 @@
--- DEFINITIONS: steps 1 and 2 of document 01, the resolution call, and what the code's inner answers mean
+-- DEFINITIONS: steps 1 and 2, the resolution call, and what the code's inner answers mean
 pub mod Lists
 pub mod Longest
 pub mod Resolution

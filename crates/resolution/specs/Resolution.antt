@@ -1,4 +1,4 @@
--- Steps 1 and 2 of document 01: what a use resolves to. The names are those of resolution.rs. Assumes nothing.
+-- Steps 1 and 2: what a use resolves to. The names are those of resolution.rs. Assumes nothing.
 use Prim.Native.Nat.{ℕ}
 use mathlib.Core.Bool.{Bool, false, cond, _&&_, _||_}
 use mathlib.Core.List.{List, [], _∷_, map}

@@ -1,4 +1,4 @@
--- The register in document 01's words: it takes each call's arguments and whether it was accepted. Assumes nothing.
+-- The register in the specification's words: it takes each call's arguments and whether it was accepted. Assumes nothing.
 use Prim.Native.Nat.{ℕ, suc}
 use native.Mathlib.Omega.{arith}
 use mathlib.Core.Path.{_≡_, refl, ap, sym, _∙_}

@@ -1,4 +1,4 @@
--- The register of document 01: nested modules, an import written out. "Its register starts as an empty open root"; "a module's copy
+-- The register of the specification: nested modules, an import written out. "Its register starts as an empty open root"; "a module's copy
 -- brings along, in its order, what the module then held". Assumes nothing.
 use Prim.Native.Nat.{ℕ, suc}
 use mathlib.Core.Bool.{Bool, cond, _&&_}

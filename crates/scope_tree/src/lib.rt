@@ -5,25 +5,33 @@ pub mod look;
 
 use names::Name;
 
+// The most entries of a tree, whose arrays are written with the number itself, and the most open modules.
+pub const ENTRIES: usize = 1024;
+
+pub const OPEN: usize = 9;
+
 // Places of `Tree.opened`, and of two of its numbers: how many entries there are, and how many open modules.
-pub const OPENED: usize = 11;
+pub const OPENED: usize = OPEN + 2;
 
-pub const COUNT: usize = 9;
+pub const COUNT: usize = OPEN;
 
-pub const DEPTH: usize = 10;
+pub const DEPTH: usize = OPEN + 1;
 
 // Places of `Tree.cells`, and the first of each of its parts.
-pub const CELLS: usize = 7168;
+pub const CELLS: usize = INDEX + SLOTS;
 
 pub const KINDS: usize = 0;
 
-pub const ORIGINS: usize = 1024;
+pub const ORIGINS: usize = ENTRIES;
 
-pub const TARGETS: usize = 2048;
+pub const TARGETS: usize = 2 * ENTRIES;
 
-pub const TIMES: usize = 3072;
+pub const TIMES: usize = 3 * ENTRIES;
 
-pub const INDEX: usize = 4096;
+pub const INDEX: usize = 4 * ENTRIES;
+
+// Slots of the index: one for each hash, and two below each entry.
+pub const SLOTS: usize = 3 * ENTRIES;
 
 // 1,024 entries in the order made, and the open modules. The root is scope 0, the module at entry i is scope i + 1.
 pub struct Tree {
@@ -66,13 +74,15 @@ pub enum Answer {
     Refused(u8),
 }
 
-// Places of `Batch.cells` and `Batch.names`.
-pub const STAGED_CELLS: usize = 480;
+// The most entries that a use adds, three of each element; places of `Batch.cells` and `Batch.names`.
+pub const STAGED: usize = 96;
 
-pub const STAGED_NAMES: usize = 384;
+pub const STAGED_CELLS: usize = 5 * STAGED;
 
-// Entries that a use adds, at most 96, all in one scope and of one visibility; or a number. The cells are kinds, marks, origins, targets
-// and times, the names their four words, each a part of 96.
+pub const STAGED_NAMES: usize = 4 * STAGED;
+
+// Entries that a use adds, at most STAGED, all in one scope and of one visibility; or a number. The cells are kinds, marks, origins, targets
+// and times, the names their four words, each a part of STAGED.
 pub struct Batch {
     pub number: u8,
     pub count: usize,

@@ -8,6 +8,7 @@ ghost use Rattle.scope_tree.specs.Staging.{is-at};
 ghost use Rattle.scope_tree.specs.Nav.{barred, current-of, leads-on, wayed, Arrived};
 ghost use Rattle.scope_tree.specs.Trees.{part, index-of, doors-of};
 use crate::CELLS;
+use crate::ENTRIES;
 use crate::INDEX;
 use crate::KINDS;
 use crate::OPENED;
@@ -114,7 +115,7 @@ fn slot_below(mix: u64, scope: u16, kind: u16, name: Name, depth: usize, i: usiz
     requires { ⌜ i < 1024 ⌝ }
     ensures { λ r. ⌜ (r ≡ below (turn-of mix scope kind name) depth i) × (r < 3072) ⌝ }
 {
-    1024 + 2 * i + turn(mix, scope, kind, name, depth)
+    ENTRIES + 2 * i + turn(mix, scope, kind, name, depth)
 }
 
 // The slot of a mix's hash, where a walk begins.
@@ -140,7 +141,7 @@ fn held_at(cells: &[u16; CELLS], slot: usize) -> usize
     requires { ⌜ slot < 3072 ⌝ }
     ensures { λ r. ⌜ (r ≡ place-in (getD (index-of (now (cells .entry))) slot 0) 1024) × (r ≤ 1024) ⌝ }
 {
-    place_in(cells[INDEX + slot], 1024)
+    place_in(cells[INDEX + slot], ENTRIES)
 }
 
 // The slot for one more entry of a scope, a kind and a name: the empty one that a walk ends at.
@@ -150,7 +151,7 @@ pub fn free_slot(cells: &[u16; CELLS], scope: u16, kind: u16, name: Name) -> usi
     let mix = mixed(scope, kind, name);
     let mut slot = first_slot(mix);
     let mut depth: usize = 0;
-    while depth < 1024 {
+    while depth < ENTRIES {
         let e = held_at(cells, slot);
         if e == 0 {
             return slot;
@@ -227,7 +228,7 @@ pub fn find_in<'a>(
     let mix = mixed(scope, kind, name);
     let mut slot = first_slot(mix);
     let mut depth: usize = 0;
-    while depth < 1024 {
+    while depth < ENTRIES {
         let e = held_at(cells, slot);
         if e == 0 {
             return Spot::Nothing;
@@ -370,7 +371,7 @@ fn leads<'a>(
     if s == 0 {
         return false;
     }
-    if 1024 < s {
+    if ENTRIES < s {
         return false;
     }
     same_name(name_held(n0, n1, n2, n3, s - 1), name)

@@ -1,4 +1,4 @@
--- The corner cases of document 01 on trees, as one table: calls, and the answers of the definition over the register. Assumes nothing.
+-- The corner cases on trees, as one table: calls, and the answers of the definition over the register. Assumes nothing.
 use Prim.Native.Nat.{ℕ}
 use Prim.Native.String.{String}
 use mathlib.Core.Path.{_≡_, refl}

@@ -1,4 +1,4 @@
--- 40 to 51 exactly when, one theorem each in the words of document 01's table, over any model; and what an accepted use imports. Assumes nothing.
+-- 40 to 51 exactly when, one theorem each in the words of the specification's table, over any model; and what an accepted use imports. Assumes nothing.
 use Prim.Native.Nat.{ℕ, zero, suc, _+_, _≤_, _<_}
 use native.Mathlib.Omega.{arith}
 use mathlib.Core.Path.{_≡_, refl, ap, sym, subst, _∙_}

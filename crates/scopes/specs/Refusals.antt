@@ -1,4 +1,4 @@
--- Rows 40 to 51 of document 01's table, each as a condition on the call and the tree, over any model. "First" is: it fails, and all before
+-- Rows 40 to 51 of the specification's table, each as a condition on the call and the tree, over any model. "First" is: it fails, and all before
 -- it are good. Assumes nothing.
 use Prim.Native.Nat.{ℕ, _<_}
 use mathlib.Core.Path.{_≡_}

@@ -22,6 +22,7 @@ use scope_tree::COUNT;
 use scope_tree::DEPTH;
 use scope_tree::Entry;
 use scope_tree::INDEX;
+use scope_tree::OPEN;
 use scope_tree::OPENED;
 use scope_tree::ORIGINS;
 use scope_tree::TARGETS;
@@ -269,6 +270,9 @@ fn resolve_use(
     Answer::Done
 }
 
+// How many modules may be open where one more is opened.
+const OPENING: usize = OPEN - 1;
+
 // What a call declares: a kind, or 0 for none; the number of a held name; how many modules may be open; whether it opens one.
 pub struct Kind {
     pub kind: u16,
@@ -284,7 +288,7 @@ fn kind_of(code: u8) -> Kind
         return Kind {
             kind: 3,
             twice: 47,
-            deepest: 8,
+            deepest: OPENING,
             opens: true,
         };
     }
@@ -292,7 +296,7 @@ fn kind_of(code: u8) -> Kind
         return Kind {
             kind: 2,
             twice: 49,
-            deepest: 9,
+            deepest: OPEN,
             opens: false,
         };
     }
@@ -300,7 +304,7 @@ fn kind_of(code: u8) -> Kind
         return Kind {
             kind: 1,
             twice: 48,
-            deepest: 9,
+            deepest: OPEN,
             opens: false,
         };
     }
@@ -308,7 +312,7 @@ fn kind_of(code: u8) -> Kind
         return Kind {
             kind: 1,
             twice: 48,
-            deepest: 9,
+            deepest: OPEN,
             opens: false,
         };
     }

@@ -3,6 +3,7 @@
 use std::collections::BTreeMap;
 
 use bundle_generate::link;
+use gontsamy::layout::{IMAGE, REPORT};
 
 /// What the port's operation tells: a refusal; or the report's bytes; or each unit's place among
 /// the bundle's files, the linked order and the image.
@@ -60,7 +61,7 @@ fn port_difference(bytes: &[u8], expected: &Told) -> Option<String> {
         (report, image),
         (report.saturating_sub(1), image.saturating_sub(1)),
         (report + 9, image + 9),
-        (4096, 65538),
+        (REPORT, IMAGE),
     ];
     for (lent_report, lent_image) in lengths {
         let fill = |length: usize| (0..length).map(|at| at as u8 ^ 0xa5).collect::<Vec<u8>>();

@@ -1,8 +1,8 @@
-//! `bundle::check` against the reader of tools/format.
+//! `card::check` against the reader of tools/format.
 
 use std::collections::BTreeMap;
 
-use bundle_format::{Body, Bundle, File, Item, Refusal, Remapping};
+use bundle_format::{limits, Body, Bundle, File, Item, Refusal, Remapping};
 use bundle_generate::rng::Rng;
 
 use crate::host;
@@ -149,10 +149,10 @@ pub fn sample(count: usize) -> std::io::Result<()> {
     }
     let (ignored, empty_use) = ([0, 2, 6, 0], [0, 4, 3, 0, 0, 0]);
     for bytes in [
-        filled(&ignored, 1024),
-        filled(&ignored, 1025),
-        filled(&empty_use, 256),
-        filled(&empty_use, 257),
+        filled(&ignored, limits::ITEMS),
+        filled(&ignored, limits::ITEMS + 1),
+        filled(&empty_use, limits::USES),
+        filled(&empty_use, limits::USES + 1),
     ] {
         let (number, place) = expected(&bytes);
         found.entry(number).or_default().push((place, bytes));

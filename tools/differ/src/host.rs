@@ -1,6 +1,6 @@
 //! The library as the runs ask it.
 
-use gontsamy::exports;
+use gontsamy::exports::{self, Found};
 use gontsamy::layout::{
     ANSWER, ANSWER_ENTRIES, ANSWER_FILES, ANSWER_IDS, ANSWER_IMAGE, ANSWER_PLACE, ANSWER_REPORT,
     ANSWER_UNITS, FILES,
@@ -9,21 +9,25 @@ use gontsamy::layout::{
 use crate::order::Told;
 
 /// What no answer has.
-const UNTOLD: usize = usize::MAX;
+pub const UNTOLD: usize = usize::MAX;
 
 /// 0, or a number from 1 to 13 and its place.
 pub fn check(bundle: &[u8]) -> (u8, usize) {
-    let mut place = [UNTOLD; 1];
+    let mut place = UNTOLD;
     let number = exports::check(bundle, &mut place);
-    (number, place[0])
+    (number, place)
 }
 
-/// 0 with a file's index or 255 with a folder's, and how many segments are left; or a number and its
-/// place.
-pub fn resolve(bundle: &[u8], importer: &[u8], segments: &[u8]) -> (u8, [usize; 2]) {
-    let mut out = [UNTOLD; 2];
-    let kind = exports::resolve(bundle, importer, segments, &mut out);
-    (kind, out)
+/// 0 with a file's index or `FOLDER` with a folder's, and how many segments are left; or a number and its place. What is not told is
+/// `UNTOLD`.
+pub fn resolve(bundle: &[u8], importer: &[u8], segments: &[u8]) -> (u8, Found) {
+    let mut found = Found {
+        index: UNTOLD,
+        left: UNTOLD,
+        place: UNTOLD,
+    };
+    let kind = exports::resolve(bundle, importer, segments, &mut found);
+    (kind, found)
 }
 
 /// A number with its place; or a report; or each unit's place among the files, and the linked order. Anything else in the answer is

@@ -2,8 +2,10 @@
 
 use std::collections::BTreeMap;
 
+use bundle_format::limits;
 use bundle_generate::link::{self, Discovered};
 use bundle_generate::shape;
+use gontsamy::layout::REPORT;
 
 /// What the port's operation tells: a refusal; or the report's bytes; or each unit's place among
 /// the bundle's files, and the linked order.
@@ -72,7 +74,7 @@ fn port_difference(bytes: &[u8], model: &Discovered) -> Option<String> {
         Told::Report(report) => report.len(),
         _ => 0,
     };
-    for lent in [length.saturating_sub(1), length, length + 9, 1024] {
+    for lent in [length.saturating_sub(1), length, length + 9, REPORT] {
         let mut buffer: Vec<u8> = (0..lent).map(|at| at as u8 ^ 0xa5).collect();
         let mut wanted = buffer.clone();
         let answer = match expected {
@@ -266,7 +268,7 @@ pub fn sample(form: &str, length: usize) -> std::io::Result<()> {
 
 /// Discovery and order of a bundle of 64 units, so many times.
 pub fn measure(name: &str, who: &str, times: u64) -> u64 {
-    let Some(bytes) = shape(name, 64) else {
+    let Some(bytes) = shape(name, limits::FILES) else {
         return 1;
     };
     let bytes = std::hint::black_box(bytes);
@@ -275,7 +277,7 @@ pub fn measure(name: &str, who: &str, times: u64) -> u64 {
             std::hint::black_box(link::discover(&bytes));
         }),
         "port" => (0..times).for_each(|_| {
-            std::hint::black_box(crate::host::order(&bytes, &mut [0; 1024]));
+            std::hint::black_box(crate::host::order(&bytes, &mut [0; REPORT]));
         }),
         #[cfg(original)]
         "original" => {
@@ -290,11 +292,11 @@ pub fn measure(name: &str, who: &str, times: u64) -> u64 {
 /// `stack SHAPE PAGES`: one run of the port in a thread whose stack has so many pages of 4 KB. Where
 /// they are too few the process ends by a signal.
 pub fn stack(name: &str, pages: usize) -> u64 {
-    let Some(bytes) = shape(name, 64) else {
+    let Some(bytes) = shape(name, limits::FILES) else {
         return 1;
     };
     let thread = std::thread::Builder::new().stack_size(4096 * pages);
-    let thread = thread.spawn(move || crate::host::order(&bytes, &mut [0; 1024]));
+    let thread = thread.spawn(move || crate::host::order(&bytes, &mut [0; REPORT]));
     thread.expect("a thread").join().expect("no panic");
     0
 }

@@ -3,8 +3,10 @@
 
 use bundle_format::{Body, Bundle, Item};
 use bundle_generate::lookup::Lookup;
+use gontsamy::exports::Found;
+use gontsamy::layout::FOLDER;
 
-use crate::host;
+use crate::host::{self, UNTOLD};
 
 fn uses<'a>(items: &'a [Item], found: &mut Vec<&'a [Vec<u8>]>) {
     for item in items {
@@ -26,19 +28,30 @@ fn encoded(segments: &[Vec<u8>]) -> Vec<u8> {
     bytes
 }
 
-/// 0 with a file's index or 255 with a folder's, and the number of segments left; or a number.
-fn expected(lookup: &Lookup, importer: &[u8], segments: &[Vec<u8>]) -> (u8, [usize; 2]) {
+/// A refusal's number and place, as `host::resolve` tells it.
+fn refused(number: u8, place: usize) -> (u8, Found) {
+    let (index, left) = (UNTOLD, UNTOLD);
+    (number, Found { index, left, place })
+}
+
+/// The same of a file, or of a folder, with how many segments are left.
+fn led(kind: u8, index: usize, left: usize) -> (u8, Found) {
+    let place = UNTOLD;
+    (kind, Found { index, left, place })
+}
+
+fn expected(lookup: &Lookup, importer: &[u8], segments: &[Vec<u8>]) -> (u8, Found) {
     let found = match lookup.resolve(importer, segments) {
-        Err(number) => return (number, [0, usize::MAX]),
+        Err(number) => return refused(number, 0),
         Ok(found) => found,
     };
     let left = segments.len() - found.rest;
     match lookup.file(&found.path) {
-        Some(index) => (0, [index, left]),
+        Some(index) => led(0, index, left),
         None => {
             let folders = &lookup.bundle.folders;
             let index = folders.iter().position(|folder| *folder == found.path);
-            (255, [index.expect("a listed folder"), left])
+            led(FOLDER, index.expect("a listed folder"), left)
         }
     }
 }
@@ -175,7 +188,7 @@ impl Tally {
     fn compare(&mut self, bytes: &[u8], bundle: &Bundle, importer: &[u8], segments: &[Vec<u8>]) {
         let original = self.resolver.resolve(importer, segments);
         let expected = match original.expect("a bundle is lent") {
-            Err(refusal) => (refusal.number, [refusal.place, usize::MAX]),
+            Err(refusal) => refused(refusal.number, refusal.place),
             Ok((path, left)) => {
                 let rest = segments.len() - left.len();
                 let same = left.iter().map(String::as_bytes);
@@ -183,8 +196,8 @@ impl Tally {
                 let file = bundle.files.iter().position(|file| file.path == path);
                 let folder = bundle.folders.iter().position(|folder| *folder == path);
                 match file {
-                    Some(file) => (0, [file, left.len()]),
-                    None => (255, [folder.expect("a listed path"), left.len()]),
+                    Some(file) => led(0, file, left.len()),
+                    None => led(FOLDER, folder.expect("a listed path"), left.len()),
                 }
             }
         };

@@ -1,6 +1,6 @@
 //! Policy bundles: their bytes read, checked and written.
 //!
-//! Written from document 01 alone. A place is an offset in the bundle; a string's place is that
+//! Written from docs/SPECIFICATION.md alone. A place is an offset in the bundle; a string's place is that
 //! of its length byte.
 
 mod check;
@@ -88,7 +88,7 @@ pub struct Element {
     pub alias: Option<Vec<u8>>,
 }
 
-/// A number of document 01's table and the byte it is told at.
+/// A number of the specification's table and the byte it is told at.
 #[derive(Clone, Copy, Debug, PartialEq, Eq)]
 pub struct Refusal {
     pub number: u8,

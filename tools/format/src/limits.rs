@@ -1,4 +1,4 @@
-//! The version and every limit of the bundle, in one place.
+//! The version and every limit, in one place.
 
 /// Byte 0 of a bundle and of an image.
 pub const VERSION: u8 = 1;
@@ -25,6 +25,10 @@ pub const NAME: usize = 32;
 pub const COMPONENTS: usize = 16;
 /// Bytes of a path.
 pub const PATH: usize = 255;
+
+/// Units of a graph given directly, and ids in all of its lists.
+pub const GRAPH_UNITS: usize = 64;
+pub const GRAPH_IDS: usize = 256;
 
 /// Entries of a tree, units included.
 pub const ENTRIES: usize = 1_024;

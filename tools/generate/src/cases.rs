@@ -7,7 +7,7 @@ use crate::project::{element, file, function, import, item, module, remapping};
 
 /// Their names, each with what it is.
 pub const CASES: [(&str, &str); 11] = [
-    ("tiny", "the printed case of document 01"),
+    ("tiny", "the printed case of the README"),
     ("office", "12 files, remapped libraries"),
     ("wide", "64 files, 256 uses"),
     ("deep", "paths of 16 components"),

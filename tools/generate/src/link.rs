@@ -1,4 +1,4 @@
-//! A whole run by document 01, over the format library. The generator keeps its bundles small
+//! A whole run by docs/SPECIFICATION.md, over the format library. The generator keeps its bundles small
 //! with it, and its answers can be compared with the oracle's.
 
 use bundle_format::{image, Body, Bundle, Item, Refusal};

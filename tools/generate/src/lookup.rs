@@ -1,4 +1,4 @@
-//! Document 01's step 1 and 2 over a bundle's lists.
+//! Steps 1 and 2 of a link over a bundle's lists.
 
 use bundle_format::{forms, Bundle};
 

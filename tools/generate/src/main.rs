@@ -3,6 +3,7 @@
 use std::io::{BufWriter, Read, Write};
 use std::process::ExitCode;
 
+use bundle_format::limits;
 use bundle_generate::{bundle, case, far_bundle, link, shape, stats, Family, Reach, FAMILIES, FAR};
 
 const USAGE: &str = "\
@@ -91,7 +92,7 @@ fn stream(seed: &str, count: &str, make: impl Fn(u64, u64) -> Vec<u8>) -> std::i
 }
 
 fn one_shape(name: &str, units: &str) -> std::io::Result<()> {
-    let units = units.parse().ok().filter(|units| (1..=64).contains(units));
+    let units = units.parse().ok().filter(|units| (1..=limits::FILES).contains(units));
     let Some(bytes) = units.and_then(|units| shape(name, units)) else {
         return usage("shape or number of units");
     };

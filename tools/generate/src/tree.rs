@@ -1,4 +1,4 @@
-//! The module tree of document 01's step 6, with closed modules shared between copies.
+//! The module tree of step 6, with closed modules shared between copies.
 
 use std::rc::Rc;
 

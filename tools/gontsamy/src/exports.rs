@@ -55,8 +55,8 @@ macro_rules! tree_questions {
 }
 
 tree_questions! {
-    gontsamy_get_alias(name: *const u8, name_length: usize, mark: *mut usize, mark_length: usize);
-    gontsamy_get_function(name: *const u8, name_length: usize, mark: *mut usize, mark_length: usize);
+    gontsamy_get_alias(name: *const u8, name_length: usize, mark: *mut usize);
+    gontsamy_get_function(name: *const u8, name_length: usize, mark: *mut usize);
     gontsamy_rows(rows: *mut u64, rows_length: usize, count: *mut usize);
 }
 
@@ -81,12 +81,7 @@ extern "C" {
         answer: *mut usize,
         answer_length: usize,
     ) -> u8;
-    fn gontsamy_check(
-        bundle: *const u8,
-        bundle_length: usize,
-        place: *mut usize,
-        place_length: usize,
-    ) -> u8;
+    fn gontsamy_check(bundle: *const u8, bundle_length: usize, place: *mut usize) -> u8;
     fn gontsamy_resolve(
         bundle: *const u8,
         bundle_length: usize,
@@ -94,8 +89,9 @@ extern "C" {
         importer_length: usize,
         decl: *const u8,
         decl_length: usize,
-        out: *mut usize,
-        out_length: usize,
+        index: *mut usize,
+        left: *mut usize,
+        place: *mut usize,
     ) -> u8;
     fn gontsamy_linearize(
         start: *const [u16; UNITS],
@@ -149,20 +145,24 @@ pub fn order(bundle: &[u8], report: &mut [u8], answer: &mut [usize]) -> u8 {
 }
 
 /// `gontsamy_check`.
-pub fn check(bundle: &[u8], place: &mut [usize]) -> u8 {
+pub fn check(bundle: &[u8], place: &mut usize) -> u8 {
     // SAFETY: as above.
-    unsafe {
-        gontsamy_check(
-            bundle.as_ptr(),
-            bundle.len(),
-            place.as_mut_ptr(),
-            place.len(),
-        )
-    }
+    unsafe { gontsamy_check(bundle.as_ptr(), bundle.len(), place) }
+}
+
+/// What `gontsamy_resolve` tells beside its number; what it does not tell stays.
+#[derive(Clone, Copy, Debug, Default, PartialEq, Eq)]
+pub struct Found {
+    /// Which file or folder.
+    pub index: usize,
+    /// How many of the last segments are left.
+    pub left: usize,
+    /// The place of a refusal.
+    pub place: usize,
 }
 
 /// `gontsamy_resolve`.
-pub fn resolve(bundle: &[u8], importer: &[u8], decl: &[u8], out: &mut [usize]) -> u8 {
+pub fn resolve(bundle: &[u8], importer: &[u8], decl: &[u8], found: &mut Found) -> u8 {
     // SAFETY: as above.
     unsafe {
         gontsamy_resolve(
@@ -172,8 +172,9 @@ pub fn resolve(bundle: &[u8], importer: &[u8], decl: &[u8], out: &mut [usize]) -
             importer.len(),
             decl.as_ptr(),
             decl.len(),
-            out.as_mut_ptr(),
-            out.len(),
+            &mut found.index,
+            &mut found.left,
+            &mut found.place,
         )
     }
 }
@@ -246,26 +247,12 @@ pub(crate) fn resolve_use(tree: &mut Tree, decl: &[u8], is_public: bool) -> u8 {
     )
 }
 
-pub(crate) fn get_alias(tree: &Tree, name: &[u8], mark: &mut [usize; 1]) -> u8 {
-    on!(
-        tree,
-        gontsamy_get_alias,
-        name.as_ptr(),
-        name.len(),
-        mark.as_mut_ptr(),
-        1
-    )
+pub(crate) fn get_alias(tree: &Tree, name: &[u8], mark: &mut usize) -> u8 {
+    on!(tree, gontsamy_get_alias, name.as_ptr(), name.len(), mark)
 }
 
-pub(crate) fn get_function(tree: &Tree, name: &[u8], mark: &mut [usize; 1]) -> u8 {
-    on!(
-        tree,
-        gontsamy_get_function,
-        name.as_ptr(),
-        name.len(),
-        mark.as_mut_ptr(),
-        1
-    )
+pub(crate) fn get_function(tree: &Tree, name: &[u8], mark: &mut usize) -> u8 {
+    on!(tree, gontsamy_get_function, name.as_ptr(), name.len(), mark)
 }
 
 pub(crate) fn rows(tree: &Tree, rows: &mut [u64], count: &mut usize) -> u8 {

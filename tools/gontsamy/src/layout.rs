@@ -17,6 +17,9 @@ pub const UNITS: usize = 64;
 /// The most ids in all of its lists.
 pub const IDS: usize = 256;
 
+/// The kind of a resolution that leads to a folder; no refusal's number.
+pub const FOLDER: u8 = 255;
+
 /// An answer: the place of a refusal.
 pub const ANSWER_PLACE: usize = 0;
 /// The length of the report.

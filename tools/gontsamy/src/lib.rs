@@ -370,10 +370,10 @@ pub fn order<'a>(
 
 /// Tests a bundle by 1 to 13 alone.
 pub fn check(bundle: &[u8]) -> Result<(), (Number, usize)> {
-    let mut place = [0];
+    let mut place = 0;
     match exports::check(bundle, &mut place) {
         0 => Ok(()),
-        number => Err((Number(number), place[0])),
+        number => Err((Number(number), place)),
     }
 }
 
@@ -388,10 +388,10 @@ pub enum Resolved {
 
 /// What a use of a listed file resolves to. `decl` is in the bundle's form: a count of segments, and the segments.
 pub fn resolve(bundle: &[u8], importer: &[u8], decl: &[u8]) -> Result<Resolved, (Number, usize)> {
-    let mut out = [0; 2];
-    match exports::resolve(bundle, importer, decl, &mut out) {
-        0 => Ok(Resolved::File(out[0], out[1])),
-        255 => Ok(Resolved::Folder(out[0], out[1])),
-        number => Err((Number(number), out[0])),
+    let mut found = exports::Found::default();
+    match exports::resolve(bundle, importer, decl, &mut found) {
+        0 => Ok(Resolved::File(found.index, found.left)),
+        FOLDER => Ok(Resolved::Folder(found.index, found.left)),
+        number => Err((Number(number), found.place)),
     }
 }

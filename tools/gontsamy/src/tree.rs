@@ -120,14 +120,14 @@ impl Tree {
 
     /// The mark of the type of that name in the innermost open module.
     pub fn get_alias(&self, name: &[u8]) -> Result<usize, Number> {
-        let mut mark = [0];
-        accepted(exports::get_alias(self, name, &mut mark)).map(|()| mark[0])
+        let mut mark = 0;
+        accepted(exports::get_alias(self, name, &mut mark)).map(|()| mark)
     }
 
     /// The mark of the function of that name in the innermost open module.
     pub fn get_function(&self, name: &[u8]) -> Result<usize, Number> {
-        let mut mark = [0];
-        accepted(exports::get_function(self, name, &mut mark)).map(|()| mark[0])
+        let mut mark = 0;
+        accepted(exports::get_function(self, name, &mut mark)).map(|()| mark)
     }
 
     /// The entries in the order made. `rows` is lent for them.

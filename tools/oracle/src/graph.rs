@@ -5,9 +5,6 @@ use bundle_format::limits;
 use crate::driver::DependencyGraph;
 use crate::error::Error;
 
-/// The most ids in the lists of a graph given directly.
-const IDS: usize = 256;
-
 const CUT: u8 = 1;
 const TOO_MANY: u8 = 3;
 const RING: u8 = 26;
@@ -22,7 +19,7 @@ pub enum Linked {
 
 /// `lists` has start and length for each unit.
 pub fn linearize(lists: &[(usize, usize)], ids: &[usize]) -> Linked {
-    if lists.is_empty() || lists.len() > limits::FILES || ids.len() > IDS {
+    if lists.is_empty() || lists.len() > limits::GRAPH_UNITS || ids.len() > limits::GRAPH_IDS {
         return Linked::Refused(TOO_MANY);
     }
     let slices: Option<Vec<&[usize]>> = lists

@@ -1,4 +1,4 @@
-//! One bundle, judged: document 01's steps by the original, from bytes to what is printed.
+//! One bundle, judged: the steps of a link by the original, from bytes to what is printed.
 
 use std::io;
 use std::rc::Rc;
@@ -146,7 +146,7 @@ impl Judge {
         assert_eq!(
             built.as_ref().err(),
             checked.as_ref(),
-            "9 to 13 by the original and by document 01"
+            "9 to 13 by the original and by tools/format"
         );
         Ok((Rc::new(bundle), built?))
     }
@@ -281,7 +281,7 @@ pub(crate) fn record(pushed: &Diagnostic, sources: &SourceMap) -> Record {
     }
 }
 
-/// Document 01's number for an error of lookup or reading.
+/// The specification's number for an error of lookup or reading.
 pub(crate) fn resolution_number(error: &Error) -> u8 {
     match error {
         Error::CannotParse { .. } => 20,
@@ -384,7 +384,7 @@ fn length(item: &Item) -> usize {
 }
 
 impl Answer {
-    /// What document 01's printing program prints, and the image if asked for.
+    /// What the printing program prints, and the image if asked for.
     pub fn print(&self, image: bool) -> String {
         let mut out = String::new();
         match self {

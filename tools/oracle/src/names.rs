@@ -52,7 +52,7 @@ pub fn answer(line: &str) -> Option<String> {
 }
 
 /// The original's form of a remapping name holds no keywords, and no limit: for the keywords, and
-/// for what is longer or no UTF-8, document 01's form answers alone.
+/// for what is longer or no UTF-8, the specification's form answers alone.
 fn identifier(name: &[u8]) -> bool {
     let form = is_identifier(name);
     let short = Some(name).filter(|name| name.len() <= limits::NAME);

@@ -2,8 +2,7 @@
 
 use bundle_generate::Rng;
 
-const UNITS: usize = 64;
-const IDS: usize = 256;
+use bundle_format::limits::{GRAPH_IDS as IDS, GRAPH_UNITS as UNITS};
 
 /// Start and length of each unit's list, and the ids.
 #[derive(Clone, Default)]

@@ -1,5 +1,7 @@
 //! The port's answers and trees against the original's.
 
+use bundle_format::limits;
+
 use crate::cover::Cover;
 use crate::lists::{self, List};
 use crate::port::{self, Row};
@@ -90,7 +92,7 @@ pub fn run(seed: u64, count: u64) -> u64 {
     let mut cover = Cover::default();
     let (mut trees, mut differences) = (0u64, 0u64);
     let mut families = vec![0u64; lists::family_names().count()];
-    let mut rows = vec![[0u64; 11]; 1024];
+    let mut rows = vec![[0u64; 11]; limits::ENTRIES];
     for index in 0..count {
         let (mut list, family) = lists::list(seed, index);
         families[family] += 1;

@@ -1,4 +1,4 @@
-//! What the accepted calls of a list have made, as document 01 tells it: it shows the generator
+//! What the accepted calls of a list have made, as the specification tells it: it shows the generator
 //! where to aim, and what a list covers. Whether a call is accepted is the original's answer.
 
 use crate::calls::{read_form, Call};

@@ -1,4 +1,4 @@
-//! The original's module tree behind calls that give document 01's numbers, keep its limits and
+//! The original's module tree behind calls that give the specification's numbers, keep its limits and
 //! log the entries in the order made.
 
 pub mod bare;
@@ -222,7 +222,7 @@ impl Tree {
     }
 }
 
-/// Document 01's number for an error of the module tree.
+/// The specification's number for an error of the module tree.
 fn number(error: Error) -> Fault {
     Fault::Number(match error {
         Error::MissingCrateKeyword => 40,

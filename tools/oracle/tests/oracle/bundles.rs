@@ -1,4 +1,4 @@
-//! Whole bundles: the printed case of document 01, its corner cases, and a bundle for each
+//! Whole bundles: the printed case, the corner cases, and a bundle for each
 //! number that is not about the bundle's own bytes.
 
 use crate::common::*;
