@@ -89,10 +89,7 @@ fn printed(bundles: &[Vec<u8>]) -> String {
         stream.extend(bundle);
     }
     std::fs::write(&path, &stream).unwrap();
-    let program = concat!(
-        env!("CARGO_MANIFEST_DIR"),
-        "/../../target/bin/link_vectors"
-    );
+    let program = concat!(env!("CARGO_MANIFEST_DIR"), "/../../target/bin/link_vectors");
     let output = Command::new(program)
         .stdin(Stdio::from(std::fs::File::open(&path).unwrap()))
         .output()

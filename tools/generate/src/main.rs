@@ -92,7 +92,10 @@ fn stream(seed: &str, count: &str, make: impl Fn(u64, u64) -> Vec<u8>) -> std::i
 }
 
 fn one_shape(name: &str, units: &str) -> std::io::Result<()> {
-    let units = units.parse().ok().filter(|units| (1..=limits::FILES).contains(units));
+    let units = units
+        .parse()
+        .ok()
+        .filter(|units| (1..=limits::FILES).contains(units));
     let Some(bytes) = units.and_then(|units| shape(name, units)) else {
         return usage("shape or number of units");
     };

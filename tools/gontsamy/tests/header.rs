@@ -47,37 +47,46 @@ fn header() -> BTreeMap<String, usize> {
 /// The constants of a source file in Rust or Rattle, `pub const NAME: TYPE = VALUE;`, computed; `outside` are those of other files.
 fn constants(text: &str, outside: &BTreeMap<String, usize>) -> BTreeMap<String, usize> {
     let mut constants: BTreeMap<String, usize> = BTreeMap::new();
-    for line in text.lines() {
-        let line = line.trim();
-        let Some(rest) = line
-            .strip_prefix("pub const ")
-            .or_else(|| line.strip_prefix("const "))
-        else {
-            continue;
-        };
-        let (Some((name, _)), Some((_, value))) = (rest.split_once(':'), rest.split_once("= "))
-        else {
-            continue;
-        };
-        let value = value.trim_end_matches(';').replace('_', "");
-        let known: BTreeMap<String, usize> = outside
-            .iter()
-            .chain(&constants)
-            .map(|(name, value)| (name.replace('_', ""), *value))
-            .collect();
-        let number = |word: &str| word.parse().ok().or_else(|| known.get(word).copied());
-        let words: Vec<&str> = value.split(' ').collect();
-        let total = match words.as_slice() {
-            [one] => number(one),
-            [one, "+", two] => number(one).zip(number(two)).map(|(a, b)| a + b),
-            [one, "*", two] => number(one).zip(number(two)).map(|(a, b)| a * b),
-            _ => None,
-        };
-        if let Some(total) = total {
-            constants.insert(name.to_string(), total);
+    // One may be made from others that stand behind it.
+    loop {
+        let before = constants.len();
+        for line in text.lines() {
+            if let Some((name, total)) = constant(line.trim(), outside, &constants) {
+                constants.insert(name, total);
+            }
+        }
+        if constants.len() == before {
+            return constants;
         }
     }
-    constants
+}
+
+/// The constant of a line, where it is made from what is known.
+fn constant(
+    line: &str,
+    outside: &BTreeMap<String, usize>,
+    constants: &BTreeMap<String, usize>,
+) -> Option<(String, usize)> {
+    let rest = line
+        .strip_prefix("pub const ")
+        .or_else(|| line.strip_prefix("const "))?;
+    let (name, _) = rest.split_once(':')?;
+    let (_, value) = rest.split_once("= ")?;
+    let value = value.trim_end_matches(';').replace('_', "");
+    let known: BTreeMap<String, usize> = outside
+        .iter()
+        .chain(constants)
+        .map(|(name, value)| (name.replace('_', ""), *value))
+        .collect();
+    let number = |word: &str| word.parse().ok().or_else(|| known.get(word).copied());
+    let words: Vec<&str> = value.split(' ').collect();
+    let total = match words.as_slice() {
+        [one] => number(one),
+        [one, "+", two] => number(one).zip(number(two)).map(|(a, b)| a + b),
+        [one, "*", two] => number(one).zip(number(two)).map(|(a, b)| a * b),
+        _ => None,
+    };
+    Some((name.to_string(), total?))
 }
 
 /// The constants of the proved crates by their paths, `bundle::limits::FILES`; a plain number each.
@@ -125,7 +134,7 @@ fn limits() -> BTreeMap<String, usize> {
 fn layouts() {
     let header = header();
     let crate_constants = constants(&read("tools/gontsamy/src/layout.rs"), &BTreeMap::new());
-    assert!(crate_constants.len() >= 24, "{crate_constants:?}");
+    assert!(crate_constants.len() >= 25, "{crate_constants:?}");
     for (name, value) in &crate_constants {
         assert_eq!(header.get(name), Some(value), "{name}");
     }
@@ -147,6 +156,7 @@ fn layouts() {
         "IDS",
         "TREE_OPENED",
         "TREE_CELLS",
+        "FOLDER",
     ] {
         assert_eq!(exports.get(name), header.get(name), "{name} of crates/host");
     }

@@ -23,7 +23,9 @@ fn examples() -> Vec<(String, Vec<u8>, String)> {
         }
     }
     assert!(found.len() >= 5);
-    assert!(found.iter().any(|(_, _, stored)| stored.starts_with("no 44 ")));
+    assert!(found
+        .iter()
+        .any(|(_, _, stored)| stored.starts_with("no 44 ")));
     found
 }
 
@@ -81,8 +83,16 @@ fn host_in_c() {
 fn host_in_rust() {
     // cargo builds the package's examples before its tests, beside the folder that they stand in.
     let tests = std::env::current_exe().unwrap();
-    let host = tests.parent().unwrap().with_file_name("examples").join("link");
-    assert!(host.exists(), "run all tests of the package, which builds {}", host.display());
+    let host = tests
+        .parent()
+        .unwrap()
+        .with_file_name("examples")
+        .join("link");
+    assert!(
+        host.exists(),
+        "run all tests of the package, which builds {}",
+        host.display()
+    );
     run(&host, |bundle, stored| {
         if !stored.starts_with("ok") {
             return stored.to_string();

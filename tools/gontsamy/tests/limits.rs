@@ -35,10 +35,7 @@ fn what_cannot_be_encoded() {
         error(Part::Remapping(0), Reason::LongString)
     );
     builder.file(b"/m").unwrap();
-    assert_eq!(
-        builder.folder(b"/b"),
-        error(Part::Folder(0), Reason::Order)
-    );
+    assert_eq!(builder.folder(b"/b"), error(Part::Folder(0), Reason::Order));
     builder.function(true, b"f").unwrap();
     let segments = vec![&b"a"[..]; 256];
     assert_eq!(
@@ -56,13 +53,16 @@ fn what_cannot_be_encoded() {
         error(item(2, "enum"), Reason::LongString)
     );
     builder.close_module().unwrap();
-    assert_eq!(builder.file(&long), error(Part::File(1), Reason::LongString));
+    assert_eq!(
+        builder.file(&long),
+        error(Part::File(1), Reason::LongString)
+    );
     // What was refused left no byte: the bundle is one folder and one file with two items.
     let bundle = builder.finish().unwrap();
     assert_eq!(check(bundle), Ok(()));
     assert_eq!(
         bundle,
-        b"\x01\x00\x1a\x01/\x01\x02/a\x00\x01\x02/m\x00\x0c\x00\x04\x02\x01\x01f\x00\x04\x05\x01\x01m"
+        b"\x01\x00\x19\x01/\x01\x02/a\x00\x01\x02/m\x00\x0c\x00\x04\x02\x01\x01f\x00\x04\x05\x01\x01m"
     );
 }
 

@@ -79,7 +79,8 @@ impl Cover {
         self.lists = 1;
         self.deepest = self.deepest.max(register.open.len());
         self.entries = self.entries.max(register.entries.len());
-        if register.entries.len() == limits::ENTRIES && !self.happened.contains_key("1,024 entries") {
+        if register.entries.len() == limits::ENTRIES && !self.happened.contains_key("1,024 entries")
+        {
             self.happens("1,024 entries", 1);
         }
         if register.open.len() == 9 && !self.happened.contains_key("9 open modules") {

@@ -37,4 +37,3 @@ pub fn compile(words: &[&str], source: &Path, out: &Path) {
         String::from_utf8_lossy(&output.stderr)
     );
 }
-
