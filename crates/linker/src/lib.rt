@@ -88,7 +88,7 @@ pub fn link_rows(s: &[u8], report: &mut [u8], image: &mut [u8], out: &mut [u64])
     units::tell_units(s, &known, &ids, n, a, image, out)
 }
 
-// The same, with a tree given, which comes back where there is no image. Ruled out: an empty tree for the one that was given.
+// As `link_new`, with a tree given, which comes back where there is no image. Ruled out: an empty tree for the one that was given.
 pub fn link(s: &[u8], report: &mut [u8], image: &mut [u8], tree: Tree) -> Linked
     ensures { λ r. ⌜ r .answer ≡ linkAnswer (now (s .entry)) (now (report .entry)) (now (image .entry)) ⌝ }
     ensures { λ r. ⌜ now (report .exit) ≡ linkReport (now (s .entry)) (now (report .entry)) ⌝ }
