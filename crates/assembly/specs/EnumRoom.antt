@@ -15,7 +15,7 @@ use Rattle.bundle.specs.Stand.{Bytes}
 use Rattle.bundle.specs.Decode.{decode}
 use Rattle.bundle.specs.Theorems.{sound, accepted}
 use Rattle.discovery.specs.Discovery.{Fault}
-use Rattle.discovery.specs.Meaning.{faultsIn}
+use Rattle.driver.specs.Meaning.{faultsIn}
 use Rattle.discovery.specs.Facts.{pathsAt}
 use Rattle.discovery.specs.Room.{checked-roomy}
 use Rattle.discovery.specs.Weight.{reached-file, sumOf, totalOf, weigh-of}

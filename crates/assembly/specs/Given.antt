@@ -13,7 +13,7 @@ use Rattle.bundle.specs.Read.{verdict}
 use Rattle.bundle.specs.declared.Checked.the-variants.{Ok}
 use Rattle.resolution.specs.Call.{position}
 use Rattle.discovery.specs.Discovery.{pathsOf}
-use Rattle.discovery.specs.Complete.{Known}
+use Rattle.driver.specs.Complete.{Known}
 use Rattle.discovery.specs.Places.{Places}
 use Rattle.order.specs.Run.{linked, ordered, unitsOf}
 use Rattle.order.specs.Call.{unitFiles}

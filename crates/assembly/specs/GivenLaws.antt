@@ -27,7 +27,7 @@ use Rattle.discovery.specs.Right.{discovered}
 use Rattle.discovery.specs.Room.{checked-roomy}
 use Rattle.discovery.specs.Search.{indexIn}
 use Rattle.discovery.specs.Known.{Row, FilesPut, row-put, files-put}
-use Rattle.discovery.specs.Complete.{Carries}
+use Rattle.driver.specs.Complete.{Carries}
 use Rattle.discovery.specs.Places.{places-put}
 use Rattle.discovery.specs.Weight.{reached-file}
 use Rattle.order.specs.Run.{unitsOf}

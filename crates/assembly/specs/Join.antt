@@ -15,9 +15,9 @@ use Rattle.bundle.specs.declared.Checked.{Checked}
 use Rattle.bundle.specs.declared.Checked.the-variants.{Ok, Refused}
 use Rattle.resolution.specs.Call.{position}
 use Rattle.discovery.specs.Discovery.{Fault, pathsOf}
-use Rattle.discovery.specs.Meaning.{faultsIn}
+use Rattle.driver.specs.Meaning.{faultsIn}
 use Rattle.discovery.specs.Room.{checked-roomy}
-pub use Rattle.discovery.specs.Meaning.{faults-counted}
+pub use Rattle.driver.specs.Meaning.{faults-counted}
 use Rattle.order.specs.Run.{linked, ordered, unitsOf}
 use Rattle.order.specs.Run as order
 use Rattle.order.specs.Call.{padded, unitFiles, orderAnswer, orderReport}

@@ -16,10 +16,6 @@ pub mod Cases
 -- LAWS for code and proofs
 pub mod Targets
 pub mod Walk
-pub mod Uses
-pub mod Written
 pub mod GivenLaws
 pub mod EnumRoom
-pub mod UseRoom
-pub mod WholeImage
 pub mod Join

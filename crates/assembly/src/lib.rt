@@ -1,17 +1,13 @@
-// Step 5, `assemble_program`: its faults, and the items of the program with their length and their bytes. The functions have the names of resolve_order.rs.
+// Step 5, `assemble_program`: its faults, and what the uses of a unit become. The functions have the names of resolve_order.rs. Crate
+// items has the length and the bytes of what is written.
 mod checks;
 mod enums;
-mod lengths;
 mod targets;
 mod units;
-mod writing;
 
 pub use checks::report_faults;
-pub use lengths::LIMIT;
-pub use lengths::program_length;
+pub use targets::target_of;
 pub use units::unit_items;
-pub use writing::rewrite_use;
-pub use writing::write_program;
 
 // What a use's path becomes: `crate`, the name of a unit, and the last so many segments; or no segment, where it fails.
 pub enum Target {

@@ -7,7 +7,7 @@ ghost use Rattle.bundle.specs.Bundle.{Text, Remapping, File};
 ghost use Rattle.bundle.specs.Limits.{capacity, count-limit, string-size, element-size, file-size, depth-limit, use-kind, module-kind, ignored-kind};
 ghost use Rattle.bundle.specs.Scan.{text, count, pastCount};
 ghost use Rattle.bundle.specs.Decode.{each, after, afterElement, afterRemapping, afterFile, elementAt, remappingAt, fileAt, itemsAt, decode, folderFirst, folderCount, remappingFirst, remappingCount, fileFirst, fileCount};
-ghost use Rattle.bundle.specs.Parts.{kindOf, markOf, visibilityOf, nameOf, segmentsOf, elementsOf, innerOf, restOf};
+ghost use Rattle.bundle.specs.Parts.{kindOf, visibilityOf, nameOf, segmentsOf, elementsOf, innerOf, restOf};
 use crate::Width;
 use crate::bytes::after_length;
 use crate::bytes::after_string;

@@ -3,7 +3,7 @@
 use bundle::Checked;
 
 fn tell(s: &[u8]) {
-    let told = card::check(s);
+    let told = reader::check(s);
     match told {
         Checked::Ok => {
             io::write_all(1, b"ok\n");

@@ -1,13 +1,10 @@
 // The card of a bundle: its listed paths as a tree of folders, by numbers. Index 0 is `/`, then come the folders and the files, in
-// the bundle's order: folder i is i + 1, file i is folders + 1 + i. A card is one lent array, whose parts layout.rt names.
-mod fill;
-mod hash;
+// the bundle's order: folder i is i + 1, file i is folders + 1 + i. A card is one lent array, whose parts layout.rt names. Crate
+// reader makes it.
+pub mod hash;
 pub mod layout;
-mod look;
-mod make;
-mod maps;
+pub mod look;
 mod parts;
-mod paths;
 
 pub use layout::CARD;
 pub use look::Near;
@@ -23,31 +20,3 @@ pub use parts::remapping_context;
 pub use parts::remapping_count;
 pub use parts::remapping_place;
 pub use parts::remapping_target;
-ghost use mathlib.Core.Path.{_≡_};
-ghost use lib.ListN.{length};
-ghost use Rattle.bundle.specs.Read.{verdict};
-ghost use Rattle.bundle.specs.declared.Checked.the-variants as Checked;
-ghost use Rattle.card.specs.Layout.{card-size};
-ghost use Rattle.card.specs.Card.{CardIs};
-use bundle::Checked;
-
-// Whether the bytes are a bundle, and its card.
-pub fn read(s: &[u8], card: &mut [u32; CARD]) -> Checked
-    requires { ⌜ length (now card) ≡ card-size ⌝ }
-    ensures { λ r. ⌜ (r ≡ verdict (now (s .entry))) × (r ≡ Checked.Ok → CardIs (now (s .entry)) (now (card .exit))) ⌝ }
-{
-    let formed = form::check_form(s);
-    match formed {
-        Checked::Refused(n, p) => Checked::Refused(n, p),
-        Checked::Ok => make::card_verdict(s, &mut *card),
-    }
-}
-
-// Whether the bytes are a bundle. Ruled out: `Ok` for a bundle with a folder listed twice; `Refused(8, ..)` for a path that
-// is also listed before, which is 7.
-pub fn check(s: &[u8]) -> Checked
-    ensures { λ r. ⌜ r ≡ verdict (now (s .entry)) ⌝ }
-{
-    let mut card = [0u32; CARD];
-    read(s, &mut card)
-}

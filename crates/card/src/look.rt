@@ -1,9 +1,9 @@
 // Lookups in a card.
 ghost use mathlib.Core.Path.{_≡_};
 ghost use mathlib.Core.List.{_++_};
-ghost use Prim.Native.Nat.{ℕ, suc, _+_, _<_, _^_};
+ghost use Prim.Native.Nat.{suc, _+_, _<_, _^_};
 ghost use lib.Dec.{eqb};
-ghost use lib.ListN.{length, getD};
+ghost use lib.ListN.{length};
 ghost use Rattle.names.specs.FolderTheorems.{Plain};
 ghost use Rattle.bundle.specs.Decode.{decode};
 ghost use Rattle.names.specs.Path.{component-limit};

@@ -25,8 +25,8 @@ use Rattle.order.specs.Cases as order
 use Rattle.scope_tree.specs.Step.{shared, any-main, nav, element, stage, step, run}
 use Rattle.scope_tree.specs.Register.{append, find, whole, names, registered}
 use Rattle.scope_tree.specs.Form.{Request, exits, string, after-strings, names-from, local-name, elements-from, string-fault, names-fault, elements-fault, after-elements, rest-fault, use-fault, use-call, call-of, calls-of}
-use Rattle.scopes.specs.Cases.{Case, answers, expected, text, texts, elements, uses, module-in}
-use Rattle.scopes.specs.Cases as scopes
+use Rattle.register.specs.Cases.{Case, answers, expected, text, texts, elements, uses, module-in}
+use Rattle.register.specs.Cases as scopes
 
 pub data Row : Type 0 where
   -- C1: a path, another, and whether the second is a prefix of the first

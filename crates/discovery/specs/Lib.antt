@@ -16,11 +16,5 @@ pub mod Walk
 pub mod Room
 pub mod Weight
 pub mod Search
-pub mod Record
-pub mod Meaning
-pub mod Readings
-pub mod Turns
 pub mod Known
 pub mod Places
-pub mod Complete
-pub mod Importing

@@ -60,7 +60,7 @@ pub extern "C" fn gontsamy_check(s: &[u8], place: &mut usize) -> u8
     ensures { λ r. ⌜ r ≡ numberOf (verdict (now (s .entry))) ⌝ }
     ensures { λ r. ⌜ now (place .exit) ≡ placeTold (verdict (now (s .entry))) (now (place .entry)) ⌝ }
 {
-    let checked = card::check(s);
+    let checked = reader::check(s);
     match checked {
         bundle::Checked::Ok => 0,
         bundle::Checked::Refused(n, p) => {

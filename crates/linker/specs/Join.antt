@@ -29,7 +29,7 @@ use Rattle.scope_tree.specs.Views.{rows as row-of}
 use Rattle.scope_tree.specs.Trees.{view, flat-of, cleared}
 use Rattle.scopes.specs.Runs.{first-is, first-good}
 use Rattle.rows.specs.TreeRows.{Listed, listed-as}
-use Rattle.discovery.specs.Complete.{Carries}
+use Rattle.driver.specs.Complete.{Carries}
 use Rattle.discovery.specs.Known.{known-length, FilesPut}
 use Rattle.assembly.specs.GivenLaws.{known-linked}
 use Rattle.assembly.specs.Join.{units-linked}

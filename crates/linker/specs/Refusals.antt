@@ -14,7 +14,7 @@ use Rattle.scope_tree.specs.Step.{Head, Elem, Call, enter, exit, alias, enum, f
 use Rattle.scope_tree.specs.Step as tree
 use Rattle.scope_tree.specs.Flat.{Flat, Place, copy, top, flat, stack-names}
 use Rattle.decision.specs.Calls.{length-names}
-use Rattle.scopes.specs.RefusalTheorems.{use-small}
+use Rattle.register.specs.RefusalTheorems.{use-small}
 use Rattle.scope_tree.specs.Form.{led-by-crate, names-from, Request, enters, exits, inserts-alias, inserts-enum, inserts-function, resolves-use, gets-alias, gets-function, named, after-string, after-element, after-strings, use-fault, use-call, elements-from, call-of}
 
 -- NUMBERS

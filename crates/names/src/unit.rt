@@ -1,7 +1,7 @@
 // A unit's name.
 ghost use mathlib.Core.Path.{_≡_};
 ghost use Prim.Native.Nat.{_+_, _<_, _≤_};
-ghost use lib.ListN.{drop, length, take};
+ghost use lib.ListN.{length, take};
 ghost use Rattle.names.specs.Decimal.{unitName, width};
 use crate::UnitName;
 

@@ -20,13 +20,13 @@ use Rattle.bundle.specs.Read.{verdict}
 use Rattle.bundle.specs.Theorems.{sound, accepted, told}
 use Rattle.bundle.specs.declared.Checked.the-variants.{Ok, Refused}
 use Rattle.resolution.specs.Call.{position}
-use Rattle.discovery.specs.declared.Graph.{Graph}
+use Rattle.driver.specs.declared.Graph.{Graph}
 use Rattle.discovery.specs.Discovery.{Fault, discoverDependencies, pathsOf}
 use Rattle.discovery.specs.Weight.{reached-file}
 use Rattle.discovery.specs.Right.{discovered}
-use Rattle.discovery.specs.Meaning.{faultsOf}
-use Rattle.discovery.specs.Turns.{firstLists, length-lists, Discovers}
-use Rattle.discovery.specs.Turns as record-of
+use Rattle.driver.specs.Meaning.{faultsOf}
+use Rattle.driver.specs.Turns.{firstLists, length-lists, Discovers}
+use Rattle.driver.specs.Turns as record-of
 use Rattle.discovery.specs.Room.{checked-roomy}
 use Rattle.discovery.specs.Discovery as definition
 use Rattle.graph.specs.Linearize.{Out, order, ring, memb, from, andThen, each, visit, linearize}

@@ -7,9 +7,9 @@ use mathlib.Core.List.{List, [], _∷_, _++_}
 use lib.ListN.{length, getD, set, take, drop, replicate, length-replicate, length-append}
 use lib.Seq.{length-take-le, take-suc, take-at}
 use Rattle.bundle.specs.Limits.{file-limit, use-limit}
-use Rattle.discovery.specs.declared.Graph.{Graph}
+use Rattle.driver.specs.declared.Graph.{Graph}
 use Rattle.discovery.specs.Discovery.{Fault}
-use Rattle.discovery.specs.Meaning.{faultsIn, faults-counted, faultsOf}
+use Rattle.driver.specs.Meaning.{faultsIn, faults-counted, faultsOf}
 use Rattle.graph.specs.declared.Graph as given
 use Rattle.graph.specs.declared.Linearized.{Linearized}
 use Rattle.graph.specs.Linearize.{Out, order, ring, linearize}

@@ -9,7 +9,7 @@ use lib.ListN.{length, getD, set, take, drop, length-append, length-map, length-
 use lib.Seq.{set-at, drop-cons, take-suc, append-snoc, length-take-le, drop-drop}
 use borrow.Author.Tests.{le-leb, lt-leb}
 use Rattle.bundle.specs.Encode.{joined}
-use Rattle.discovery.specs.Meaning.{faultsIn}
+use Rattle.driver.specs.Meaning.{faultsIn}
 use Rattle.order.specs.Report.{Record, fault, ring, ring-met, low, placeBytes, recordBytes, reportBytes, recordLength, reportLength, report-length, lentReport, reporting, small-buffer}
 use Rattle.order.specs.declared.Reported.the-variants as reported
 

@@ -7,7 +7,7 @@ pub use steps::refuse;
 pub use steps::report_told;
 pub use steps::tells;
 ghost use mathlib.Core.Path.{_≡_};
-ghost use Rattle.discovery.specs.Complete.{Carries};
+ghost use Rattle.driver.specs.Complete.{Carries};
 ghost use Rattle.discovery.specs.Places.{Fresh};
 ghost use Rattle.order.specs.Call.{orderAnswer, orderReport};
 use card::CARD;
@@ -47,11 +47,11 @@ pub fn order_known(s: &[u8], out: &mut [u8], known: &mut [usize; KNOWN]) -> Answ
     ensures { λ r. ⌜ Carries (now (s .entry)) (now (known .exit)) ⌝ }
 {
     let mut card = [0u32; CARD];
-    let checked = card::read(s, &mut card);
+    let checked = reader::read(s, &mut card);
     match checked {
         bundle::Checked::Refused(n, p) => steps::refuse(n, p),
         bundle::Checked::Ok => {
-            let g = discovery::discover(s, &card, &mut *known);
+            let g = driver::discover(s, &card, &mut *known);
             steps::order_of(g, out)
         }
     }

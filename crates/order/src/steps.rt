@@ -79,7 +79,7 @@ fn linked(files: &[usize], units: usize, ids: [u16; UNITS]) -> Answer
 
 // What is answered after discovery left g: its faults as a report, a ring as one, or the linked order. Ruled out: a ring told
 // where there is a fault; an order that stops before the last unit.
-pub fn order_of(g: discovery::Graph, out: &mut [u8]) -> Answer
+pub fn order_of(g: driver::Graph, out: &mut [u8]) -> Answer
     requires { ⌜ Found g ⌝ }
     ensures { λ r. ⌜ r ≡ answerOf g (length (now (out .entry))) ⌝ }
     ensures { λ r. ⌜ now (out .exit) ≡ lentReport (recordsOf (outcomeOf g)) (now (out .entry)) ⌝ }

@@ -40,7 +40,7 @@ fn tell_path(s: &[u8], index: usize) {
 fn tell_units(s: &[u8])
     requires { ⌜ verdict (now s) ≡ Ok ⌝ }
 {
-    let g = discovery::discover_dependencies(s);
+    let g = driver::discover_dependencies(s);
     let mut u = 0;
     while u < UNITS {
         if u < g.units {
@@ -84,7 +84,7 @@ fn tell_order(s: &[u8], report: &mut [u8; 1024])
 
 fn tell(s: &[u8]) {
     let mut report = [0u8; 1024];
-    let checked = card::check(s);
+    let checked = reader::check(s);
     match checked {
         Checked::Ok => {
             tell_order(s, &mut report);

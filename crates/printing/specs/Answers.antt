@@ -14,8 +14,10 @@ use Rattle.order.specs.declared.Answer.{Answer}
 use Rattle.scope_tree.specs.Trees.{flat-of}
 use Rattle.scope_tree.specs.declared.Tree.{Tree}
 use Rattle.linker.specs.Call.{linkAnswer, linkReport, LinkTree}
-use Rattle.printing.specs.Lines.{unit-line, has-lines}
-use Rattle.printing.specs.Reports.{ReportAt, lines-one}
+use Rattle.printing.specs.Lines.{unit-line}
+use Rattle.tree_lines.specs.Entries.{has-lines}
+use Rattle.printing.specs.Reports.{ReportAt}
+use Rattle.text.specs.LineLaws.{lines-one}
 use Rattle.printing.specs.Units.{OkLines}
 
 -- an answer with an image: its units are listed, and the lines are theirs and the tree's

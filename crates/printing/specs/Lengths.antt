@@ -16,7 +16,8 @@ use Rattle.names.specs.declared.Name.{Name}
 use Rattle.text.specs.Words.{Text, line, lines, no-line, bytes-of, spelled}
 use Rattle.discovery.specs.Discovery.{Fault}
 use Rattle.scope_tree.specs.Flat.{Entry, none}
-use Rattle.printing.specs.Lines.{module-path, has-line, has-lines, unit-line, fault-line, ring-lines, linked-lines}
+use Rattle.printing.specs.Lines.{unit-line, fault-line, ring-lines, linked-lines}
+use Rattle.tree_lines.specs.Entries.{module-path, has-line, has-lines}
 use Rattle.printing.specs.DepthTheorems.{Within}
 
 -- NUMBERS

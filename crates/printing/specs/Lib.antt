@@ -13,7 +13,6 @@ pub mod ReadTheorems
 -- LAWS, for the code's proofs and for those theorems
 pub mod Reports
 pub mod Reported
-pub mod Modules
 pub mod Units
 pub mod Answers
 pub mod Lengths

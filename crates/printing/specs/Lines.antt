@@ -1,36 +1,21 @@
 -- THE PRINTED LINES (docs/SPECIFICATION.md 8), of what becomes of a bundle. Assumes nothing.
-use Prim.Native.Nat.{ℕ, zero, suc}
+use Prim.Native.Nat.{ℕ}
 use mathlib.Core.Bool.{cond}
 use mathlib.Core.List.{List, [], _∷_, _++_, map}
-use lib.Dec.{eqb, leb}
+use lib.Dec.{leb}
 use lib.ListN.{length, getD}
 use Rattle.names.specs.Bytes.{ascii}
 use Rattle.names.specs.Decimal.{decimal}
-use Rattle.text.specs.Words.{Text, lines, no-line, spelled}
+use Rattle.text.specs.Words.{Text, lines, no-line}
 use Rattle.bundle.specs.Bundle.{Bundle}
 use Rattle.bundle.specs.Read.{Reading, value, refused, read}
 use Rattle.discovery.specs.Discovery.{Fault}
 use Rattle.order.specs.Run.{unitsOf}
 use Rattle.order.specs.Report.{ring-met}
 use Rattle.assembly.specs.Image.{itemsLength, image-limit, long-image}
-use Rattle.scope_tree.specs.Flat.{Entry, none}
+use Rattle.scope_tree.specs.Flat.{Entry}
+use Rattle.tree_lines.specs.Entries.{has-lines}
 use Rattle.linker.specs.Link.{Outcome, faulty, closed, ended, result, linkBundle}
-
--- the module of a scope among the entries l: `crate` and the modules around it, outermost first. The first number bounds how deep it lies
-unfoldable pub module-path : ℕ → List Entry → ℕ → Text
-module-path zero l s = ascii "crate"
-module-path (suc k) l zero = ascii "crate"
-module-path (suc k) l (suc i) = module-path k l (getD l i none .scope) ++ (ascii "::" ++ spelled (getD l i none .shows .name))
-
--- "`has` module, kind, name, mark reached"
-abbrev pub has-line : List Entry → Entry → List Text
-has-line l e =
-    ascii "has" ∷ module-path (length l) l (e .scope) ∷ decimal (e .shows .kind) ∷ spelled (e .shows .name) ∷ decimal (e .shows .mark) ∷ []
-
--- "entries in order made", "units not shown"
-unfoldable pub has-lines : List Entry → List Entry → List (List Text)
-has-lines l [] = []
-has-lines l (e ∷ es) = cond (eqb (e .scope) 0) (has-lines l es) (has-line l e ∷ has-lines l es)
 
 -- "`unit` id, path"
 abbrev pub unit-line : List Text → ℕ → List Text

@@ -35,7 +35,8 @@ use Rattle.assembly.specs.Image.{itemsLength, segmentsLength, elementsLength}
 use Rattle.scope_walk.specs.Scopes.{scopeCalls, walkFrom, scopeWalk}
 use Rattle.linker.specs.Link.{linkBundle}
 use Rattle.text.specs.Words.{line, lines, bytes-of, spelled}
-use Rattle.printing.specs.Lines.{module-path, has-lines, outcome-lines, reading-lines, printed}
+use Rattle.printing.specs.Lines.{outcome-lines, reading-lines, printed}
+use Rattle.tree_lines.specs.Entries.{module-path, has-lines}
 
 abbrev main-file : File
 main-file = record { path = ascii "/r/main.simf"; items = use-of 0 0 (ascii "crate" ∷ ascii "a" ∷ []) (record { name = ascii "f"; alias = [] } ∷ []) (item 2 0 0 (ascii "main") none) }

@@ -17,7 +17,7 @@ use Rattle.assembly.specs.Assemble.{fileOf}
 use Rattle.assembly.specs.Given.{OneUnit}
 use Rattle.assembly.specs.GivenLaws.{index-few, path-is}
 use Rattle.printing.specs.Lines.{unit-line}
-use Rattle.printing.specs.Reports.{lines-more}
+use Rattle.text.specs.LineLaws.{lines-more}
 
 -- a file's path, by its index
 abbrev pub PathOf : List ℕ → ℕ → List ℕ → ℕ → List ℕ → ℕ → Type 0

@@ -53,8 +53,10 @@ use Rattle.linker.specs.Link.{Outcome, faulty, closed, ended, result, linked, l
 use Rattle.linker.specs.Theorems.{linked-steps, faults-only, ring-only}
 use Rattle.linker.specs.Call.{recordsOf, answering, TreeWith, TreeAfter, linkAnswer, linkReport, LinkTree}
 use Rattle.text.specs.Words.{Text, lines, no-line}
-use Rattle.printing.specs.Lines.{unit-line, has-lines, linked-lines, fault-line, ring-lines, outcome-lines, reading-lines}
-use Rattle.printing.specs.Reports.{ReportAt, lines-append}
+use Rattle.printing.specs.Lines.{unit-line, linked-lines, fault-line, ring-lines, outcome-lines, reading-lines}
+use Rattle.tree_lines.specs.Entries.{has-lines}
+use Rattle.printing.specs.Reports.{ReportAt}
+use Rattle.text.specs.LineLaws.{lines-append}
 use Rattle.printing.specs.Reported.{Tellable, faults-length, faults-reported, ring-length, ring-reported}
 use Rattle.printing.specs.Room.{report-fits}
 use Rattle.printing.specs.Answers.{LinkedLines, Lined, AnswerLines}

@@ -3,9 +3,7 @@ ghost use Rattle.bundle.specs.Read.{read};
 ghost use Rattle.printing.specs.Lines.{reading-lines};
 ghost use Rattle.printing.specs.Answers.{Shows};
 
-mod read;
 mod report;
-mod tree;
 mod units;
 
 // Room for the longest report: 1,025 faults. The longest image. Room for the longest text.
@@ -26,10 +24,10 @@ pub fn tell(s: &[u8], out: &mut [u8]) -> usize
     let a = r.answer;
     if a.image != 0 {
         let to = units::put_units(out, 0, s, &a.files, &a.ids, a.units);
-        return tree::put_tree(out, to, r.tree);
+        return tree_lines::put_tree(out, to, r.tree);
     }
     if a.report != 0 {
         return report::put_report(out, 0, &report, a.report);
     }
-    text::put_no(out, 0, read::wide(a.number), a.place as u64)
+    text::put_no(out, 0, text::read::wide(a.number), a.place as u64)
 }

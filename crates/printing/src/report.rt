@@ -7,7 +7,7 @@ ghost use Rattle.discovery.specs.Discovery.{Fault};
 ghost use Rattle.text.specs.Words.{Text};
 ghost use Rattle.printing.specs.Lines.{fault-line, ring-lines};
 ghost use Rattle.printing.specs.Reports.{FaultsAt, RingAt, ids-after, ReportAt};
-use crate::read::byte;
+use text::read::byte;
 
 const RING: u64 = 26;
 

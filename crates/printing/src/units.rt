@@ -6,9 +6,9 @@ ghost use Rattle.order.specs.Run.{unitsOf};
 ghost use Rattle.assembly.specs.Given.{OneUnit};
 ghost use Rattle.printing.specs.Lines.{unit-line};
 ghost use Rattle.printing.specs.Units.{PathOf, UnitLines, OkLines};
-use crate::read::half;
-use crate::read::place;
 use bundle::limits::FILES;
+use text::read::half;
+use text::read::place;
 
 // The path of a file of the bundle.
 fn put_path(out: &mut [u8], at: usize, s: &[u8], f: usize) -> usize

@@ -6,13 +6,13 @@ ghost use Rattle.assembly.specs.Assemble.{assembled};
 ghost use Rattle.assembly.specs.Image.{imaging, lentImage};
 ghost use Rattle.assembly.specs.Given.{OrderGiven};
 use assembly::Imaged;
-use assembly::LIMIT;
-use assembly::program_length;
-use assembly::write_program;
 use bundle::limits::HEADER;
 use bundle::limits::VERSION;
 use encoder::put;
 use encoder::put_two;
+use items::LIMIT;
+use items::program_length;
+use items::write_program;
 
 // The specification's numbers.
 const SMALL_BUFFER: u8 = 14;

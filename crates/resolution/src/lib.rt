@@ -38,7 +38,7 @@ pub fn resolve(s: &[u8], importer: &[u8], u: &[u8]) -> Resolution
     ensures { λ r. ⌜ r ≡ Call·resolve (now (s .entry)) (now (importer .entry)) (now (u .entry)) ⌝ }
 {
     let mut card = [0u32; CARD];
-    let checked = card::read(s, &mut card);
+    let checked = reader::read(s, &mut card);
     match checked {
         bundle::Checked::Refused(n, p) => Resolution::Refused(n, p),
         bundle::Checked::Ok => {

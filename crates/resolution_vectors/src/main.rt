@@ -157,7 +157,7 @@ fn tell(s: &[u8], importer: &[u8], u: &[u8]) {
 }
 
 fn tell_bundle(s: &[u8]) {
-    let told = card::check(s);
+    let told = reader::check(s);
     match told {
         Checked::Ok => {
             io::write_all(STDOUT_FILENO, b"ok\n");

@@ -5,9 +5,8 @@ ghost use Prim.Native.Nat.{min, _+_, _*_, _<_, _≤_};
 ghost use lib.Dec.{eqb};
 ghost use lib.ListN.{getD};
 ghost use Rattle.names.specs.Packed.{packed};
-ghost use Rattle.names.specs.Keywords.{isMain};
 ghost use Rattle.scope_tree.specs.Step.{any-main};
-ghost use Rattle.scope_tree.specs.Form.{string, after-string, after-strings, after-element, after-elements, local-name, elements-from, string-fault, names-fault, elements-fault, rest-fault, use-fault};
+ghost use Rattle.scope_tree.specs.Form.{string, after-string, after-strings, after-elements, local-name, elements-from, string-fault, names-fault, elements-fault, rest-fault, use-fault};
 ghost use Rattle.scope_tree.specs.Forms.{Checked};
 use names::Name;
 

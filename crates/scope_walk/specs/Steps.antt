@@ -32,7 +32,7 @@ use Rattle.discovery.specs.Walk.{useAt}
 use Rattle.assembly.specs.Assemble.{fileOf, rewriteUse, rewriteItems}
 use Rattle.assembly.specs.Paths.{FormedPath}
 use Rattle.assembly.specs.Targets.{UnitOf}
-use Rattle.assembly.specs.UseRoom.{use-few}
+use Rattle.items.specs.UseRoom.{use-few}
 use Rattle.assembly.specs.Walk.{segmentsAt, useBytes, oneAt, kind-byte, kind-of, next-is}
 use Rattle.scope_walk.specs.Scopes.{Asked, asked, isPublic, scopeCalls, Walked, done, stopped, onwards, walkFrom}
 

@@ -90,7 +90,7 @@ fn put_call(
     ensures { λ r. ⌜ Put (now (s .entry)) id kind place r (now (out .exit)) ⌝ }
 {
     if kind == USE {
-        return assembly::rewrite_use(s, files, units, id, place, out);
+        return items::rewrite_use(s, files, units, id, place, out);
     }
     if kind == UNIT {
         return encoder::put_unit(out, id);

@@ -3,11 +3,9 @@
 // a 2-byte mark; after 6 a 2-byte length, the use's bytes and its visibility. What is missing counts as 0.
 ghost use mathlib.Core.Path.{_≡_};
 ghost use Prim.Native.Nat.{_+_, _*_, _<_, _≤_};
-ghost use mathlib.Core.Bool.{cond};
-ghost use mathlib.Core.List.{[], _∷_};
 ghost use lib.ListN.{length, getD};
 ghost use Rattle.scope_tree.specs.Views.{told};
-ghost use Rattle.scope_tree.specs.Trees.{packed-in, flat-of};
+ghost use Rattle.scope_tree.specs.Trees.{packed-in};
 ghost use Rattle.scopes_c.specs.Lists.{pair-at, part-of, is-declaring, is-call, order-at, after-order, shown, Turned, Tells, Called, left-tree, Walked, Replayed};
 ghost use Rattle.rows.specs.Written.{put-at};
 ghost use Rattle.rows.specs.TreeRows.{Listed};

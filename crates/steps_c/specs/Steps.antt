@@ -12,8 +12,8 @@ use borrow.Author.Tests.{eq-eqb, ne-eqb}
 use Rattle.bundle.specs.Read.{numberOf, verdict}
 use Rattle.bundle.specs.Limits.{file-limit}
 use Rattle.bundle.specs.Decode.{decode}
-use Rattle.discovery.specs.declared.Graph.{Graph}
-use Rattle.discovery.specs.Turns.{Discovers}
+use Rattle.driver.specs.declared.Graph.{Graph}
+use Rattle.driver.specs.Turns.{Discovers}
 use Rattle.order.specs.declared.Answer.{Answer}
 use Rattle.bundle.specs.declared.Checked.{Checked}
 use Rattle.bundle.specs.declared.Checked.the-variants.{Ok, Refused}

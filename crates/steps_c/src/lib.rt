@@ -134,14 +134,14 @@ pub extern "C" fn steps_discover(s: &[u8], out: &mut [usize]) -> u8
     ensures { λ r. ⌜ r ≡ numberOf (verdict (now (s .entry))) ⌝ }
     ensures { λ r. ⌜ GraphTold (now (s .entry)) (now (out .entry)) (now (out .exit)) ⌝ }
 {
-    let checked = card::check(s);
+    let checked = reader::check(s);
     match checked {
         bundle::Checked::Refused(n, p) => {
             tell(out, 0, p);
             n
         }
         bundle::Checked::Ok => {
-            let g = discovery::discover_dependencies(s);
+            let g = driver::discover_dependencies(s);
             tell(out, 0, g.units);
             tell_places(out, GRAPH_FILES, &g.files, g.units);
             tell_ids(out, GRAPH_STARTS, &g.start, g.units);

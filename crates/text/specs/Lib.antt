@@ -3,3 +3,4 @@ pub mod Words
 pub mod Writing
 -- LAWS for the code
 pub mod Spelling
+pub mod LineLaws

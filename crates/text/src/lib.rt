@@ -1,10 +1,11 @@
 // Text written into a lent buffer, as much of it as there is room for. Each function writes on from `at` and answers where its text
 // ends; what the buffer then holds is the definition's (specs/Writing.antt).
+pub mod read;
+
 ghost use Rattle.names.specs.Decimal.{decimal};
 ghost use Rattle.text.specs.Writing.{Put};
 ghost use Rattle.text.specs.Words.{line, no-line, bytes-of, spelled};
-ghost use mathlib.Core.List.{List, [], _∷_};
-ghost use Prim.Native.Nat.{_≤_};
+ghost use mathlib.Core.List.{[], _∷_};
 
 // One byte.
 pub fn put(out: &mut [u8], at: usize, b: u8) -> usize

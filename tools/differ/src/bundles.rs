@@ -1,4 +1,4 @@
-//! `card::check` against the reader of tools/format.
+//! `reader::check` against the reader of tools/format.
 
 use std::collections::BTreeMap;
 

@@ -12,7 +12,7 @@ use Rattle.bundle.specs.Stand.{Bytes}
 use Rattle.bundle.specs.Read.{verdict}
 use Rattle.bundle.specs.declared.Checked.the-variants.{Ok}
 use Rattle.order.specs.Join.{turned-back, ready, answered}
-use Rattle.discovery.specs.Complete.{carries-all, carries-none}
+use Rattle.driver.specs.Complete.{carries-all, carries-none}
 
 read-requires : tie.Need-read-requires
 read-requires c κs = length-replicate {A = ℕ} card-size 0

@@ -9,7 +9,7 @@ use Rattle.printing.proofs.report.put_faults.Statement.{statement}
 use Rattle.printing.proofs.report.put_faults.Tie as tie
 use Rattle.printing.proofs.report.put_faults.Reads as reads
 use Rattle.printing.proofs.report.put_faults.Lts as lts
-use Rattle.printing.proofs.read.byte.Reads as byte-reads
+use Rattle.text.proofs.read.byte.Reads as byte-reads
 use Rattle.text.proofs.put_no.Reads as put-no-reads
 
 abbrev Inv-loop : tie.InvT-loop

@@ -9,7 +9,7 @@ use Rattle.printing.proofs.report.put_ids.Statement.{statement}
 use Rattle.printing.proofs.report.put_ids.Tie as tie
 use Rattle.printing.proofs.report.put_ids.Reads as reads
 use Rattle.printing.proofs.report.put_ids.Lts as lts
-use Rattle.printing.proofs.read.byte.Reads as byte-reads
+use Rattle.text.proofs.read.byte.Reads as byte-reads
 use Rattle.text.proofs.put.Reads as put-reads
 use Rattle.text.proofs.put_decimal.Reads as put-decimal-reads
 

@@ -7,7 +7,7 @@ use Rattle.printing.proofs.report.put_report.Statement.{statement}
 use Rattle.printing.proofs.report.put_report.Tie as tie
 use Rattle.printing.proofs.report.put_report.Reads as reads
 use Rattle.printing.proofs.report.put_report.Lts as lts
-use Rattle.printing.proofs.read.byte.Reads as byte-reads
+use Rattle.text.proofs.read.byte.Reads as byte-reads
 use Rattle.printing.proofs.report.put_faults.Reads as put-faults-reads
 use Rattle.printing.proofs.report.put_ring.Reads as put-ring-reads
 

@@ -9,7 +9,7 @@ use Rattle.printing.proofs.units.put_list.Statement.{statement}
 use Rattle.printing.proofs.units.put_list.Tie as tie
 use Rattle.printing.proofs.units.put_list.Reads as reads
 use Rattle.printing.proofs.units.put_list.Lts as lts
-use Rattle.printing.proofs.read.half.Reads as half-reads
+use Rattle.text.proofs.read.half.Reads as half-reads
 use Rattle.printing.proofs.units.put_unit.Reads as put-unit-reads
 
 abbrev Inv-loop : tie.InvT-loop

@@ -6,7 +6,7 @@ use Rattle.printing.proofs.units.put_unit.Statement.{statement}
 use Rattle.printing.proofs.units.put_unit.Tie as tie
 use Rattle.printing.proofs.units.put_unit.Reads as reads
 use Rattle.printing.proofs.units.put_unit.Lts as lts
-use Rattle.printing.proofs.read.place.Reads as place-reads
+use Rattle.text.proofs.read.place.Reads as place-reads
 use Rattle.printing.proofs.units.put_path.Reads as put-path-reads
 use Rattle.text.proofs.put.Reads as put-reads
 use Rattle.text.proofs.put_bytes.Reads as put-bytes-reads

@@ -6,7 +6,7 @@ use Rattle.bundle.specs.Encode.{string}
 use Rattle.assembly.specs.Assemble.{fileOf}
 use Rattle.assembly.specs.GivenLaws.{few-units, unit-of}
 use Rattle.encoder.specs.Parts.{started-length}
-use Rattle.assembly.specs.UseRoom.{unit-few}
+use Rattle.items.specs.UseRoom.{unit-few}
 use Rattle.assembly.specs.Walk.{useBytes}
 use Rattle.scope_walk.specs.Steps.{taken-start, taken-string}
 use borrow.Author.Needs.{needs}
