@@ -21,7 +21,7 @@ use Rattle.discovery.specs.Room.{checked-roomy}
 use Rattle.discovery.specs.Weight.{reached-file, sumOf, totalOf, weigh-of}
 use Rattle.order.specs.Run.{filesOf}
 use Rattle.order.specs.Theorems.{first-half}
-use Rattle.order.specs.Writing.{started}
+use Rattle.encoder.specs.Started.{started}
 use Rattle.assembly.specs.Assemble.{enum-kind, itemsOf, enumDeclarations, foreignEnum, hasMain, noMain, assemblyFaults}
 use Rattle.assembly.specs.Faults.{zero-last, once-last, enumsOf, mainFault, faults-are}
 use Rattle.assembly.specs.Given.{OrderGiven, PlacedUnit}

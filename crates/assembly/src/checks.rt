@@ -4,7 +4,7 @@ ghost use Prim.Native.Nat.{_-_, _≤_};
 ghost use lib.ListN.{length, take};
 ghost use Rattle.bundle.specs.Decode.{decode};
 ghost use Rattle.order.specs.Report.{lentReport, reporting};
-ghost use Rattle.order.specs.Writing.{started};
+ghost use Rattle.encoder.specs.Started.{started};
 ghost use Rattle.assembly.specs.Assemble.{itemsOf, enumDeclarations, hasMain};
 ghost use Rattle.assembly.specs.Call.{faultsTold};
 ghost use Rattle.assembly.specs.Faults.{enumsOf};

@@ -4,7 +4,7 @@ ghost use Prim.Native.Nat.{ℕ, _<_, _≤_, _^_};
 ghost use lib.ListN.{length};
 ghost use Rattle.bundle.specs.Decode.{itemsAt};
 ghost use Rattle.discovery.specs.Walk.{Small};
-ghost use Rattle.order.specs.Writing.{started};
+ghost use Rattle.encoder.specs.Started.{started};
 ghost use Rattle.assembly.specs.Assemble.{hasMain};
 ghost use Rattle.assembly.specs.Walk.{itemEnums, itemsEnums, mainAt};
 use bundle::limits::MODULE;

@@ -1,3 +1,4 @@
 -- definitions
+pub mod Started
 pub mod Parts
 pub mod Strings

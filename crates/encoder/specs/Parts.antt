@@ -7,7 +7,7 @@ use mathlib.Core.List.{List, [], _∷_, _++_, append-assoc, append-nil}
 use lib.ListN.{length, set, take, drop, length-append, length-drop}
 use lib.Seq.{take-at, drop-at, drop-drop, drop-length, take-all, length-take-le}
 use borrow.Rule.Slice.PartMut.{midOf, putMid, post-is}
-use Rattle.order.specs.Writing.{started, put-one}
+use Rattle.encoder.specs.Started.{started, put-one}
 
 pub started-length : (w out : List ℕ) → length w ≤ length out → length (started w out) ≡ length out
 started-length w out h = omega (arith, length-append w (drop (length w) out), length-drop (length w) out)

@@ -15,7 +15,7 @@ use Rattle.bundle.specs.Encode.{string, joined, element}
 use Rattle.bundle.specs.Scan.{byte, text}
 use Rattle.bundle.specs.Stand.{Bytes}
 use Rattle.bundle.specs.Decode.{each, far, after, afterElement, elementAt}
-use Rattle.order.specs.Writing.{started, put-one}
+use Rattle.encoder.specs.Started.{started, put-one}
 
 abbrev pub stringsAt : List ℕ → ℕ → ℕ → List Text
 stringsAt s n first = each (after s) (text s) n first

@@ -7,7 +7,7 @@ ghost use Rattle.bundle.specs.Limits.{capacity, string-size};
 ghost use Rattle.bundle.specs.declared.Width.the-variants.{Byte, Word};
 ghost use Rattle.bundle.specs.Encode.{string};
 ghost use Rattle.bundle.specs.Decode.{after, far};
-ghost use Rattle.order.specs.Writing.{started};
+ghost use Rattle.encoder.specs.Started.{started};
 ghost use Rattle.encoder.specs.Parts.{headBytes};
 ghost use Rattle.encoder.specs.Strings.{stringBytes};
 

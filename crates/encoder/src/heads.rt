@@ -7,7 +7,7 @@ ghost use Rattle.names.specs.Decimal.{unitName};
 ghost use Rattle.bundle.specs.Encode.{string};
 ghost use Rattle.bundle.specs.Limits.{capacity, module-kind};
 ghost use Rattle.bundle.specs.declared.Width.the-variants.{Byte};
-ghost use Rattle.order.specs.Writing.{started};
+ghost use Rattle.encoder.specs.Started.{started};
 use crate::bytes::put;
 use crate::bytes::put_string;
 use bundle::limits::MODULE;

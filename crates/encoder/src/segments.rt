@@ -6,7 +6,7 @@ ghost use lib.ListN.{length};
 ghost use Rattle.names.specs.Bytes.{ascii};
 ghost use Rattle.names.specs.Decimal.{unitName};
 ghost use Rattle.bundle.specs.Encode.{string};
-ghost use Rattle.order.specs.Writing.{started};
+ghost use Rattle.encoder.specs.Started.{started};
 ghost use Rattle.encoder.specs.Strings.{stringBytes};
 use crate::bytes::put_string;
 use crate::bytes::put_strings;

@@ -9,7 +9,7 @@ use borrow.Author.Tests.{le-leb}
 use borrow.Rule.Slice.PartMut.{midOf, putMid}
 use Rattle.bundle.specs.Bundle.{Items, Bundle}
 use Rattle.bundle.specs.Encode.{two, sized, items}
-use Rattle.order.specs.Writing.{started}
+use Rattle.encoder.specs.Started.{started}
 use Rattle.assembly.specs.Assemble.{assembled}
 use Rattle.assembly.specs.Image.{image-limit, length-cap, small-buffer, long-image, imageBytes, itemsLength, imageLength, imaging, lentImage, items-length, small, long}
 use Rattle.encoder.specs.Parts.{started-length, then-filled, kept-start, headed, set-three}

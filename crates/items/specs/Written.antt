@@ -8,7 +8,7 @@ use lib.ListN.{length, set, take, length-append}
 use lib.Seq.{length-take-le}
 use borrow.Rule.Slice.PartMut.{midOf, putMid}
 use Rattle.bundle.specs.Encode.{string}
-use Rattle.order.specs.Writing.{started}
+use Rattle.encoder.specs.Started.{started}
 use Rattle.encoder.specs.Parts.{headBytes, put-length, started-length, Front, front-long, front-start, front-room, front-all}
 use Rattle.assembly.specs.Image.{length-cap}
 

@@ -8,7 +8,7 @@ ghost use Rattle.bundle.specs.Limits.{segment-limit, use-kind};
 ghost use Rattle.bundle.specs.Scan.{byte};
 ghost use Rattle.bundle.specs.Decode.{itemsAt, decode};
 ghost use Rattle.discovery.specs.Walk.{UseMark, Small};
-ghost use Rattle.order.specs.Writing.{started};
+ghost use Rattle.encoder.specs.Started.{started};
 ghost use Rattle.assembly.specs.Assemble.{fileOf};
 ghost use Rattle.assembly.specs.Image.{length-cap};
 ghost use Rattle.assembly.specs.Given.{UnitsGiven, OrderGiven, unitBytes, programBytes};

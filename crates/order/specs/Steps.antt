@@ -18,7 +18,8 @@ use Rattle.graph.specs.Given.{depsOf, refusal, numbered, linearizeGiven}
 use Rattle.graph.specs.GivenFacts.{sound-of, given-accepted}
 use Rattle.order.specs.Run.{Outcome, faulty, closed, step4, outcome}
 use Rattle.order.specs.Report.{recordsOf, lentReport, reporting, nothing-lent}
-use Rattle.order.specs.Writing.{faultRecords, ringRecords, put-one}
+use Rattle.order.specs.Writing.{faultRecords, ringRecords}
+use Rattle.encoder.specs.Started.{put-one}
 use Rattle.order.specs.Call.{cleared, reportedTo, linking, answering}
 use Rattle.order.specs.declared.Reported.{Reported}
 use Rattle.order.specs.declared.Answer.{Answer}

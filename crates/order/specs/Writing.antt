@@ -9,6 +9,7 @@ use lib.ListN.{length, getD, set, take, drop, length-append, length-map, length-
 use lib.Seq.{set-at, drop-cons, take-suc, append-snoc, length-take-le, drop-drop}
 use borrow.Author.Tests.{le-leb, lt-leb}
 use Rattle.bundle.specs.Encode.{joined}
+use Rattle.encoder.specs.Started.{put-one}
 use Rattle.driver.specs.Meaning.{faultsIn}
 use Rattle.order.specs.Report.{Record, fault, ring, ring-met, low, placeBytes, recordBytes, reportBytes, recordLength, reportLength, report-length, lentReport, reporting, small-buffer}
 use Rattle.order.specs.declared.Reported.the-variants as reported
@@ -29,17 +30,6 @@ pub written-is : (o o₁ o₂ o₃ : List ℕ) (at number place a b : ℕ) → o
 written-is o o₁ o₂ o₃ at number place a b e₁ ea e₂ eb e₃ = rw (e₃, eb, e₂, ea, e₁)
 
 -- STORES ONE AFTER THE OTHER
--- w, and behind it what the buffer o held
-abbrev pub started : List ℕ → List ℕ → List ℕ
-started w o = w ++ drop (length w) o
-
-module _ (w o : List ℕ) (at : ℕ) (is : length w ≡ at) where
-  pub put-one : (v : ℕ) → at < length o → set (w ++ drop at o) at v ≡ (w ++ (v ∷ [])) ++ drop (at + 1) o
-  put-one v h =
-      ap (λ (r : List ℕ). set (w ++ r) at v) (drop-cons o at 0 h)
-      ∙ (set-at w (getD o at 0) (drop (suc at) o) v at is
-      ∙ (sym (append-snoc w v (drop (suc at) o)) ∙ ap (λ (n : ℕ). (w ++ (v ∷ [])) ++ drop n o) (sym (add-one at))))
-
 pub put-three : (w o : List ℕ) (at a b c : ℕ) → length w ≡ at → at + 3 ≤ length o
     → set (set (set (w ++ drop at o) at a) (at + 1) b) (at + 2) c ≡ (w ++ (a ∷ b ∷ c ∷ [])) ++ drop (at + 3) o
 put-three w o at a b c is h =

@@ -15,7 +15,7 @@ use Rattle.bundle.specs.Encode.{string}
 use Rattle.bundle.specs.Scan.{byte, text}
 use Rattle.bundle.specs.Decode.{after, afterLength, itemAt, itemsAt, decode}
 use Rattle.bundle.specs.Access.{insideOf, items-end, items-step, item-module, item-use, item-ignored, item-named, by-kind, kindOf, restOf, innerOf, visibilityOf, first-inner, first-visibility}
-use Rattle.order.specs.Writing.{started}
+use Rattle.encoder.specs.Started.{started}
 use Rattle.scope_tree.specs.Form.{Request, enters, exits, resolves-use, call-of}
 use Rattle.scopes.specs.Meets.{Meets, number-of, request, declares, left}
 use Rattle.scope_tree.specs.Note.{accepted}

@@ -7,7 +7,7 @@ use denote.Ref.{now}
 use borrow.Rule.Slice.PartMut.{midOf}
 use borrow.Author.Needs.{needs}
 use Rattle.bundle.specs.Decode.{decode}
-use Rattle.order.specs.Writing.{started}
+use Rattle.encoder.specs.Started.{started}
 use Rattle.assembly.specs.EnumRoom.{enums-step, enums-end}
 use Rattle.assembly.specs.Given.{PlacedUnit}
 use Rattle.assembly.specs.GivenLaws.{placed-unit, below}

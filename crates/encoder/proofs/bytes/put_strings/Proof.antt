@@ -10,7 +10,7 @@ use borrow.Author.Needs.{needs}
 use Rattle.bundle.specs.Decode.{after}
 use Rattle.bundle.specs.Scan.{text}
 use Rattle.bundle.specs.Encode.{string}
-use Rattle.order.specs.Writing.{started}
+use Rattle.encoder.specs.Started.{started}
 use Rattle.encoder.specs.Strings.{stringBytes, strings-step, strings-done, string-length, text-short}
 use Rattle.encoder.specs.Parts.{Filled, lent-length, filled-none, filled-length, filled-start, filled-room, filled-more, filled-all}
 use Rattle.encoder.proofs.bytes.put_strings.Statement.{statement}

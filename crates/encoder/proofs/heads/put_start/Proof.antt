@@ -7,7 +7,7 @@ use lib.ListN.{length, take, length-append}
 use denote.Ref.{now}
 use borrow.Author.Needs.{needs}
 use Rattle.bundle.specs.Encode.{string}
-use Rattle.order.specs.Writing.{started}
+use Rattle.encoder.specs.Started.{started}
 use Rattle.encoder.specs.Parts.{Front, front-room, front-done, start-four, put-kind}
 use Rattle.encoder.specs.Strings.{string-length}
 use Rattle.encoder.proofs.heads.put_start.Statement.{statement}

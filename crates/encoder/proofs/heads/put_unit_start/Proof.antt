@@ -8,7 +8,7 @@ use lib.ListN.{length, take}
 use denote.Ref.{now}
 use borrow.Author.Needs.{needs}
 use Rattle.bundle.specs.Encode.{string}
-use Rattle.order.specs.Writing.{started}
+use Rattle.encoder.specs.Started.{started}
 use Rattle.encoder.proofs.heads.put_unit_start.Statement.{statement}
 use Rattle.encoder.proofs.heads.put_unit_start.Tie as tie
 

@@ -8,7 +8,7 @@ use denote.Ref.{now}
 use borrow.Author.Needs.{needs}
 use Rattle.names.specs.Bytes.{ascii}
 use Rattle.bundle.specs.Encode.{string}
-use Rattle.order.specs.Writing.{started}
+use Rattle.encoder.specs.Started.{started}
 use Rattle.encoder.specs.Strings.{crate-length}
 use Rattle.encoder.proofs.segments.put_crate.Statement.{statement}
 use Rattle.encoder.proofs.segments.put_crate.Tie as tie

@@ -8,7 +8,7 @@ use lib.ListN.{length}
 use denote.Ref.{now}
 use borrow.Author.Needs.{needs}
 use Rattle.bundle.specs.Encode.{string}
-use Rattle.order.specs.Writing.{started}
+use Rattle.encoder.specs.Started.{started}
 use Rattle.encoder.specs.Strings.{name-length}
 use Rattle.encoder.proofs.segments.put_unit.Statement.{statement}
 use Rattle.encoder.proofs.segments.put_unit.Tie as tie

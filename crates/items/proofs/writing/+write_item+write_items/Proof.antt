@@ -19,7 +19,7 @@ use Rattle.bundle.proofs.item_visibility.Reads as item-visibility-reads
 use Rattle.bundle.proofs.module_items.Reads as module-items-reads
 use Rattle.bundle.proofs.next_item.Reads as next-item-reads
 use Rattle.discovery.specs.Walk.{use-mark}
-use Rattle.order.specs.Writing.{started}
+use Rattle.encoder.specs.Started.{started}
 use Rattle.assembly.specs.Assemble.{fileOf}
 use Rattle.items.specs.Written.{Begun, Inside, by-name, by-name-inside, leaf-length, leaf-done, inside-start, inside-room, inside-short, inside-length, inside-done}
 use Rattle.encoder.specs.Strings.{text-short}

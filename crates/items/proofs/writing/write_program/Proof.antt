@@ -7,7 +7,7 @@ use denote.Ref.{now}
 use borrow.Rule.Slice.PartMut.{midOf}
 use borrow.Author.Needs.{needs}
 use Rattle.bundle.specs.Decode.{decode}
-use Rattle.order.specs.Writing.{started}
+use Rattle.encoder.specs.Started.{started}
 use Rattle.assembly.specs.Image.{length-cap}
 use Rattle.assembly.specs.Given.{programBytes, unitBytes}
 use Rattle.assembly.specs.GivenLaws.{below, order-step, order-end}

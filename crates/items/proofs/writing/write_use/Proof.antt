@@ -7,7 +7,7 @@ use lib.Seq.{length-take-le}
 use lib.ListN.{length, take, length-append}
 use denote.Ref.{now}
 use borrow.Author.Needs.{needs}
-use Rattle.order.specs.Writing.{started}
+use Rattle.encoder.specs.Started.{started}
 use Rattle.encoder.specs.Parts.{started-length, put-whole, headBytes, kept-start, then-filled}
 use Rattle.bundle.specs.Decode.{decode}
 use Rattle.assembly.specs.Assemble.{fileOf}
