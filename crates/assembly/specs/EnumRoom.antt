@@ -8,7 +8,7 @@ use mathlib.Core.List.{List, [], _∷_, _++_, map, append-nil}
 use lib.Dec.{eqb}
 use lib.ListN.{length, getD, take, drop, set, replicate, length-append, length-replicate}
 use lib.Seq.{length-take-le, drop-cons, getD-take, take-at, take-suc-set}
-use Rattle.bundle.specs.Bundle.{Text, Items, none, named, use-of, module-of, ignored, File, Bundle}
+use Rattle.bundle.specs.Bundle.{Items, none, named, use-of, module-of, ignored, File, Bundle}
 use Rattle.bundle.specs.Form.{itemCount, fileItems}
 use Rattle.bundle.specs.Limits.{item-limit}
 use Rattle.bundle.specs.Stand.{Bytes}

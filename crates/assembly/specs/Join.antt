@@ -1,5 +1,5 @@
 -- From the answer of steps 3 and 4 to that of the operation. Assumes nothing.
-use Prim.Native.Nat.{ℕ, zero, suc, _≤_, _<_}
+use Prim.Native.Nat.{ℕ, _≤_, _<_}
 use native.Mathlib.Omega.{arith}
 use mathlib.Core.Path.{_≡_, refl, sym, ap, subst, _∙_}
 use mathlib.Core.Bool.{true, false}
@@ -15,7 +15,6 @@ use Rattle.bundle.specs.declared.Checked.{Checked}
 use Rattle.bundle.specs.declared.Checked.the-variants.{Ok, Refused}
 use Rattle.resolution.specs.Call.{position}
 use Rattle.discovery.specs.Discovery.{Fault, pathsOf}
-use Rattle.driver.specs.Meaning.{faultsIn}
 use Rattle.discovery.specs.Room.{checked-roomy}
 pub use Rattle.driver.specs.Meaning.{faults-counted}
 use Rattle.order.specs.Run.{linked, ordered, unitsOf}
@@ -27,7 +26,7 @@ use Rattle.order.specs.Theorems.{first-half, order-count}
 use Rattle.order.specs.declared.Answer.{Answer}
 use Rattle.order.specs.declared.Reported.{Reported}
 use Rattle.order.specs.Carried.{order-read, not-refused, units-only, carried}
-use Rattle.assembly.specs.Assemble.{Outcome, faulty, closed, program, assembled, assemblyFaults, step5, assembleAfter, linearizeAndAssemble}
+use Rattle.assembly.specs.Assemble.{Outcome, faulty, program, assembled, assemblyFaults, step5, assembleAfter, linearizeAndAssemble}
 use Rattle.assembly.specs.Image.{imaging, lentImage}
 use Rattle.assembly.specs.Call.{faultsTold, recordsOf, reportedTo, imagedTo, withImage, answering, imageAfter, assembleAnswer, assembleReport, assembleImage}
 use Rattle.assembly.specs.Given.{OrderedFilesGiven}

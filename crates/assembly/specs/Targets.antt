@@ -12,7 +12,7 @@ use Rattle.names.specs.Decimal.{unitName}
 use Rattle.bundle.specs.Bundle.{Text, Bundle}
 use Rattle.bundle.specs.Limits.{file-limit, use-limit}
 use Rattle.bundle.specs.Decode.{decode}
-use Rattle.resolution.specs.Lists.{Lists, listsOf}
+use Rattle.resolution.specs.Lists.{listsOf}
 use Rattle.resolution.specs.Resolution.{Resolved, to, fails, resolvePathInternal}
 use Rattle.resolution.specs.Call.{answer, position}
 use Rattle.resolution.specs.declared.Resolution.{Resolution}

@@ -3,10 +3,10 @@ use Prim.Native.Nat.{ℕ, zero, suc, _+_, _-_, _≤_, _<_}
 use native.Mathlib.Omega.{arith}
 use mathlib.Core.Bool.{Bool, true, false}
 use mathlib.Core.Path.{_≡_, refl, sym, _∙_}
-use mathlib.Core.List.{List, []}
+use mathlib.Core.List.{List}
 use lib.Dec.{eqb}
 use borrow.Author.Tests.{lt-ltb, le-ltb, eqb-true, eqb-false, eq-eqb, ne-eqb}
-use Rattle.bundle.specs.Bundle.{Text, Element, Head, Items, none, named, use-of, module-of, ignored}
+use Rattle.bundle.specs.Bundle.{Head, Items, none, named, use-of, module-of, ignored}
 use Rattle.bundle.specs.Limits.{use-kind, module-kind, ignored-kind}
 use Rattle.bundle.specs.Scan.{byte, text}
 unfoldable pub use Rattle.bundle.specs.Parts.{headOf, kindOf, markOf, visibilityOf, nameOf, segmentsOf, elementsOf, innerOf, restOf}

@@ -11,7 +11,7 @@ use Rattle.bundle.specs.Bundle.{File, Bundle}
 use Rattle.bundle.specs.Limits.{defined, header, width, folder-width, file-width, most-folders, remapping-limit, most-files, item-limit, most-uses, depth-limit}
 use Rattle.bundle.specs.Encode.{two, string, joined, sized, items, remapping, file, fields, encode}
 use Rattle.bundle.specs.Encode.{counted as byte-list, countedBy as count-list}
-use Rattle.bundle.specs.Scan.{byte, word, text, versionOf, pastCount, scanPath, scanField, scanList, scanLength, scanEnd, scanFile, scanFiles, scanHeader}
+use Rattle.bundle.specs.Scan.{word, text, versionOf, pastCount, scanPath, scanField, scanList, scanLength, scanEnd, scanFile, scanFiles, scanHeader}
 use Rattle.bundle.specs.Decode.{each, after, afterRemapping, afterLength, afterFile, remappingAt, fileAt, decode}
 use Rattle.bundle.specs.Form.{Every, IsPath, FormedRemapping, FormedFile, Marked, MarkedFiles, itemCount, useCount, fileItems, fileUses, InForm}
 use Rattle.bundle.specs.Stand.{at-byte, at-append, sized-length}

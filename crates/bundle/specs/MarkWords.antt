@@ -3,7 +3,7 @@ use Prim.Native.Nat.{ℕ}
 use mathlib.Core.Path.{_≡_}
 use mathlib.Core.List.{List, [], _∷_, _++_}
 use lib.ListN.{drop}
-use Rattle.bundle.specs.Bundle.{Text, Items, none, named, use-of, module-of, ignored, File}
+use Rattle.bundle.specs.Bundle.{Items, none, named, use-of, module-of, ignored, File}
 use Rattle.bundle.specs.Limits.{use-kind, module-kind, ignored-kind}
 use Rattle.bundle.specs.Encode.{string, sized, element, encodeHead, items}
 use Rattle.bundle.specs.Encode.{counted as count-list}

@@ -7,7 +7,7 @@ use mathlib.Core.Path.{_≡_, refl}
 use mathlib.Core.List.{List, [], _∷_, _++_}
 use lib.Dec.{eqb, ltb, leb}
 use lib.ListN.{length}
-use borrow.Author.Tests.{ltb-true, ltb-false, leb-true, eqb-true}
+use borrow.Author.Tests.{ltb-true, ltb-false, leb-true}
 use Rattle.names.specs.Bytes.{member, and-left}
 use Rattle.names.specs.Path.{isPath}
 use Rattle.names.specs.Prefix.{directlyIn}
@@ -20,7 +20,7 @@ use Rattle.bundle.specs.Conflicts.{Placed, PlacedRemapping, orElse, any,
 use Rattle.bundle.specs.Conflicts.{named as nameTold}
 use Rattle.bundle.specs.Read.{afterWalk, files, lists, form, verdict}
 use Rattle.bundle.specs.Read.{after as thenOk}
-use Rattle.bundle.specs.Steps.{some-bytes, string-next, length-next, mark-next, Head, head-next}
+use Rattle.bundle.specs.Steps.{some-bytes, string-next, length-next, mark-next, head-next}
 use Rattle.bundle.specs.Answers.{cond-elim}
 use Rattle.bundle.specs.declared.Width.{Width}
 use Rattle.bundle.specs.declared.Width.the-variants.{Byte}

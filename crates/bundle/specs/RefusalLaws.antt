@@ -1,5 +1,5 @@
 -- Laws behind the theorems of refusals: each test of 7 to 13, and the words that it stands for. Assumes nothing.
-use Prim.Native.Nat.{ℕ, zero, suc, _+_, _≤_, _<_, suc-le-suc}
+use Prim.Native.Nat.{ℕ, zero, suc, _+_, _<_, suc-le-suc}
 use native.Mathlib.Nat.{not-suc-le-zero, le-of-suc-le-suc}
 use native.Mathlib.Omega.{arith}
 use mathlib.Core.Bool.{Bool, true, false, cond, _&&_, not}
@@ -11,7 +11,7 @@ use lib.ListN.{length, getD, take, drop, drop-of-length-le}
 use lib.Seq.{take-nil}
 use borrow.Author.Tests.{ltb-true, ltb-false}
 use Rattle.names.specs.Bytes.{ascii, same, member, all, false-true, and-left, and-right, not-true, same-eq, equal-same}
-use Rattle.names.specs.Path.{root, isPath, components, split, wellFormed, isComponent}
+use Rattle.names.specs.Path.{root, isPath, components, wellFormed}
 use Rattle.names.specs.PathTheorems.{form as path-form}
 use Rattle.names.specs.Prefix.{directlyIn, parent}
 use Rattle.names.specs.FolderTheorems.{directly-in-parent, parent-directly-in}
@@ -26,10 +26,10 @@ use Rattle.bundle.specs.Conflicts.{named as nameTold}
 use Rattle.bundle.specs.ListLaws.{texts-each, each-at, each-length}
 use Rattle.bundle.specs.Form.{InForm, IsPath, FormedFile, FormedRemapping}
 use Rattle.bundle.specs.Free.{texts-append, paths-each}
-use Rattle.bundle.specs.Answers.{refused-ok, refused-number, refused-place, both-ok}
+use Rattle.bundle.specs.Answers.{refused-ok, refused-number, refused-place}
 use Rattle.bundle.specs.Members.{member-true, mem-member, member-false, not-member, any-true, mem-any, every-mem, mem-getD, mem-map}
 use Rattle.bundle.specs.First.{firstTold}
-use Rattle.bundle.specs.Refusals.{IsFolder, IsFile, paths, none, pathAt, ListedBefore, as-root, as-earlier, HasParent, GoodPath, remappingOf, Repeated, Reserved, OddName, GoodRemapping, Misplaced, nowhere, a-file}
+use Rattle.bundle.specs.Refusals.{IsFolder, paths, none, pathAt, ListedBefore, as-root, as-earlier, remappingOf, Repeated, Reserved, OddName, Misplaced, nowhere, a-file}
 use Rattle.bundle.specs.Refusals as words
 use Rattle.bundle.specs.declared.Checked.{Checked}
 use Rattle.bundle.specs.declared.Checked.the-variants.{Ok, Refused}

@@ -1,7 +1,7 @@
 -- THE REFUSALS SAID A SECOND WAY, of any bytes and without the scan: where the place lies; 1 to 6 exactly where the bytes are
 -- not in form; 7 to 13 exactly as the words of Refusals say, first and first; accepted exactly where there is none of these.
 -- Assumes nothing.
-use Prim.Native.Nat.{ℕ, _+_, _≤_, _<_}
+use Prim.Native.Nat.{ℕ, _≤_, _<_}
 use native.Mathlib.Omega.{arith}
 use mathlib.Core.Bool.{true, false}
 use mathlib.Core.Path.{_≡_, refl, sym, ap, subst, _∙_}

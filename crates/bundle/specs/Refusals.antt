@@ -1,7 +1,7 @@
 -- THE WORDS OF THE REFUSALS 7 to 13, without the scan: bytes in form, the first listed path that is not good, the first
 -- remapping that is not good and the first of its tests that fails. Assumes nothing.
 use Prim.Native.Nat.{ℕ, _<_}
-use mathlib.Core.Bool.{true, false}
+use mathlib.Core.Bool.{false}
 use mathlib.Core.Path.{_≡_}
 use mathlib.Core.List.{List, [], _++_, List·Memᴰ}
 use lib.ListN.{length, getD}

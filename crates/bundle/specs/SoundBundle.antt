@@ -1,10 +1,10 @@
 -- A bundle that is not refused by 1 to 6 is what the encoder writes of its value, and the value is in form. Assumes nothing.
-use Prim.Native.Nat.{ℕ, zero, suc, _+_, _-_, _≤_, _<_}
+use Prim.Native.Nat.{ℕ, zero, suc, _+_, _-_, _≤_}
 use native.Mathlib.Omega.{arith}
 use mathlib.Core.Bool.{Bool, true, false, cond}
 use mathlib.Core.Path.{_≡_, refl, sym, ap, subst, _∙_}
 use mathlib.Core.List.{List, [], _∷_, _++_, append-nil}
-use lib.Dec.{eqb, ltb}
+use lib.Dec.{ltb}
 use lib.ListN.{length}
 use lib.Seq.{drop-length}
 use borrow.Author.Tests.{ltb-false}
@@ -14,7 +14,7 @@ use Rattle.bundle.specs.Encode.{string, count-bytes, joined, sized, item
 use Rattle.bundle.specs.Encode.{counted as byte-list, countedBy as count-list}
 use Rattle.bundle.specs.Scan.{byte, word, text, versionOf, count, pastCount, times, scanString, scanPath, scanField, scanCount, scanList, scanLength, scanEnd, scanFile, scanFiles, scanHeader}
 use Rattle.bundle.specs.Decode.{each, far, countedBy, counted, after, afterRemapping, afterLength, afterFile, afterListBy, afterList, remappingAt, fileAt, itemsAt, foldersAt, remappingsAt, filesAt, decode}
-use Rattle.bundle.specs.Conflicts.{orElse, conflicts}
+use Rattle.bundle.specs.Conflicts.{conflicts}
 use Rattle.bundle.specs.Steps.{string-next, formed-next, length-next, count-next, end-next, read-then, walked-on, walked-then}
 use Rattle.bundle.specs.Walks.{file-goes}
 use Rattle.bundle.specs.Form.{Every, IsPath, FormedRemapping, FormedFile, Marked, MarkedFiles, itemCount, useCount, fileItems, fileUses, InForm}
@@ -33,7 +33,7 @@ use Rattle.bundle.specs.declared.Walk.the-variants.{Past, Fault}
 use Rattle.bundle.specs.declared.Field.{Field}
 use Rattle.bundle.specs.declared.Field.the-variants.{Path, Remapping as RemappingField}
 use Rattle.bundle.specs.declared.Checked.{Checked}
-use Rattle.bundle.specs.declared.Checked.the-variants.{Ok, Refused}
+use Rattle.bundle.specs.declared.Checked.the-variants.{Ok}
 
 -- WHAT WAS NOT REFUSED
 pub record Went (X : Scan) (f : ℕ → Checked) : Type 0 where

@@ -2,8 +2,8 @@
 -- share bytes; refusal and acceptance exclude each other; marks are offsets, and different. Assumes nothing.
 use Prim.Native.Nat.{ℕ, _+_, _<_}
 use native.Mathlib.Omega.{arith}
-use mathlib.Core.Path.{_≡_, refl, sym, ap, _∙_}
-use mathlib.Core.List.{List, [], _∷_, _++_, append-nil, append-assoc}
+use mathlib.Core.Path.{_≡_, sym, ap, _∙_}
+use mathlib.Core.List.{List, [], _++_, append-nil, append-assoc}
 use lib.ListN.{length, getD, drop}
 use Rattle.bundle.specs.Bundle.{Bundle, File}
 use Rattle.bundle.specs.Limits.{header, folder-width, file-width}

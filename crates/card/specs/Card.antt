@@ -1,5 +1,5 @@
 -- What a card means: numbers by which the listed paths of a bundle are a tree with an index. Assumes nothing.
-use Prim.Native.Nat.{ℕ, zero, suc, _+_, _-_, _*_, _%_, _/_, _≤_, _<_, _^_}
+use Prim.Native.Nat.{ℕ, suc, _+_, _-_, _%_, _/_, _≤_, _<_, _^_}
 use native.Mathlib.Omega.{arith}
 use native.Mathlib.Decide.{decLt}
 use mathlib.Core.Bool.{Bool, true, false, cond, _&&_, not}
@@ -10,7 +10,7 @@ use lib.ListN.{length, getD, drop, length-append}
 use borrow.Author.Tests.{eq-eqb, ne-eqb, eqb-true, eqb-false, le-leb, lt-leb}
 use Rattle.names.specs.Bytes.{slash, hasPrefix, same-append, same, same-eq, equal-same, different, member, and-right, not-true}
 use Rattle.names.specs.Path.{root, isPath, component-limit}
-use Rattle.names.specs.Prefix.{startsWith, stemOf, child, childFile}
+use Rattle.names.specs.Prefix.{startsWith, stemOf, child}
 use Rattle.names.specs.PathTheorems.{form}
 use Rattle.names.specs.FolderTheorems.{Plain}
 use Rattle.bundle.specs.Bundle.{Text, Bundle, File, Remapping, withSlash}

@@ -1,9 +1,9 @@
 -- A folder's path and its index. Assumes nothing.
-use Prim.Native.Nat.{ℕ, zero, suc, _+_, _≤_, _<_}
+use Prim.Native.Nat.{ℕ, suc, _<_}
 use native.Mathlib.Omega.{arith}
-use mathlib.Core.Bool.{Bool, true, false, _&&_, _||_}
-use mathlib.Core.Path.{_≡_, refl, sym, ap, _∙_}
-use mathlib.Core.List.{List, [], _∷_, _++_, map}
+use mathlib.Core.Bool.{Bool, true, false}
+use mathlib.Core.Path.{_≡_, sym, _∙_}
+use mathlib.Core.List.{List, [], map}
 use lib.Dec.{leb}
 use lib.ListN.{length, getD, length-append}
 use borrow.Author.Tests.{le-leb, leb-true}
@@ -12,7 +12,7 @@ use Rattle.names.specs.Path.{root}
 use Rattle.bundle.specs.Bundle.{Text, Bundle, File}
 use Rattle.bundle.specs.Decode.{decode}
 use Rattle.card.specs.Index.{Looked}
-use Rattle.card.specs.Card.{nodesOf, isUpTo, FolderAt, InFolder}
+use Rattle.card.specs.Card.{nodesOf, isUpTo, InFolder}
 use Rattle.card.specs.Laws.{node-folder}
 use Rattle.card.specs.declared.look.Near.the-variants.{At, Nothing}
 

@@ -1,5 +1,5 @@
 -- An index by hash with chains: a lookup visits the indices of one hash, from the last to ever earlier ones. Assumes nothing.
-use Prim.Native.Nat.{ℕ, zero, suc, _+_, _*_, _%_, _/_, _≤_, _<_}
+use Prim.Native.Nat.{ℕ, zero, suc, _+_, _*_, _%_, _≤_, _<_}
 use native.Mathlib.Omega.{arith}
 use native.Mathlib.Nat.{le-of-lt, lt-of-le-of-lt, mul-le-mul-right}
 use native.Mathlib.Numerals.{add-one}
@@ -10,7 +10,7 @@ use mathlib.Core.List.{List, [], _∷_, _++_}
 use lib.Dec.{eqb}
 use lib.ListN.{length, getD, drop, drop-of-length-le}
 use lib.Seq.{drop-cons}
-use borrow.Author.Tests.{eq-eqb, ne-eqb, eqb-true, eqb-false}
+use borrow.Author.Tests.{eqb-true, eqb-false}
 use Rattle.names.specs.Bytes.{not-true}
 use Rattle.card.specs.Layout.{bucket-limit}
 

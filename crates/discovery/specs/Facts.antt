@@ -2,15 +2,15 @@
 use Prim.Native.Nat.{ℕ, zero, suc, _<_, suc-le-suc}
 use native.Mathlib.Nat.{not-suc-le-zero, le-of-suc-le-suc, eq-or-lt-of-le}
 use native.Mathlib.Omega.{arith}
-use mathlib.Core.Path.{_≡_, refl, sym, ap, _∙_}
-use mathlib.Core.Bool.{Bool, true, false, cond, _||_, or-true}
+use mathlib.Core.Path.{_≡_, refl, sym, ap}
+use mathlib.Core.Bool.{Bool, true, false, cond, _||_}
 use mathlib.Core.Logic.{⊎-elim}
 use mathlib.Core.List.{List, [], _∷_, _++_, map, append-nil, List·Memᴰ, List·Memᴰ·head, List·Memᴰ·tail, List·Memᴰ·not-nil, List·Memᴰ·cases-cons, Memᴰ·cast, Memᴰ·append-left, Memᴰ·append-right}
 use lib.Dec.{eqb}
 use lib.ListN.{length, getD, List·getD-append}
 use lib.Seq.{append-snoc, getD-append-seam}
 use borrow.Author.Tests.{eqb-true, eqb-false}
-use Rattle.names.specs.Bytes.{same, member, false-true, not-true, same-eq, equal-same, same-differs}
+use Rattle.names.specs.Bytes.{same, member, false-true, same-eq, same-differs}
 use Rattle.bundle.specs.Bundle.{Text}
 use Rattle.resolution.specs.Call.{position}
 pub use Rattle.bundle.specs.Members.{member-true, mem-member, member-false, not-member}

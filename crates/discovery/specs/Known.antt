@@ -1,6 +1,6 @@
 -- What is kept of the lookups, in a lent array: for a file by its index where its entries begin and end, and the entries, one for each
 -- use. Assumes nothing.
-use Prim.Native.Nat.{ℕ, zero, suc, _+_, _-_, _≤_, _<_}
+use Prim.Native.Nat.{ℕ, suc, _+_, _-_, _≤_, _<_}
 use native.Mathlib.Omega.{arith}
 use mathlib.Core.Bool.{Bool, true, false}
 use lib.Dec.{eqb}
@@ -21,7 +21,7 @@ use Rattle.resolution.specs.Resolution.{resolvePathInternal}
 use Rattle.resolution.specs.declared.Resolution.{Resolution}
 use Rattle.resolution.specs.declared.Resolution.the-variants as resolution
 use Rattle.discovery.specs.Discovery.{Use, uses, programOf}
-use Rattle.discovery.specs.Facts.{cond-elim, mem-getD, getD-any}
+use Rattle.discovery.specs.Facts.{cond-elim, mem-getD}
 
 -- THE PARTS of the array: the units' files; then by a file's index where its entries begin and end, and where the file stands in the
 -- bundle; how many entries there are; and the parts of the entries

@@ -1,5 +1,5 @@
 -- WHERE EACH FILE STANDS: the table has the position of every file of the bundle. Assumes nothing.
-use Prim.Native.Nat.{ℕ, zero, suc, _+_, _*_, _^_, _≤_, _<_}
+use Prim.Native.Nat.{ℕ, suc, _+_, _^_, _≤_, _<_}
 use native.Mathlib.Omega.{arith}
 use native.Mathlib.Decide.{decLt}
 use mathlib.Core.Bool.{Bool, true, false}
@@ -20,7 +20,7 @@ use Rattle.card.specs.Card.{CardIs, nodesIn}
 use Rattle.resolution.specs.Lists.{Lists}
 use Rattle.discovery.specs.Discovery.{Use}
 use Rattle.discovery.specs.Room.{checked-roomy}
-use Rattle.discovery.specs.Known.{from-part, to-part, place-part, next-part, mark-part, known-length, placeOf, nextOf, begun, begun-wide, begun-other, Fills, FilesPut}
+use Rattle.discovery.specs.Known.{place-part, next-part, known-length, placeOf, nextOf, begun, begun-wide, begun-other, Fills, FilesPut}
 
 pub record Places (s t : List ℕ) : Type 0 where
   pub long : length t ≡ known-length

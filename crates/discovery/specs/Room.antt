@@ -1,7 +1,7 @@
 -- A checked bundle has room for its uses: what its acceptance implies, in the counts that discovery's arrays hold. Assumes nothing.
 use Prim.Native.Nat.{ℕ, _+_, _≤_, _<_}
 use native.Mathlib.Omega.{arith}
-use mathlib.Core.Path.{_≡_, refl, ap, _∙_}
+use mathlib.Core.Path.{_≡_, refl}
 use mathlib.Core.List.{List, [], _∷_}
 use lib.ListN.{length, length-append}
 use Rattle.bundle.specs.Bundle.{Items, none, named, use-of, module-of, ignored, File, Bundle}

@@ -3,8 +3,8 @@
 use Prim.Native.Nat.{ℕ, suc, _+_, _≤_, _<_}
 use native.Mathlib.Omega.{arith}
 use mathlib.Core.Logic.{⊎-elim}
-use mathlib.Core.Path.{_≡_, refl, sym, ap, subst, _∙_}
-use mathlib.Core.List.{List, [], _∷_, _++_, List·Memᴰ, List·Memᴰ·not-nil}
+use mathlib.Core.Path.{_≡_, sym, ap, subst, _∙_}
+use mathlib.Core.List.{List, List·Memᴰ, List·Memᴰ·not-nil}
 use lib.ListN.{length, getD, set, take, length-set}
 use lib.Seq.{take-length}
 use Rattle.bundle.specs.Bundle.{Text, File, Bundle}
@@ -17,7 +17,6 @@ use Rattle.bundle.specs.declared.Checked.{Checked}
 use Rattle.bundle.specs.declared.Checked.the-variants.{Ok, Refused}
 use Rattle.resolution.specs.Lists.{Lists, listsOf}
 use Rattle.resolution.specs.Call.{position}
-use Rattle.resolution.specs.declared.Resolution.{Resolution}
 use Rattle.driver.specs.declared.Graph.{Graph}
 use Rattle.discovery.specs.Discovery.{Use, uses, programOf, pathsOf, discoverDependencies}
 use Rattle.discovery.specs.Discovery as definition
@@ -26,8 +25,8 @@ use Rattle.discovery.specs.Room.{Roomy}
 use Rattle.discovery.specs.Weight.{sumUses}
 use Rattle.driver.specs.Record.{lookedAll, noImports, readAll}
 use Rattle.driver.specs.Readings.{sourcesOf}
-use Rattle.driver.specs.Turns.{Invariant, Discovers, graphOf, place-small, position-is, program, weight, handled-small, not-before, sources-before, sum-is}
-use Rattle.discovery.specs.Known.{from-part, to-part, next-part, known-length, fromOf, toOf, nextOf, Entry, EntryOf, noUse, Row, begun, begun-wide, begun-from, begun-to, begun-next, begun-other, begun-entry, Fills, Rises, uses-rise}
+use Rattle.driver.specs.Turns.{Invariant, Discovers, place-small, position-is, program, weight, handled-small, not-before, sources-before, sum-is}
+use Rattle.discovery.specs.Known.{from-part, to-part, next-part, known-length, fromOf, toOf, nextOf, Row, begun, begun-wide, begun-from, begun-to, begun-next, begun-other, begun-entry, Fills, Rises, uses-rise}
 use Rattle.discovery.specs.Places.{Places, Fresh}
 
 -- the entries of the file of a path are those of its uses

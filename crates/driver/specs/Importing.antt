@@ -1,8 +1,8 @@
 -- The unit that is handled, as an importer over a card. Assumes nothing.
-use Prim.Native.Nat.{ℕ, suc, _+_, _≤_, _<_}
+use Prim.Native.Nat.{ℕ, suc, _+_, _<_}
 use native.Mathlib.Omega.{arith}
-use mathlib.Core.Path.{_≡_, sym, ap, _∙_}
-use mathlib.Core.List.{List, []}
+use mathlib.Core.Path.{_≡_, ap, _∙_}
+use mathlib.Core.List.{List}
 use lib.ListN.{length, getD, length-map}
 use Rattle.bundle.specs.Bundle.{File}
 use Rattle.bundle.specs.Decode.{decode}
@@ -13,7 +13,7 @@ use Rattle.bundle.specs.Theorems.{accepted, sound}
 use Rattle.bundle.specs.AcceptedTheorems.{accepted-read}
 use Rattle.bundle.specs.declared.Checked.the-variants.{Ok}
 use Rattle.card.specs.Layout.{foldersOf}
-use Rattle.card.specs.Card.{CardIs, nodesIn}
+use Rattle.card.specs.Card.{CardIs}
 use Rattle.card.specs.Laws.{node-file}
 use Rattle.resolution.specs.Indices.{listsIn, pathIn, Mapped, Importer}
 use Rattle.resolution.specs.CardLaws.{total}

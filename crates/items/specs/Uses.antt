@@ -3,8 +3,7 @@ use Prim.Native.Nat.{ℕ, suc, _+_, _-_, _*_, _≤_}
 use native.Mathlib.Omega.{arith}
 use mathlib.Core.Path.{_≡_, refl, sym, ap, _∙_}
 use mathlib.Core.List.{List, [], _∷_, _++_}
-use lib.ListN.{length, take, drop}
-use lib.Seq.{length-take-le}
+use lib.ListN.{length, drop}
 use Rattle.names.specs.Bytes.{ascii}
 use Rattle.names.specs.Decimal.{unitName}
 use Rattle.bundle.specs.Bundle.{Text}
@@ -13,7 +12,7 @@ use Rattle.bundle.specs.Scan.{text}
 use Rattle.bundle.specs.Decode.{each, far, after, afterElement, elementAt, decode}
 use Rattle.bundle.specs.ListLaws.{each-length}
 use Rattle.assembly.specs.Assemble.{rewriteUse}
-use Rattle.encoder.specs.Strings.{stringsAt, stringBytes, element-bytes, last-strings, string-length}
+use Rattle.encoder.specs.Strings.{stringsAt, stringBytes, element-bytes, last-strings}
 use Rattle.assembly.specs.Targets.{pathBy}
 use Rattle.assembly.specs.Walk.{segmentsAt, elementsAt, useBytes}
 use Rattle.assembly.specs.declared.Target.{Target}

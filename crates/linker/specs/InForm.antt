@@ -17,9 +17,9 @@ use Rattle.bundle.specs.Form.{Every, IsName, FormedElement}
 use Rattle.bundle.specs.Stand.{Bytes}
 use Rattle.bundle.specs.Read.{value, read}
 use Rattle.bundle.specs.Theorems.{sound}
-use Rattle.scope_tree.specs.Step.{Call, enter, exit, alias, enum, function, use′, bad}
+use Rattle.scope_tree.specs.Step.{Call, enter, alias, enum, function, bad}
 use Rattle.scope_tree.specs.Flat.{flat, first-flat}
-use Rattle.scope_tree.specs.Form.{Request, enters, exits, inserts-alias, inserts-enum, inserts-function, resolves-use, or-else, after-string, after-element, string-fault, names-fault, elements-fault, after-strings, after-elements, rest-fault, use-fault, use-call, call-of}
+use Rattle.scope_tree.specs.Form.{exits, inserts-alias, inserts-enum, inserts-function, resolves-use, or-else, after-string, after-element, string-fault, names-fault, elements-fault, after-strings, after-elements, rest-fault, use-fault, use-call, call-of}
 use Rattle.scope_tree.specs.Form as form
 use Rattle.scopes.specs.Meets.{declares}
 use Rattle.assembly.specs.Paths.{ImagePath}

@@ -36,7 +36,7 @@ use Rattle.assembly.specs.Join.{units-linked}
 use Rattle.scope_tree.specs.declared.Tree.{Tree}
 use Rattle.assembly.specs.Assemble.{assembled, assemblyFaults, step5, assembleAfter, linearizeAndAssemble}
 use Rattle.assembly.specs.Image.{small-buffer, long-image, image-limit, itemsLength, imageLength, imaging, lentImage}
-use Rattle.assembly.specs.Call.{faultsTold, telling, reportedTo, imagedTo, withImage}
+use Rattle.assembly.specs.Call.{faultsTold, reportedTo, imagedTo, withImage}
 use Rattle.assembly.specs.Given as units
 use Rattle.assembly.specs.declared.Imaged.{Imaged}
 use Rattle.assembly.specs.declared.Imaged.the-variants as imaged

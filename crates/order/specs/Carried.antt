@@ -1,7 +1,7 @@
 -- What steps 3 and 4 tell is what every run tells that goes on after them. Assumes nothing.
 use Prim.Native.Nat.{ℕ, _<_}
 use native.Mathlib.Omega.{arith}
-use mathlib.Core.Path.{_≡_, refl, sym, ap, subst, _∙_}
+use mathlib.Core.Path.{_≡_, refl, ap, _∙_}
 use mathlib.Core.List.{List, [], _∷_, map}
 use lib.ListN.{length, length-map}
 use Rattle.bundle.specs.Bundle.{File, Bundle}
@@ -18,7 +18,7 @@ use Rattle.order.specs.Outcome.{Outcome, faulty, closed, ended, result, 
 use Rattle.order.specs.Run.{ordered, unitsOf}
 use Rattle.order.specs.Units.{some-unit}
 use Rattle.order.specs.Report.{fault, ring, recordsOf, lentReport, reporting}
-use Rattle.order.specs.Call.{padded, refusing, reportedTo, linking, answering, answerBy, unitFiles, answerFrom, reportFrom, heldFrom, KeptFrom, orderAnswer, orderReport}
+use Rattle.order.specs.Call.{refusing, reportedTo, answering, answerBy, unitFiles, answerFrom, reportFrom, heldFrom, KeptFrom, orderAnswer, orderReport}
 use Rattle.order.specs.declared.Answer.{Answer}
 use Rattle.order.specs.declared.Reported.{Reported}
 use Rattle.order.specs.declared.Reported.the-variants as reported

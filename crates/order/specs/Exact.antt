@@ -14,7 +14,7 @@ use Rattle.bundle.specs.declared.Width.the-variants.{Word}
 use Rattle.bundle.specs.Form.{WellFormed}
 use Rattle.bundle.specs.Marks.{Begins, Found, FoundFiles}
 use Rattle.bundle.specs.Theorems.{marks-are-offsets}
-use Rattle.resolution.specs.Resolution.{Resolved, to, number}
+use Rattle.resolution.specs.Resolution.{Resolved, number}
 use Rattle.resolution.specs.Resolution as resolution
 use Rattle.discovery.specs.Discovery.{Use, uses, programOf, Fault, pathsOf}
 use Rattle.discovery.specs.Facts.{cond-elim, pigeons}

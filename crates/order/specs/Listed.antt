@@ -2,7 +2,7 @@
 -- it stands. Assumes nothing.
 use Prim.Native.Nat.{ℕ, _+_, _≤_}
 use native.Mathlib.Omega.{arith}
-use mathlib.Core.Path.{_≡_, refl, sym, ap, _∙_}
+use mathlib.Core.Path.{_≡_, refl, sym, _∙_}
 use mathlib.Core.Bool.{Bool, true, false}
 use mathlib.Core.List.{[], List·Memᴰ, Memᴰ·cast, Memᴰ·append-right}
 use lib.Dec.{ltb}

@@ -8,9 +8,7 @@ use lib.ListN.{length, length-map}
 use Rattle.bundle.specs.Bundle.{Text, File, Bundle}
 use Rattle.bundle.specs.Decode.{decode}
 use Rattle.bundle.specs.Answers.{value-ok}
-use Rattle.bundle.specs.Read.{verdict, value, read, reading}
-use Rattle.bundle.specs.declared.Checked.{Checked}
-use Rattle.bundle.specs.declared.Checked.the-variants.{Ok, Refused}
+use Rattle.bundle.specs.Read.{verdict, value, read}
 use Rattle.resolution.specs.Lists.{listsOf}
 use Rattle.resolution.specs.Resolution.{to, resolvePathInternal}
 use Rattle.discovery.specs.Discovery.{Use, uses, programOf, Fault, discoverDependencies, pathsOf}

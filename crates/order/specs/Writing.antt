@@ -6,7 +6,7 @@ use native.Mathlib.Omega.{arith}
 use mathlib.Core.Path.{_≡_, refl, sym, ap, _∙_}
 use mathlib.Core.List.{List, [], _∷_, _++_, map, map-append, append-assoc, append-nil}
 use lib.ListN.{length, getD, set, take, drop, length-append, length-map, length-set}
-use lib.Seq.{set-at, drop-cons, take-suc, append-snoc, length-take-le, drop-drop}
+use lib.Seq.{take-suc, length-take-le, drop-drop}
 use borrow.Author.Tests.{le-leb, lt-leb}
 use Rattle.bundle.specs.Encode.{joined}
 use Rattle.encoder.specs.Started.{put-one}

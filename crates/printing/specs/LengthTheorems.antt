@@ -1,10 +1,10 @@
 -- HOW LONG THE PRINTED TEXT IS: at most 400,000 bytes, whatever the bundle. Assumes nothing.
-use Prim.Native.Nat.{ℕ, zero, suc, _*_, _≤_, _<_}
+use Prim.Native.Nat.{ℕ, zero, suc, _≤_, _<_}
 use native.Mathlib.Omega.{arith}
 use mathlib.Core.Bool.{Bool, true, false, cond, _&&_}
 use mathlib.Core.Logic.{⊎-elim}
 use mathlib.Core.Path.{_≡_, refl, sym, ap, subst, _∙_}
-use mathlib.Core.List.{List, [], _∷_, _++_, map, List·Memᴰ, List·Memᴰ·head, List·Memᴰ·tail, List·Memᴰ·cases-cons, List·Memᴰ·not-nil, List·Memᴰ·append-cases, Memᴰ·append-right, Memᴰ·of-map}
+use mathlib.Core.List.{List, [], _∷_, _++_, List·Memᴰ, List·Memᴰ·head, List·Memᴰ·tail, List·Memᴰ·cases-cons, List·Memᴰ·not-nil, List·Memᴰ·append-cases, Memᴰ·append-right, Memᴰ·of-map}
 use lib.Dec.{eqb, leb}
 use lib.ListN.{length, getD, take, length-map, length-take, drop}
 use lib.Seq.{take-at}
@@ -34,7 +34,6 @@ use Rattle.order.specs.Run.{ordered, unitsOf}
 use Rattle.order.specs.Run as order
 use Rattle.order.specs.Theorems.{first-half, order-count, never-ended}
 use Rattle.order.specs.Exact.{fault-numbers, place-small, ring-exact}
-use Rattle.order.specs.Report.{fault, reportLength, recordLength}
 use Rattle.scope_tree.specs.Step.{Call, enter, alias, enum, function, bad}
 use Rattle.scope_tree.specs.Flat.{Flat, flat, first-flat}
 use Rattle.scope_tree.specs.Form.{Request, enters, exits, inserts-alias, inserts-enum, inserts-function, resolves-use, call-of, calls-of, use-call, use-fault}
@@ -50,7 +49,7 @@ use Rattle.scope_walk.specs.Steps.{Plain}
 use Rattle.scope_walk.specs.Fit.{unit-plain}
 use Rattle.linker.specs.Refusals.{RefusedBy, by-form, by-rule, by-limit, refused-by, bad-small}
 use Rattle.linker.specs.Theorems.{requests, walk-stopped, faults-only, linked-always, LinkedBundle, linked-bundle}
-use Rattle.printing.specs.Lines.{fault-line, linked-lines, outcome-lines, reading-lines, printed}
+use Rattle.printing.specs.Lines.{linked-lines, outcome-lines, reading-lines, printed}
 use Rattle.printing.specs.ReadTheorems.{verdict-enough}
 use Rattle.printing.specs.DepthTheorems.{Limited, Declares, AllDeclare, tree-limited}
 use Rattle.printing.specs.Room.{discovery-few, step5-few, read-roomy}

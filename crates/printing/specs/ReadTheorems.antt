@@ -5,8 +5,7 @@ use native.Mathlib.Decide.{decLt}
 use mathlib.Core.Bool.{Bool, true, false, cond}
 use mathlib.Core.Path.{_≡_, refl, sym, ap, _∙_}
 use mathlib.Core.List.{List}
-use lib.Dec.{ltb}
-use lib.ListN.{length, getD, take, List·getD-eq-default}
+use lib.ListN.{length, take, List·getD-eq-default}
 use lib.Seq.{take-all, getD-take, length-take-le}
 use borrow.Author.Tests.{lt-ltb, le-ltb}
 use Rattle.bundle.specs.Limits.{defined, header}

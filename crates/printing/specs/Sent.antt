@@ -1,13 +1,13 @@
 -- What is sent of the buffer that tell wrote: as many of its first bytes as tell answers. Assumes nothing.
 use Prim.Native.Nat.{ℕ, _≤_}
 use native.Mathlib.Omega.{arith}
-use mathlib.Core.Path.{_≡_, ap, sym, subst, _∙_}
+use mathlib.Core.Path.{_≡_, ap, subst, _∙_}
 use mathlib.Core.List.{List, _++_}
 use lib.ListN.{length, take, drop, replicate, length-append, length-take, length-drop, length-replicate}
 use lib.Seq.{take-all, take-append-le}
 use Rattle.bundle.specs.Read.{Bytes, Reading, read}
 use Rattle.text.specs.Words.{Text, lines}
-use Rattle.text.specs.Writing.{shown, reach, shown-all}
+use Rattle.text.specs.Writing.{shown-all}
 use Rattle.printing.specs.Lines.{reading-lines, printed}
 use Rattle.printing.specs.Answers.{Shows}
 use Rattle.printing.specs.ReadTheorems.{read-enough}

@@ -1,5 +1,5 @@
 -- The index is made: one path more. Assumes nothing.
-use Prim.Native.Nat.{ℕ, zero, suc, _+_, _-_, _*_, _%_, _/_, _≤_, _<_, _^_}
+use Prim.Native.Nat.{ℕ, suc, _+_, _-_, _*_, _%_, _/_, _≤_, _<_}
 use native.Mathlib.Omega.{arith}
 use native.Mathlib.Numerals.{add-one}
 use native.Mathlib.Decide.{decLt}
@@ -9,15 +9,13 @@ use mathlib.Core.List.{List, [], _∷_, _++_, map, append-assoc, append-nil}
 use lib.Dec.{eqb}
 use lib.ListN.{length, getD, set, length-append, length-set, length-map, List·getD-append, List·getD-eq-default}
 use lib.Seq.{getD-set-same, getD-set-other, getD-append-add}
-use borrow.Author.Tests.{eqb-true, eqb-false}
 use Rattle.names.specs.Path.{root}
 use Rattle.bundle.specs.Bundle.{Text}
 use Rattle.bundle.specs.Limits.{count-limit, file-size}
 use Rattle.bundle.specs.Scan.{text}
 use Rattle.bundle.specs.Decode.{each, far}
-use Rattle.bundle.specs.Lists.{skip}
 use Rattle.bundle.specs.ListLaws.{each-more, far-more}
-use Rattle.card.specs.Layout.{node-limit, bucket-limit, card-size, key-limit, parents-at, starts-at, hashes-at, nexts-at, heads-at, key-at, parentAt, startAt, hashAt, nextAt, headAt, keyOf}
+use Rattle.card.specs.Layout.{node-limit, bucket-limit, card-size, key-limit, starts-at, hashes-at, nexts-at, heads-at, key-at, startAt, hashAt, nextAt, headAt, keyOf}
 use Rattle.card.specs.Index.{decEq, lastIn, last-agree, Chained, chained-more}
 use Rattle.card.specs.Card.{seed, hashOf, bucketAt, IndexOf}
 

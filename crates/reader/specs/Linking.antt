@@ -3,28 +3,27 @@ use Prim.Native.Nat.{ℕ, zero, suc, _+_, _-_, _%_, _/_, _≤_, _<_}
 use native.Mathlib.Omega.{arith}
 use native.Mathlib.Numerals.{add-one}
 use native.Mathlib.Decide.{decLt}
-use mathlib.Core.Bool.{Bool, true, false, cond, _&&_, _||_, not}
+use mathlib.Core.Bool.{Bool, true, false}
 use mathlib.Core.Path.{_≡_, refl, sym, ap, _∙_}
 use mathlib.Core.List.{List, [], _∷_, _++_, map, List·Memᴰ}
-use lib.Dec.{eqb, leb}
+use lib.Dec.{leb}
 use lib.ListN.{length, getD, set, take, drop, length-append, length-map, length-set, length-take, drop-of-length-le, List·getD-append}
 use lib.Seq.{getD-set-same, getD-set-other, drop-cons, take-suc, getD-take}
-use borrow.Author.Tests.{eqb-true, eqb-false, eq-eqb, ne-eqb, le-leb}
-use Rattle.names.specs.Bytes.{same, same-eq, same-refl, equal-same, different, member, member-found, member-none, and-right, false-true, not-true}
+use borrow.Author.Tests.{le-leb}
+use Rattle.names.specs.Bytes.{same, same-eq, equal-same, different, member, member-found, member-none, and-right, false-true, not-true}
 use Rattle.names.specs.Path.{root, isPath}
 use Rattle.names.specs.Prefix.{directlyIn, parent}
 use Rattle.names.specs.FolderTheorems.{directly-in-parent, parent-directly-in, parent-prefix}
-use Rattle.bundle.specs.Bundle.{Text, Bundle, File, withSlash}
+use Rattle.bundle.specs.Bundle.{Text, File, withSlash}
 use Rattle.bundle.specs.Scan.{text}
 use Rattle.bundle.specs.Decode.{each, after, afterFile, fileAt, folderCount, folderFirst, fileCount, fileFirst, decode}
-use Rattle.bundle.specs.Conflicts.{Placed, placedAt, any, listed, folders, files}
+use Rattle.bundle.specs.Conflicts.{placedAt, any, listed, folders, files}
 use Rattle.bundle.specs.Members.{mem-getD, any-true, mem-any, mem-member, getD-mem}
 use Rattle.bundle.specs.declared.Checked.{Checked}
 use Rattle.bundle.specs.declared.Checked.the-variants.{Ok, Refused}
-use Rattle.card.specs.Layout.{node-limit, bucket-limit, card-size, starts-at, hashes-at, nexts-at, heads-at, key-at, parentAt, startAt, hashAt, nextAt, headAt, keyOf}
-use Rattle.card.specs.Index.{decEq, lastIn, last-agree, last-below, last-key, last-above, Chained, Looked}
-use Rattle.card.specs.Card.{nodesOf, nodesIn, hashOf, bucketAt, IndexOf, FolderAt, InFolder, isAt, isUpTo, Chain}
-use Rattle.card.specs.Laws.{node-folder}
+use Rattle.card.specs.Layout.{node-limit, bucket-limit, card-size, starts-at, hashes-at, nexts-at, heads-at, key-at, parentAt, startAt, hashAt, nextAt, keyOf}
+use Rattle.card.specs.Index.{decEq, lastIn, last-agree, last-below, last-key, last-above, Looked}
+use Rattle.card.specs.Card.{nodesIn, hashOf, bucketAt, IndexOf, FolderAt, InFolder, isAt, isUpTo, Chain}
 use Rattle.reader.specs.Build.{nodesAt, itself, Holds}
 use Rattle.card.specs.declared.look.Near.{Near}
 use Rattle.card.specs.declared.look.Near.the-variants.{At, Nothing}

@@ -1,24 +1,24 @@
 -- The pass over the listed paths and the remappings is `conflicts`, and leaves the card. Assumes nothing.
-use Prim.Native.Nat.{ℕ, zero, suc, _+_, _-_, _≤_, _<_, suc-le-suc}
+use Prim.Native.Nat.{ℕ, zero, suc, _+_, _-_, _≤_, _<_}
 use native.Mathlib.Nat.{not-suc-le-zero, le-of-suc-le-suc}
 use native.Mathlib.Omega.{arith}
 use native.Mathlib.Decide.{decLt}
-use mathlib.Core.Bool.{Bool, true, false, cond, _&&_, _||_, not}
+use mathlib.Core.Bool.{Bool, true, false, _||_, not}
 use mathlib.Core.Path.{_≡_, refl, sym, ap, _∙_}
 use mathlib.Core.List.{List, [], _∷_, _++_, map, List·Memᴰ, List·Memᴰ·head, List·Memᴰ·tail}
 use lib.Dec.{eqb}
-use lib.ListN.{length, getD, set, length-append, length-map, length-set, List·getD-append, List·getD-map}
+use lib.ListN.{length, getD, set, length-append, length-map, length-set, List·getD-map}
 use lib.Seq.{getD-set-same, getD-set-other, getD-append-add}
-use borrow.Author.Tests.{eq-eqb, ne-eqb, eqb-true, eqb-false}
-use Rattle.names.specs.Bytes.{same, same-refl, same-eq, equal-same, member, and-left, and-right, false-true, not-true, both-ways}
+use borrow.Author.Tests.{eq-eqb, eqb-true}
+use Rattle.names.specs.Bytes.{same, same-refl, member, and-left, and-right, false-true, both-ways}
 use Rattle.names.specs.Path.{root, isPath}
 use Rattle.names.specs.PathSteps.{root-path}
-use Rattle.names.specs.Prefix.{directlyIn, parent}
+use Rattle.names.specs.Prefix.{directlyIn}
 use Rattle.bundle.specs.Bundle.{Text, Bundle, File, Remapping, withSlash}
 use Rattle.bundle.specs.Limits.{header, count-limit, remapping-limit}
 use Rattle.bundle.specs.Scan.{text}
 use Rattle.bundle.specs.Decode.{each, far, after, afterFile, afterRemapping, fileAt, remappingAt, folderCount, folderFirst, fileCount, fileFirst, remappingCount, remappingFirst, decode}
-use Rattle.bundle.specs.Conflicts.{placedAt, placedRemappingAt, orElse, any, listed, located, remapped, conflicts}
+use Rattle.bundle.specs.Conflicts.{placedAt, placedRemappingAt, orElse, any, located, remapped, conflicts}
 use Rattle.bundle.specs.Lists.{skip}
 use Rattle.bundle.specs.ListLaws.{texts-each, member-append, each-length, each-at}
 use Rattle.bundle.specs.Free.{paths-each, conflicts-free}
@@ -29,13 +29,12 @@ use Rattle.bundle.specs.Stand.{Bytes}
 use Rattle.bundle.specs.SoundBundle.{form-sound}
 use Rattle.bundle.specs.declared.Checked.{Checked}
 use Rattle.bundle.specs.declared.Checked.the-variants.{Ok, Refused}
-use Rattle.card.specs.Layout.{node-limit, card-size, key-limit, starts-at, key-at, marks-at, folders-at, remappings-at, files-at, root-at, parentAt, startAt, markAt, contextAt, targetAt, placeAt, foldersOf, remappingsOf, filesOf, rootOf, keyOf}
+use Rattle.card.specs.Layout.{node-limit, card-size, key-limit, starts-at, key-at, marks-at, folders-at, remappings-at, files-at, root-at, parentAt, startAt, markAt, contextAt, targetAt, placeAt, foldersOf, remappingsOf, filesOf, rootOf}
 use Rattle.card.specs.Tree.{Tree}
 use Rattle.card.specs.Index.{decEq}
-use Rattle.card.specs.Card.{nodesOf, nodesIn, rootsOf, IndexOf, Above, FolderAt, Maps, CardIs}
-use Rattle.card.specs.Laws.{node-file}
-use Rattle.reader.specs.Build.{itself, nodesAt, Holds, Kept, Keyed, Filled, Cleared, begun, begun-keyed, begun-low, begun-high, begun-holds}
-use Rattle.reader.specs.Linking.{spots, each-map, nodes-at, placed-spots, index-agree, Indexed, Parents, Linked, allTold}
+use Rattle.card.specs.Card.{nodesOf, nodesIn, rootsOf, IndexOf, FolderAt, Maps, CardIs}
+use Rattle.reader.specs.Build.{itself, Holds, Keyed, Filled, Cleared, begun, begun-keyed, begun-low, begun-high, begun-holds}
+use Rattle.reader.specs.Linking.{spots, nodes-at, placed-spots, index-agree, Indexed, Parents, Linked, allTold}
 use Rattle.reader.specs.Mapping.{foldersIn, filesIn, Located, is-located, MappedAll, MapsOf, Unmapped}
 use Rattle.reader.specs.declared.maps.Place.{Place}
 use Rattle.reader.specs.declared.maps.Place.the-variants.{At, Bad}

@@ -1,15 +1,14 @@
 -- 9 to 13, and what the card has of the remappings. Assumes nothing.
-use Prim.Native.Nat.{ℕ, zero, suc, _+_, _-_, _*_, _≤_, _<_}
+use Prim.Native.Nat.{ℕ, suc, _+_, _-_, _*_, _≤_, _<_}
 use native.Mathlib.Omega.{arith}
-use mathlib.Core.Bool.{Bool, true, false, cond, _&&_, _||_}
+use mathlib.Core.Bool.{Bool, true, false, cond}
 use mathlib.Core.Path.{_≡_, refl, sym, ap, _∙_}
 use mathlib.Core.List.{List, [], _∷_, _++_, map}
 use lib.ListN.{length, getD, set, length-append, length-set, List·getD-append}
 use lib.Seq.{getD-set-same, getD-set-other}
 use native.Mathlib.Decide.{decLt}
-use Rattle.names.specs.Bytes.{same, same-eq, equal-same, different, member, member-found, member-none, false-true, not-true}
-use Rattle.names.specs.Path.{root}
-use Rattle.bundle.specs.Bundle.{Text, Bundle, File, withSlash}
+use Rattle.names.specs.Bytes.{same-eq, equal-same, different, member, member-found, member-none, false-true}
+use Rattle.bundle.specs.Bundle.{Text, File, withSlash}
 use Rattle.bundle.specs.Limits.{remapping-limit}
 use Rattle.bundle.specs.Scan.{text}
 use Rattle.bundle.specs.Decode.{each, far, after, afterRemapping, decode}
@@ -17,9 +16,9 @@ use Rattle.bundle.specs.Conflicts.{Placed, PlacedRemapping, placedAt, placedRem
 use Rattle.bundle.specs.ListLaws.{each-more, far-more}
 use Rattle.bundle.specs.declared.Checked.{Checked}
 use Rattle.bundle.specs.declared.Checked.the-variants.{Ok, Refused}
-use Rattle.card.specs.Layout.{node-limit, card-size, marks-at, contexts-at, targets-at, places-at, folders-at, markAt, contextAt, targetAt, placeAt}
+use Rattle.card.specs.Layout.{node-limit, card-size, marks-at, contexts-at, targets-at, places-at, markAt, contextAt, targetAt, placeAt}
 use Rattle.card.specs.Index.{decEq, Looked}
-use Rattle.card.specs.Card.{nodesOf, nodesIn, IndexOf, FolderAt, InFolder, isAt}
+use Rattle.card.specs.Card.{nodesIn, IndexOf, FolderAt, InFolder, isAt}
 use Rattle.card.specs.Laws.{node-file}
 use Rattle.reader.specs.Linking.{index-agree}
 use Rattle.card.specs.declared.look.Near.{Near}

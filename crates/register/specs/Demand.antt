@@ -4,7 +4,7 @@ use mathlib.Core.Path.{_≡_, sym, subst, _∙_}
 use mathlib.Core.Bool.{true}
 use mathlib.Core.List.{List}
 use Rattle.scope_tree.specs.Step.{Alike, Head, used, Call, Answer}
-use Rattle.scope_tree.specs.Register.{Scope, Register, registered, tree-of}
+use Rattle.scope_tree.specs.Register.{Scope, registered, tree-of}
 use Rattle.scope_tree.specs.Flat.{Flat, flattened, write}
 use Rattle.scope_tree.specs.Same.{same-answers, same-tree}
 use Rattle.register.specs.Chain.{In, Chain, chains, chain-from, one-entry}

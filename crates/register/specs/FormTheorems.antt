@@ -1,18 +1,18 @@
 -- The numbers 1, 3 and 5 of a tree call's arguments, exactly when: the first field in byte order that isn't in form. Assumes nothing.
-use Prim.Native.Nat.{ℕ, zero, suc, pred, _+_}
+use Prim.Native.Nat.{ℕ, zero, suc, _+_}
 use native.Mathlib.Omega.{arith}
-use mathlib.Core.Path.{_≡_, refl, ap, sym, subst, _∙_}
+use mathlib.Core.Path.{_≡_, refl, ap, sym, _∙_}
 use mathlib.Core.Bool.{Bool, true, false, cond}
 use mathlib.Core.Logic.{_↔_}
 use mathlib.Core.List.{List, [], _∷_, _++_}
 use lib.Dec.{eqb, ltb}
 use lib.ListN.{length, getD}
-use borrow.Author.Tests.{eqb-true, eqb-false, eq-eqb, ne-eqb}
+use borrow.Author.Tests.{eqb-true, eq-eqb, ne-eqb}
 use Rattle.names.specs.declared.Name.{Name}
 use Rattle.names.specs.Packed.{packed}
 use Rattle.names.specs.Identifier.{isIdentifier}
-use Rattle.scope_tree.specs.Step.{Call, enter, bad}
-use Rattle.scope_tree.specs.Form.{after-string, after-strings, after-element, or-else, string-fault, names-fault, elements-fault, after-elements, rest-fault, use-fault, Request, resolves-use, named, use-call, call-of}
+use Rattle.scope_tree.specs.Step.{Call, bad}
+use Rattle.scope_tree.specs.Form.{after-string, after-strings, after-element, or-else, string-fault, names-fault, elements-fault, after-elements, rest-fault, use-fault, resolves-use, named, use-call, call-of}
 
 -- THE FIELDS OF A USE in byte order, each with its own number, or 0: cut, count, form
 unfoldable pub segment-fields : List ℕ → ℕ → ℕ → List ℕ

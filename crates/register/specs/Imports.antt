@@ -4,12 +4,11 @@ use Prim.Native.Nat.{ℕ, zero, suc}
 use native.Mathlib.Omega.{arith}
 use mathlib.Core.Path.{_≡_, refl, ap, sym, subst, _∙_}
 use mathlib.Core.Bool.{Bool, true, false, cond, not, _&&_}
-use mathlib.Core.Logic.{_⊎_, inl, inr, ⊎-elim}
 use mathlib.Core.List.{List, [], _∷_, _++_}
 use lib.ListN.{length, drop, getD}
 use Rattle.names.specs.declared.Name.{Name}
 use Rattle.scope_tree.specs.Step.{used, Head, head, Elem, Call, enter, exit, alias, enum, function, use′, get-alias, get-function, bad, Answer, refused, Found, missing, got, held}
-use Rattle.scope_tree.specs.Register.{Scope, end, node, append, is, find, Opened, Register, shut, whole, leave, register, first-register, registered, tree-of}
+use Rattle.scope_tree.specs.Register.{Scope, end, node, append, is, find, Opened, Register, shut, whole, leave, register, first-register, tree-of}
 use Rattle.scope_tree.specs.Note.{accepted, inner, along, bring, bring-all, noted, note, notes, register-of}
 use Rattle.register.specs.Named.{Named, Each, Added, all-named}
 use Rattle.register.specs.Chain.{In, here, inside, later, in-end, Chain}

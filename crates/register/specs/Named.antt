@@ -3,7 +3,7 @@ use Prim.Native.Nat.{ℕ}
 use mathlib.Core.Path.{_≡_, refl, sym, _∙_}
 use mathlib.Core.Bool.{Bool, true, false, cond, not, _&&_}
 use mathlib.Core.List.{List, [], _∷_, List·Memᴰ, List·Memᴰ·head, List·Memᴰ·tail}
-use Rattle.scope_tree.specs.Step.{copy-of, used, Head, head, Elem, Found, missing, got, held}
+use Rattle.scope_tree.specs.Step.{copy-of, Head, Elem, Found, missing, got, held}
 use Rattle.scope_tree.specs.Register.{Scope, end, node, append, find, Register, register}
 use Rattle.scope_tree.specs.Laws.{append-end}
 use Rattle.scope_tree.specs.Note.{bring, bring-all}

@@ -10,7 +10,7 @@ use lib.ListN.{length, length-append}
 use borrow.Author.Tests.{ltb-true, ltb-false, lt-ltb, le-ltb, eqb-true, eqb-false, ne-eqb}
 use Rattle.names.specs.declared.Name.{Name}
 use Rattle.names.specs.Packed.{sameName, names-same}
-use Rattle.scope_tree.specs.Step.{copy-of, declared, used, Head, Elem, Call, enter, exit, alias, enum, function, use′, get-alias, get-function, bad, Answer, ok, refused, Found, missing, got, Model, Tried, done, fail, is-got, told-mark, shared, any-main, number, after, first-told, head, bind, same-refl, held, full, deep, nav, import, attempt, judge, element, stage, use-of, fresh, settle, close, step}
+use Rattle.scope_tree.specs.Step.{copy-of, declared, Head, Elem, Call, enter, exit, alias, enum, function, use′, get-alias, get-function, bad, Answer, ok, refused, Found, missing, got, Model, Tried, done, fail, is-got, told-mark, shared, any-main, number, after, first-told, head, bind, same-refl, held, full, deep, nav, import, attempt, judge, element, stage, use-of, fresh, settle, close, step}
 use Rattle.scope_tree.specs.Note.{inner, along, bring-all, noted, element-bring, use-bring, fresh-done}
 use Rattle.register.specs.Refusals.{Leads, NoMain, NoCrate, no-crate, Adds, adds-module, adds-alias, adds-enum, adds-function, adds-items, Argument, argument, Formed, pick, at, so-far, Passes, AllPass, NoSegment, PrivateSegment, Says, says-43, says-44, says-45, Takes, Taken, as-type, as-function, as-module, Fails, by-type, by-function, by-module, AllTaken, FirstFails, ItemFails, Holds, NoModule, no-module, PrivateModule, private-module, NoItem, no-item, no-alias, no-function, PrivateItem, private-item, Clash, clash, AliasMain, alias-main, ModuleTwice, module-twice, TypeTwice, alias-twice, enum-twice, FunctionTwice, function-twice, NotInside, not-inside, Fault, Past, TreeFull, Refused}
 

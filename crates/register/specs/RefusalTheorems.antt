@@ -9,7 +9,7 @@ use lib.Dec.{eqb, ltb, leb}
 use lib.ListN.{length, getD, length-append}
 use Rattle.names.specs.declared.Name.{Name}
 use Rattle.names.specs.Packed.{packed}
-use Rattle.scope_tree.specs.Step.{copy-of, used, Head, Elem, Call, enter, alias, enum, function, use′, get-alias, get-function, bad, Answer, ok, refused, Found, missing, got, Model, Tried, done, fail, shared, any-main, after, head, bind, held, full, deep, nav, element, stage, use-of, settle, step}
+use Rattle.scope_tree.specs.Step.{copy-of, Head, Elem, Call, enter, alias, enum, function, use′, get-alias, get-function, bad, Answer, ok, refused, Found, missing, got, Model, Tried, done, fail, shared, any-main, bind, held, full, deep, nav, stage, use-of, settle, step}
 use Rattle.scope_tree.specs.Note.{bring, bring-all, noted, use-bring}
 use Rattle.names.specs.Identifier.{isIdentifier}
 use Rattle.scope_tree.specs.Register.{Scope, Register, register}

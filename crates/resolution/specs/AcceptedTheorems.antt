@@ -1,6 +1,6 @@
 -- OF EVERY ACCEPTED BUNDLE, and every use in one of its files: the longest context, below its base, never its own package.
 -- From what the reader promises of bytes that it accepts. Assumes nothing.
-use Prim.Native.Nat.{ℕ, suc, _≤_, _<_, suc-le-suc}
+use Prim.Native.Nat.{ℕ, suc, _<_, suc-le-suc}
 use native.Mathlib.Omega.{arith}
 use mathlib.Core.Bool.{Bool, true, false, cond}
 use mathlib.Core.Logic.{⊎-elim, _↔_}
@@ -20,7 +20,7 @@ use Rattle.bundle.specs.Read.{value, read}
 use Rattle.bundle.specs.Members.{member-true}
 use Rattle.bundle.specs.AcceptedTheorems.{Accepted, accepted-read}
 use Rattle.resolution.specs.Lists.{Lists, listsOf}
-use Rattle.resolution.specs.Resolution.{packageRoots, getPackageRoot, remappingFor, Lookup, found, missing, isFolder, isFile, buildAndVerifyPath, to, fails, ownFile, orItself, resolveBelow, resolveCratePath, sameRoot, checkLocalFileImportedAsExternal, external, resolveExternalPath, resolvePathInternal}
+use Rattle.resolution.specs.Resolution.{getPackageRoot, remappingFor, Lookup, found, missing, isFolder, isFile, buildAndVerifyPath, to, fails, ownFile, orItself, resolveBelow, resolveCratePath, checkLocalFileImportedAsExternal, external, resolveExternalPath, resolvePathInternal}
 use Rattle.resolution.specs.Theorems.{Same, Taken, taken, none-taken, Distinct, taken-in-any-order, Rooted, rooted, none-rooted, rooted-in-any-order, same-roots, Paths, isListed, baseOf, resolved-listed, resolved-below}
 use Rattle.resolution.specs.Theorems as theorem
 

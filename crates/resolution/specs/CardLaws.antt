@@ -1,48 +1,36 @@
 -- What the card's walks mean in resolution: the package root of a listed path is the nearest root at or above it; of two contexts above a
 -- file the longer lies below the other; a segment is a child of a folder. Assumes nothing.
-use Prim.Native.Nat.{ℕ, zero, suc, _+_, _-_, _*_, _≤_, _<_, _^_}
+use Prim.Native.Nat.{ℕ, suc, _+_, _-_, _≤_, _<_}
 use native.Mathlib.Omega.{arith}
-use mathlib.Core.Bool.{Bool, true, false, cond, _&&_, _||_, not}
+use mathlib.Core.Bool.{Bool, true, false, cond}
 use mathlib.Core.Logic.{_⊎_, inl, inr, ⊎-elim}
 use mathlib.Core.Option.{Option, none, some}
 use mathlib.Core.Path.{_≡_, refl, sym, ap, subst, _∙_}
-use mathlib.Core.List.{List, [], _∷_, _++_, map, List·Memᴰ, List·Memᴰ·head, List·Memᴰ·tail, List·Memᴰ·cases-cons, List·Memᴰ·not-nil}
+use mathlib.Core.List.{List, [], _∷_, map, List·Memᴰ, List·Memᴰ·cases-cons, List·Memᴰ·not-nil}
 use lib.Dec.{eqb, leb, ltb}
-use lib.ListN.{length, getD, drop, length-append, drop-of-length-le}
-use lib.Seq.{drop-cons}
-use borrow.Author.Tests.{eq-eqb, ne-eqb, eqb-true, eqb-false, le-leb, lt-leb, leb-true, leb-false, lt-ltb, le-ltb, ltb-true, ltb-false}
-use Rattle.names.specs.Bytes.{ascii, slash, same, same-eq, same-refl, equal-same, different, member, and-left, and-right, false-true}
+use lib.ListN.{length, getD, length-append}
+use borrow.Author.Tests.{ne-eqb, eqb-true, eqb-false, le-leb, lt-leb, ltb-true, ltb-false}
+use Rattle.names.specs.Bytes.{slash, same, same-eq, same-refl, different, member, and-left, and-right, false-true}
 use Rattle.names.specs.Path.{root, isPath, components, component-limit}
-use Rattle.names.specs.Prefix.{begins, startsWith, directlyIn, child, childFile}
+use Rattle.names.specs.Prefix.{begins, startsWith, directlyIn}
 use Rattle.names.specs.PathTheorems.{form, followed, equal-prefixes, starts-with-refl}
-use Rattle.names.specs.FolderTheorems.{Plain}
 use Rattle.bundle.specs.Bundle.{Text, Remapping}
-use Rattle.bundle.specs.Limits.{remapping-limit}
-use Rattle.bundle.specs.Form.{Every, IsName}
-use Rattle.bundle.specs.Scan.{text}
-use Rattle.bundle.specs.Decode.{each, after, decode, remappingAt}
-use Rattle.bundle.specs.ListLaws.{each-length}
 use Rattle.bundle.specs.Members.{member-true, mem-member}
-use Rattle.card.specs.Layout.{node-limit, parentAt, markAt, contextAt, targetAt, foldersOf}
-use Rattle.card.specs.Tree.{Tree, ascends, below-is, directly-is}
+use Rattle.card.specs.Layout.{node-limit, parentAt, markAt, foldersOf}
+use Rattle.card.specs.Tree.{Tree, directly-is}
 use Rattle.card.specs.Index.{Looked}
-use Rattle.card.specs.Card.{CardIs, FolderAt, nodesIn, sought, isAt}
-use Rattle.card.specs.Laws.{InFolders, InFiles, in-none, in-folders, in-files, node-folder, node-file, nearest, Nearest, nearest-is, near}
+use Rattle.card.specs.Card.{CardIs, nodesIn, isAt}
+use Rattle.card.specs.Laws.{in-folders, in-files, node-folder, node-file, nearest, Nearest, nearest-is, near}
 use Rattle.card.specs.declared.look.Near.{Near}
 use Rattle.card.specs.declared.look.Near.the-variants as nearby
 use Rattle.resolution.specs.Lists.{Lists}
-use Rattle.resolution.specs.Longest.{only, longer, longest}
-use Rattle.resolution.specs.LongestLaws.{tried-longest}
-use Rattle.resolution.specs.Resolution.{packageRoots, getPackageRoot, applies, remappingFor, Lookup as Resolution·Lookup, found, missing, noPath, buildAndVerifyPath, sameRoot, checkLocalFileImportedAsExternal, to}
+use Rattle.resolution.specs.Resolution.{packageRoots, getPackageRoot, checkLocalFileImportedAsExternal, to}
 use Rattle.resolution.specs.Call.{position, answer}
-use Rattle.resolution.specs.Theorems.{Rooted, rooted, none-rooted, segment-plain, file-plain, position-is, position-small}
-use Rattle.resolution.specs.Indices.{listsIn, pathIn, mapped, Importer, IsFolder, resolvedAt, Listed, located, Tells, noRemapping, remappingIn, chosen, further, CanTake, itselfIn}
-use Rattle.resolution.specs.declared.Choice.{Choice}
+use Rattle.resolution.specs.Theorems.{rooted, none-rooted, position-is, position-small}
+use Rattle.resolution.specs.Indices.{listsIn, pathIn, mapped, IsFolder, resolvedAt, Listed, noRemapping}
 use Rattle.resolution.specs.declared.Choice.the-variants as choice
-use Rattle.resolution.specs.declared.Lookup.{Lookup}
 use Rattle.resolution.specs.declared.Lookup.the-variants as lookup
-use Rattle.resolution.specs.declared.Resolution.{Resolution}
-use Rattle.resolution.specs.declared.Resolution.the-variants.{File, Folder, Refused}
+use Rattle.resolution.specs.declared.Resolution.the-variants.{File, Folder}
 
 -- PREFIXES
 -- a prefix is no longer

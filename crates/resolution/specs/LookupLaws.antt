@@ -6,7 +6,7 @@ use mathlib.Core.Bool.{Bool, true, false, _&&_, _||_, not}
 use mathlib.Core.Path.{_≡_, refl, sym, ap, subst, _∙_}
 use mathlib.Core.List.{List, [], _∷_, _++_}
 use lib.Dec.{eqb, leb}
-use lib.ListN.{length, getD}
+use lib.ListN.{length}
 use borrow.Author.Tests.{eqb-true, eqb-false, leb-true, leb-false}
 use Rattle.names.specs.Bytes.{ascii, same, same-eq, same-refl, member, and-left, and-right}
 use Rattle.names.specs.Prefix.{child, childFile}
@@ -22,10 +22,9 @@ use Rattle.card.specs.Index.{Looked}
 use Rattle.card.specs.Card.{CardIs, nodesIn, sought}
 use Rattle.card.specs.Laws.{in-none, in-folders, in-files}
 use Rattle.resolution.specs.Lists.{Lists}
-use Rattle.resolution.specs.Resolution.{found, missing, isFolder, buildAndVerifyPath}
+use Rattle.resolution.specs.Resolution.{isFolder, buildAndVerifyPath}
 use Rattle.resolution.specs.Theorems.{segment-plain, file-plain, isListed, folder-below, exists-below}
-use Rattle.resolution.specs.Indices.{listsIn, pathIn, IsFolder, isFolderIndex, Listed, located, Tells}
-use Rattle.resolution.specs.CardLaws.{total, folder-listed}
+use Rattle.resolution.specs.Indices.{listsIn, pathIn, IsFolder, isFolderIndex, located, Tells}
 use Rattle.resolution.specs.declared.Lookup.{Lookup}
 use Rattle.resolution.specs.declared.Lookup.the-variants as lookup
 

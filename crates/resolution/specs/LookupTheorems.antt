@@ -10,7 +10,7 @@ use mathlib.Core.Option.{Option, none, some}
 use lib.Dec.{ltb}
 use lib.ListN.{length, getD, drop}
 use borrow.Author.Tests.{ltb-true, ltb-false}
-use Rattle.names.specs.Bytes.{same, member, same-eq, same-refl, false-true, not-true}
+use Rattle.names.specs.Bytes.{member, same-eq, same-refl, false-true, not-true}
 use Rattle.names.specs.Prefix.{startsWith, directlyIn, child, childFile}
 use Rattle.names.specs.Keywords.{isCrate}
 use Rattle.bundle.specs.Bundle.{Text, Remapping}

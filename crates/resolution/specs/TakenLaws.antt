@@ -1,13 +1,13 @@
 -- The remapping that a name takes, over a card: the contexts of one name above a file are compared by "lies below". Assumes nothing.
-use Prim.Native.Nat.{ℕ, suc, _+_, _≤_, _<_}
+use Prim.Native.Nat.{ℕ, _+_, _≤_, _<_}
 use native.Mathlib.Numerals.{add-one}
 use native.Mathlib.Omega.{arith}
 use mathlib.Core.Bool.{Bool, true, false, cond, _&&_, not}
-use mathlib.Core.Option.{Option, none, some}
+use mathlib.Core.Option.{some}
 use mathlib.Core.Path.{_≡_, refl, sym, ap, subst, _∙_}
-use mathlib.Core.List.{List, [], _∷_}
+use mathlib.Core.List.{List}
 use lib.Dec.{leb}
-use lib.ListN.{length, getD, drop, drop-of-length-le}
+use lib.ListN.{length, drop, drop-of-length-le}
 use lib.Seq.{drop-cons}
 use Rattle.names.specs.Bytes.{same, and-left}
 use Rattle.names.specs.Path.{isPath, component-limit}
@@ -22,7 +22,7 @@ use Rattle.resolution.specs.Longest.{only, longer, longest}
 use Rattle.resolution.specs.LongestLaws.{tried-longest, longer-none, longer-assoc}
 use Rattle.resolution.specs.Resolution.{applies, remappingFor}
 use Rattle.resolution.specs.CardLaws.{prefix-order, folder-listed, node-small}
-use Rattle.resolution.specs.Indices.{listsIn, pathIn, Mapped, noRemapping, remappingIn, chosen, further, Within, CanTake}
+use Rattle.resolution.specs.Indices.{listsIn, pathIn, noRemapping, remappingIn, chosen, further, Within, CanTake}
 use Rattle.resolution.specs.declared.Choice.{Choice}
 use Rattle.resolution.specs.declared.Choice.the-variants as choice
 

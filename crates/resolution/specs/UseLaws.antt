@@ -1,5 +1,5 @@
 -- Each way through the code that resolves a use. Assumes nothing.
-use Prim.Native.Nat.{ℕ, suc, _+_, _-_, _≤_, _<_}
+use Prim.Native.Nat.{ℕ, suc, _-_, _≤_, _<_}
 use native.Mathlib.Omega.{arith}
 use mathlib.Core.Bool.{Bool, true, false, cond}
 use mathlib.Core.List.{List, _∷_}
@@ -7,7 +7,7 @@ use mathlib.Core.Option.{none, some}
 use mathlib.Core.Path.{_≡_, refl, sym, ap, subst, _∙_}
 use lib.Dec.{eqb}
 use borrow.Author.Tests.{eqb-true, eqb-false}
-use lib.ListN.{length, getD, List·getD-eq-default}
+use lib.ListN.{length, List·getD-eq-default}
 use Rattle.names.specs.Bytes.{same-eq, member}
 use Rattle.names.specs.Prefix.{directlyIn}
 use Rattle.names.specs.Keywords.{isCrate}
@@ -24,13 +24,13 @@ use Rattle.resolution.specs.Resolution.{getPackageRoot, remappingFor, fo
 use Rattle.resolution.specs.Resolution as rule
 use Rattle.resolution.specs.Call.{answer, resolveIn}
 use Rattle.resolution.specs.CardLaws.{resolved-is}
-use Rattle.resolution.specs.Indices.{listsIn, pathIn, Importer, IsFolder, resolvedAt, Listed, Tells, remappingIn, noRemapping, chosen, CanTake, itselfIn}
+use Rattle.resolution.specs.Indices.{listsIn, pathIn, Importer, IsFolder, resolvedAt, Tells, remappingIn, noRemapping, chosen, CanTake, itselfIn}
 use Rattle.resolution.specs.declared.Choice.{Choice}
 use Rattle.resolution.specs.declared.Choice.the-variants as choice
 use Rattle.resolution.specs.declared.Lookup.{Lookup}
 use Rattle.resolution.specs.declared.Lookup.the-variants as lookup
 use Rattle.resolution.specs.declared.Resolution.{Resolution}
-use Rattle.resolution.specs.declared.Resolution.the-variants.{File, Folder, Refused}
+use Rattle.resolution.specs.declared.Resolution.the-variants.{Refused}
 
 module _ {s c : List ℕ} (C : CardIs s c) where
   abbrev b : Lists

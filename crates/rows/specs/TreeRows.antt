@@ -11,7 +11,7 @@ use lib.Seq.{drop-cons}
 use Rattle.names.specs.declared.Name.{Name}
 use Rattle.scope_tree.specs.Step.{Came, declared, used}
 use Rattle.scope_tree.specs.Flat.{Body, own, copy, Entry, none}
-use Rattle.scope_tree.specs.Rows.{tab, length-tab, getD-tab, isOwn, row, row-at, name-at, came-of, body-of}
+use Rattle.scope_tree.specs.Rows.{length-tab, getD-tab, isOwn, row, name-at, came-of}
 use Rattle.scope_tree.specs.Views.{View, rows, entries-of}
 use Rattle.rows.specs.Written.{put-at, put-inside, written}
 

@@ -6,7 +6,7 @@ use mathlib.Core.Bool.{Bool, true, false, cond, not, _||_, _&&_}
 use mathlib.Core.List.{List, [], _∷_}
 use lib.Dec.{ltb}
 use Rattle.names.specs.declared.Name.{Name}
-use Rattle.scope_tree.specs.Step.{copy-of, declared, used, Elem, Call, enter, exit, alias, enum, function, use′, get-alias, get-function, bad, Answer, ok, marked, refused, Found, missing, got, Model, Tried, done, fail, told-mark, shared, any-main, is-done, number, after, first-told, head, bind, held, full, deep, pass, nav, import, judge, element, stage, use-of, fresh, settle, close, step, run}
+use Rattle.scope_tree.specs.Step.{copy-of, declared, Elem, Call, enter, exit, alias, enum, function, use′, get-alias, get-function, bad, Answer, ok, marked, refused, Found, missing, got, Model, Tried, done, fail, told-mark, shared, any-main, is-done, number, after, first-told, head, bind, held, full, deep, pass, nav, import, judge, element, stage, use-of, fresh, settle, close, step, run}
 use Rattle.scope_tree.specs.Register.{Register, register, first-register, tree-of}
 use Rattle.scope_tree.specs.Flat.{flattened, write}
 use Rattle.scope_tree.specs.Same.{same-answers, same-tree}

@@ -1,11 +1,9 @@
 -- What bounds a walk through the index: a scope, a kind and a name have 382 bits by which it turns, and two of them that agree in all are
 -- one. Assumes nothing.
-use Prim.Native.Nat.{ℕ, zero, suc, _+_, _-_, _*_, _/_, _%_, _^_, _≤_, _<_}
+use Prim.Native.Nat.{ℕ, zero, suc, _+_, _-_, _*_, _/_, _%_, _^_, _<_}
 use native.Mathlib.Omega.{arith}
 use native.Mathlib.Nat.{pow-zero, pow-suc, pow-succ', div-one, div-div-eq-div-mul, div-lt-iff-lt-mul, zero-lt-suc}
-use mathlib.Core.Path.{_≡_, refl, ap, sym, subst, _∙_}
-use mathlib.Core.Bool.{cond}
-use lib.Dec.{ltb}
+use mathlib.Core.Path.{_≡_, ap, sym, subst, _∙_}
 use borrow.Author.Tests.{le-ltb}
 use Rattle.names.specs.declared.Name.{Name}
 use Rattle.scope_tree.specs.Index.{word-at, turn-of, turn, mix}

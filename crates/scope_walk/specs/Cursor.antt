@@ -7,11 +7,11 @@ use mathlib.Core.Path.{_≡_, refl, sym, ap, subst, _∙_}
 use mathlib.Core.List.{List, [], _∷_, _++_, append-assoc}
 use lib.Dec.{eqb, ltb}
 use lib.ListN.{length, getD, set, take, drop, replicate, length-set}
-use lib.Seq.{length-take-le, getD-take, drop-cons, getD-set-same, getD-set-other}
+use lib.Seq.{length-take-le, getD-set-same, getD-set-other}
 use mathlib.Core.Logic.{_⊎_, inl, inr, ⊎-elim}
 use borrow.Author.Tests.{eqb-true, eqb-false, ne-eqb, lt-ltb, le-ltb, ltb-true, ltb-false}
 use Rattle.names.specs.Decimal.{unitName}
-use Rattle.bundle.specs.Bundle.{Text, Items}
+use Rattle.bundle.specs.Bundle.{Text}
 use Rattle.bundle.specs.Limits.{file-size, depth-limit, segment-limit, use-kind, module-kind, ignored-kind}
 use Rattle.bundle.specs.Scan.{byte, text}
 use Rattle.bundle.specs.Stand.{Bytes}

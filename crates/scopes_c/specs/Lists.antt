@@ -7,9 +7,9 @@ use mathlib.Core.Bool.{Bool, true, false, cond}
 use mathlib.Core.List.{List, [], _∷_}
 use mathlib.Core.Logic.{_⊎_, inl, inr}
 use lib.Dec.{eqb, ltb}
-use lib.ListN.{length, getD, set, take, drop, drop-of-length-le, replicate, length-replicate}
+use lib.ListN.{length, getD, take, drop, drop-of-length-le, replicate, length-replicate}
 use lib.Seq.{take-all}
-use borrow.Author.Tests.{eq-eqb, ne-eqb, lt-ltb, le-ltb}
+use borrow.Author.Tests.{ne-eqb, lt-ltb, le-ltb}
 use Rattle.rows.specs.Written.{put-at, written}
 use Rattle.scope_tree.specs.declared.Tree.{Tree}
 use Rattle.scopes_c.specs.declared.Step.{Step}
@@ -23,7 +23,7 @@ use Rattle.scope_tree.specs.Rows.{tab}
 use Rattle.scope_tree.specs.Index.{walked-none}
 use Rattle.scope_tree.specs.Nav.{stack-of}
 use Rattle.scope_tree.specs.Views.{told}
-use Rattle.scope_tree.specs.Trees.{part, cleared, flat-of, Good}
+use Rattle.scope_tree.specs.Trees.{cleared, flat-of, Good}
 use Rattle.scope_tree.specs.Pack.{index-clear, clear-get}
 use Rattle.scopes.specs.Meets.{Meets, Answers, request, declares}
 use Rattle.scopes.specs.Meets as meets

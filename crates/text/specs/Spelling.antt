@@ -3,8 +3,8 @@ use Prim.Native.Nat.{ℕ, zero, suc, _+_, _-_, _/_, _%_, _^_, _<_, _≤_}
 use native.Mathlib.Omega.{arith}
 use mathlib.Core.Path.{_≡_, refl, sym, ap, _∙_}
 use mathlib.Core.List.{List, [], _∷_, _++_, append-assoc, append-nil}
-use lib.ListN.{length, take, drop, length-append, length-take}
-use lib.Seq.{take-all, take-take, take-add, drop-at, length-take-le}
+use lib.ListN.{length, take, drop, length-append}
+use lib.Seq.{take-add, drop-at, length-take-le}
 use borrow.Author.Tests.{eq-eqb, ne-eqb}
 use Rattle.names.specs.Bytes.{ascii}
 use Rattle.names.specs.Decimal.{decimal, unitName}

@@ -4,7 +4,7 @@ use native.Mathlib.Numerals.{add-one}
 use native.Mathlib.Omega.{arith}
 use native.Mathlib.Decide.{decLt}
 use mathlib.Core.Bool.{cond}
-use mathlib.Core.Path.{_≡_, refl, sym, ap, subst, _∙_}
+use mathlib.Core.Path.{_≡_, refl, sym, ap, _∙_}
 use mathlib.Core.List.{List, [], _∷_, _++_, append-assoc, append-nil}
 use lib.Dec.{eqb, ltb}
 use lib.ListN.{length, getD, take, List·getD-eq-default}
@@ -16,7 +16,7 @@ use Rattle.names.specs.declared.Name.{Name}
 use Rattle.text.specs.Words.{Text, line, lines, bytes-of, spelled}
 use Rattle.text.specs.Writing.{Put, put-none, put-then, put-as}
 use Rattle.scope_tree.specs.Flat.{Entry, none}
-use Rattle.scope_tree.specs.Rows.{tab, length-tab, getD-tab, name-at}
+use Rattle.scope_tree.specs.Rows.{length-tab, getD-tab, name-at}
 use Rattle.scope_tree.specs.Views.{View, rows, entries-of}
 use Rattle.tree_lines.specs.Entries.{module-path, has-line, has-lines}
 use Rattle.text.specs.LineLaws.{lines-append}

@@ -1,5 +1,4 @@
 use borrow.Author.Needs.{needs}
-use native.Mathlib.Omega.{arith}
 use Rattle.host.proofs.gontsamy_check.Statement.{statement}
 use Rattle.host.proofs.gontsamy_check.Tie as tie
 use Rattle.host.specs.ResolveTold.{told-ok, told-refused}

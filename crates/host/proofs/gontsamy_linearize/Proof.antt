@@ -1,5 +1,4 @@
 use borrow.Author.Needs.{needs}
-use native.Mathlib.Omega.{arith}
 use Rattle.host.proofs.gontsamy_linearize.Statement.{statement}
 use Rattle.host.proofs.gontsamy_linearize.Tie as tie
 use Rattle.host.specs.GraphTold.{graph-told, graph-refused}

@@ -1,5 +1,4 @@
 use borrow.Author.Needs.{needs}
-use native.Mathlib.Omega.{arith}
 use Rattle.host.proofs.gontsamy_link.Statement.{statement}
 use Rattle.host.proofs.gontsamy_link.Tie as tie
 use Rattle.host.specs.LinkLaws.{short-answer, short-rows, told}

@@ -1,5 +1,4 @@
 use borrow.Author.Needs.{needs}
-use native.Mathlib.Omega.{arith}
 use Rattle.host.proofs.gontsamy_order.Statement.{statement}
 use Rattle.host.proofs.gontsamy_order.Tie as tie
 use Rattle.host.specs.OrderTold.{order-short, order-told}

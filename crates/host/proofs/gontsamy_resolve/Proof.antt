@@ -1,5 +1,4 @@
 use borrow.Author.Needs.{needs}
-use native.Mathlib.Omega.{arith}
 use Rattle.host.proofs.gontsamy_resolve.Statement.{statement}
 use Rattle.host.proofs.gontsamy_resolve.Tie as tie
 use Rattle.host.specs.ResolveTold.{told-file, told-folder, told-fault}

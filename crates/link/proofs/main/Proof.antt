@@ -2,7 +2,6 @@ use Rattle.bundle.specs.Read.{read}
 use Rattle.printing.specs.Lines.{reading-lines}
 use lib.ListN.{take, replicate}
 use Rattle.printing.specs.Sent.{told-counts}
-use native.Mathlib.Omega.{arith}
 use borrow.Author.Needs.{needs}
 use Rattle.link.proofs.main.Statement.{statement}
 use Rattle.link.proofs.main.Tie as tie

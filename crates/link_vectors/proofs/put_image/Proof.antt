@@ -1,7 +1,6 @@
 use Prim.Native.Nat.{_-_}
-use mathlib.Core.Path.{_≡_, refl, _∙_}
+use mathlib.Core.Path.{_≡_}
 use lib.ListN.{length}
-use native.Mathlib.Omega.{arith}
 use borrow.Author.Needs.{needs}
 use Rattle.link_vectors.proofs.put_image.Statement.{statement}
 use Rattle.link_vectors.proofs.put_image.Tie as tie

@@ -1,8 +1,7 @@
 use borrow.Author.Needs.{needs}
-use native.Mathlib.Omega.{arith}
 use Rattle.linker.proofs.link.Statement.{statement}
 use Rattle.linker.proofs.link.Tie as tie
-use mathlib.Core.Path.{_≡_, ap, sym, subst, _∙_}
+use mathlib.Core.Path.{ap, sym, subst, _∙_}
 use denote.Ref.{now}
 use Rattle.scope_tree.specs.declared.Tree.{Tree}
 use Rattle.linker.specs.Call.{LinkTree}

@@ -1,5 +1,4 @@
 use borrow.Author.Needs.{needs}
-use native.Mathlib.Omega.{arith}
 use Rattle.linker.proofs.link_new.Statement.{statement}
 use Rattle.linker.proofs.link_new.Tie as tie
 use denote.Ref.{now}

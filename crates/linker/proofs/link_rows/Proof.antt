@@ -1,5 +1,4 @@
 use borrow.Author.Needs.{needs}
-use native.Mathlib.Omega.{arith}
 use Rattle.linker.proofs.link_rows.Statement.{statement}
 use Rattle.linker.proofs.link_rows.Tie as tie
 use denote.Ref.{now}

@@ -6,11 +6,9 @@ use Rattle.order.proofs.order_known.Tie as tie
 use Prim.Native.Nat.{ℕ}
 use lib.ListN.{length-replicate}
 use Rattle.card.specs.Layout.{card-size}
-use mathlib.Core.Path.{_≡_, sym, _∙_}
+use mathlib.Core.Path.{sym, _∙_}
 use denote.Ref.{now}
 use Rattle.bundle.specs.Stand.{Bytes}
-use Rattle.bundle.specs.Read.{verdict}
-use Rattle.bundle.specs.declared.Checked.the-variants.{Ok}
 use Rattle.order.specs.Join.{turned-back, ready, answered}
 use Rattle.driver.specs.Complete.{carries-all, carries-none}
 

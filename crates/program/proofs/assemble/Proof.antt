@@ -1,8 +1,7 @@
 use borrow.Author.Needs.{needs}
-use native.Mathlib.Omega.{arith}
 use Rattle.program.proofs.assemble.Statement.{statement}
 use Rattle.program.proofs.assemble.Tie as tie
-use mathlib.Core.Path.{_≡_, sym, _∙_}
+use mathlib.Core.Path.{sym, _∙_}
 use denote.Ref.{now}
 use Rattle.discovery.specs.Places.{fresh}
 use Rattle.assembly.specs.GivenLaws.{known-linked}

@@ -1,6 +1,5 @@
 -- `read` meets its contract. Assumes nothing.
 use borrow.Author.Needs.{needs}
-use native.Mathlib.Omega.{arith}
 use Rattle.reader.proofs.read.Statement.{statement}
 use Rattle.reader.proofs.read.Tie as tie
 use mathlib.Core.Path.{sym, _∙_}

@@ -1,5 +1,4 @@
 use borrow.Author.Needs.{needs}
-use native.Mathlib.Omega.{arith}
 use Rattle.scopes.proofs.get.Statement.{statement}
 use Rattle.scopes.proofs.get.Tie as tie
 

@@ -1,7 +1,6 @@
 use borrow.Author.Needs.{needs}
 use Rattle.scopes_c.proofs.after.Statement.{statement}
 use Rattle.scopes_c.proofs.after.Tie as tie
-use native.Mathlib.Omega.{arith}
 use Rattle.scopes_c.specs.Lists.{after-use, after-alias, after-function, after-enter, after-insert, after-other}
 
 byte-requires : tie.Need-byte-requires

@@ -1,5 +1,3 @@
-use borrow.Author.Needs.{needs}
-use native.Mathlib.Omega.{arith}
 use Rattle.scopes_c.proofs.is_call.Statement.{statement}
 use Rattle.scopes_c.proofs.is_call.Tie as tie
 use Rattle.scopes_c.specs.Lists.{call-none, call-some}

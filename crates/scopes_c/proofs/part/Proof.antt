@@ -1,7 +1,6 @@
 use borrow.Author.Needs.{needs}
 use Rattle.scopes_c.proofs.part.Statement.{statement}
 use Rattle.scopes_c.proofs.part.Tie as tie
-use native.Mathlib.Omega.{arith}
 use mathlib.Core.Path.{refl}
 use Rattle.scopes_c.specs.Lists.{part-none, part-some, part-rest}
 

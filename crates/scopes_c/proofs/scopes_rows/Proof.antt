@@ -1,5 +1,4 @@
 use borrow.Author.Needs.{needs}
-use native.Mathlib.Omega.{arith}
 use Rattle.scopes_c.proofs.scopes_rows.Statement.{statement}
 use Rattle.scopes_c.proofs.scopes_rows.Tie as tie
 use mathlib.Core.Path.{ap}

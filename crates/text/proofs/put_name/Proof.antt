@@ -1,5 +1,4 @@
 use Rattle.text.specs.Spelling.{name-put}
-use native.Mathlib.Omega.{arith}
 use borrow.Author.Needs.{needs}
 use Rattle.text.proofs.put_name.Statement.{statement}
 use Rattle.text.proofs.put_name.Tie as tie

@@ -1,5 +1,4 @@
 use Rattle.text.specs.Spelling.{no-put}
-use native.Mathlib.Omega.{arith}
 use borrow.Author.Needs.{needs}
 use Rattle.text.proofs.put_no.Statement.{statement}
 use Rattle.text.proofs.put_no.Tie as tie

@@ -1,8 +1,7 @@
 use denote.Ref.{now}
-use Prim.Native.Nat.{_-_, _≤_}
+use Prim.Native.Nat.{_-_}
 use mathlib.Core.Path.{_≡_}
 use Rattle.tree_lines.specs.Modules.{around-in, around-start, around-next, DepthOf, depth-start, depth-next, depth-root, depth-bound}
-use native.Mathlib.Omega.{arith}
 use borrow.Author.Needs.{needs}
 use Rattle.tree_lines.proofs.depth_of.Statement.{statement}
 use Rattle.tree_lines.proofs.depth_of.Tie as tie

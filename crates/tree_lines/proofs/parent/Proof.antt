@@ -1,7 +1,6 @@
 use denote.Ref.{now}
 use mathlib.Core.Path.{_∙_}
 use Rattle.tree_lines.specs.Modules.{parent-root, parent-there, parent-past}
-use native.Mathlib.Omega.{arith}
 use borrow.Author.Needs.{needs}
 use Rattle.tree_lines.proofs.parent.Statement.{statement}
 use Rattle.tree_lines.proofs.parent.Tie as tie

@@ -4,7 +4,6 @@ use Prim.Native.Nat.{_-_}
 use mathlib.Core.Path.{_≡_}
 use lib.ListN.{length}
 use Rattle.tree_lines.specs.Modules.{EntriesPut, entries-none, entries-one, entries-all}
-use native.Mathlib.Omega.{arith}
 use borrow.Author.Needs.{needs}
 use Rattle.tree_lines.proofs.put_entries.Statement.{statement}
 use Rattle.tree_lines.proofs.put_entries.Tie as tie

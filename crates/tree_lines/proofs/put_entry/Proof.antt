@@ -1,8 +1,6 @@
 use Rattle.scope_tree.specs.Trees.{part}
 use denote.Ref.{now}
-use mathlib.Core.Path.{_≡_}
 use Rattle.tree_lines.specs.Modules.{entry-unit, entry-line}
-use native.Mathlib.Omega.{arith}
 use borrow.Author.Needs.{needs}
 use Rattle.tree_lines.proofs.put_entry.Statement.{statement}
 use Rattle.tree_lines.proofs.put_entry.Tie as tie

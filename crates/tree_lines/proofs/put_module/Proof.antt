@@ -1,7 +1,5 @@
 use denote.Ref.{now}
-use Prim.Native.Nat.{ℕ}
 use mathlib.Core.Path.{_≡_}
-use mathlib.Core.List.{List}
 use lib.ListN.{length}
 use Rattle.tree_lines.specs.Modules.{PathFrom, path-begin, path-next, path-end}
 use native.Mathlib.Omega.{arith}

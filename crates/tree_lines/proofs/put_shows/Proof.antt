@@ -1,5 +1,4 @@
 use Rattle.tree_lines.specs.Modules.{shows-put}
-use native.Mathlib.Omega.{arith}
 use borrow.Author.Needs.{needs}
 use Rattle.tree_lines.proofs.put_shows.Statement.{statement}
 use Rattle.tree_lines.proofs.put_shows.Tie as tie

@@ -1,7 +1,5 @@
 use denote.Ref.{now}
 use Rattle.tree_lines.specs.Modules.{step-past, step-there}
-use mathlib.Core.Path.{_≡_}
-use Prim.Native.Nat.{ℕ}
 use native.Mathlib.Omega.{arith}
 use borrow.Author.Needs.{needs}
 use Rattle.tree_lines.proofs.put_step.Statement.{statement}

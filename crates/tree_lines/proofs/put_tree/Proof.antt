@@ -1,7 +1,6 @@
 use Rattle.scope_tree.specs.Trees.{view}
 use Rattle.scope_tree.specs.Views.{entries-of}
 use Rattle.tree_lines.specs.Modules.{tree-tells}
-use native.Mathlib.Omega.{arith}
 use borrow.Author.Needs.{needs}
 use Rattle.tree_lines.proofs.put_tree.Statement.{statement}
 use Rattle.tree_lines.proofs.put_tree.Tie as tie

@@ -1,5 +1,4 @@
 -- `target_of` meets its contract. Assumes nothing.
-use native.Mathlib.Omega.{arith}
 use Rattle.assembly.specs.Targets.{is-held, entry-small, to-file, to-folder, to-nothing}
 use borrow.Author.Needs.{needs}
 use Rattle.assembly.proofs.targets.target_of.Statement.{statement}

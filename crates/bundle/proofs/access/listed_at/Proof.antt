@@ -1,6 +1,5 @@
 -- `bundle::access::listed_at` meets its contract, way by way. Assumes nothing.
 use borrow.Author.Needs.{needs}
-use native.Mathlib.Omega.{arith}
 use Rattle.bundle.proofs.access.listed_at.Statement.{statement}
 use Rattle.bundle.proofs.access.listed_at.Tie as tie
 

@@ -1,6 +1,4 @@
 -- `bundle::limits::is_defined` meets its contract, way by way. Assumes nothing.
-use borrow.Author.Needs.{needs}
-use native.Mathlib.Omega.{arith}
 use Rattle.bundle.proofs.limits.is_defined.Statement.{statement}
 use Rattle.bundle.proofs.limits.is_defined.Tie as tie
 use borrow.Author.Tests.{le-leb, lt-leb}

@@ -3,7 +3,7 @@ use borrow.Author.Needs.{needs}
 use native.Mathlib.Omega.{arith}
 use Rattle.card.proofs.hash.hash_of.Statement.{statement}
 use Rattle.card.proofs.hash.hash_of.Tie as tie
-use mathlib.Core.Path.{_≡_, refl, sym, _∙_}
+use mathlib.Core.Path.{sym, _∙_}
 use Rattle.card.specs.Card.{hash-one, hash-long}
 
 returns : tie.Need-returns

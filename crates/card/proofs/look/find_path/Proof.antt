@@ -1,9 +1,8 @@
 -- `find_path` meets its contract. Assumes nothing.
-use borrow.Author.Needs.{needs}
 use native.Mathlib.Omega.{arith}
 use Rattle.card.proofs.look.find_path.Statement.{statement}
 use Rattle.card.proofs.look.find_path.Tie as tie
-use Rattle.card.specs.Card.{hash-keyed, up-to-all}
+use Rattle.card.specs.Card.{up-to-all}
 use mathlib.Core.Path.{refl}
 
 find-up-to-requires : tie.Need-find-up-to-requires

@@ -1,6 +1,5 @@
 -- `folder_of` meets its contract. Assumes nothing.
 use borrow.Author.Needs.{needs}
-use native.Mathlib.Omega.{arith}
 use Rattle.card.proofs.look.folder_of.Statement.{statement}
 use Rattle.card.proofs.look.folder_of.Tie as tie
 use Rattle.card.specs.Folders.{folder-root, folder-none, folder-at}

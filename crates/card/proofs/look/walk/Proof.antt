@@ -3,8 +3,7 @@ use borrow.Author.Needs.{needs}
 use native.Mathlib.Omega.{arith}
 use Rattle.card.proofs.look.walk.Statement.{statement}
 use Rattle.card.proofs.look.walk.Tie as tie
-use lib.ListN.{length}
-use Prim.Native.Nat.{ℕ, suc, _%_, _/_}
+use Prim.Native.Nat.{suc, _%_, _/_}
 use Rattle.card.specs.Card.{nodesIn, isUpTo, bucketAt, path-start, path-within, path-end, path-found, path-on}
 use Rattle.card.specs.Index.{Walking}
 use Rattle.card.specs.Layout.{bucket-limit}

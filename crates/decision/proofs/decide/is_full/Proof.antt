@@ -1,5 +1,4 @@
 use borrow.Author.Needs.{needs}
-use native.Mathlib.Omega.{arith}
 use Rattle.decision.proofs.decide.is_full.Statement.{statement}
 use Rattle.decision.proofs.decide.is_full.Tie as tie
 use Rattle.decision.specs.Plan.{full-now, full-later}

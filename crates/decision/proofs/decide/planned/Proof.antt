@@ -1,5 +1,4 @@
 use borrow.Author.Needs.{needs}
-use native.Mathlib.Omega.{arith}
 use Rattle.decision.proofs.decide.planned.Statement.{statement}
 use Rattle.decision.proofs.decide.planned.Tie as tie
 use mathlib.Core.Path.{_∙_}

@@ -1,5 +1,4 @@
 use borrow.Author.Needs.{needs}
-use native.Mathlib.Omega.{arith}
 use Rattle.decision.proofs.decide.started.Statement.{statement}
 use Rattle.decision.proofs.decide.started.Tie as tie
 use Rattle.decision.specs.Starts.{start-bad, start-many, start-deep, start-empty, start-elsewhere, start-on}

@@ -1,5 +1,4 @@
 use borrow.Author.Needs.{needs}
-use native.Mathlib.Omega.{arith}
 use Rattle.decision.proofs.stage.entry_at.Statement.{statement}
 use Rattle.decision.proofs.stage.entry_at.Tie as tie
 use Rattle.scope_tree.specs.BatchLaws.{entry-read}

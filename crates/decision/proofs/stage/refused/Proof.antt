@@ -1,5 +1,3 @@
-use borrow.Author.Needs.{needs}
-use native.Mathlib.Omega.{arith}
 use Rattle.decision.proofs.stage.refused.Statement.{statement}
 use Rattle.decision.proofs.stage.refused.Tie as tie
 use Rattle.scope_tree.specs.BatchLaws.{batch-clear}

@@ -1,5 +1,4 @@
 use borrow.Author.Needs.{needs}
-use native.Mathlib.Omega.{arith}
 use Rattle.decision.proofs.stage.staged_name.Statement.{statement}
 use Rattle.decision.proofs.stage.staged_name.Tie as tie
 use Rattle.scope_tree.specs.BatchLaws.{name-read}

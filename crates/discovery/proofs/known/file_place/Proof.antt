@@ -1,6 +1,5 @@
 -- `file_place` meets its contract. Assumes nothing.
 use borrow.Author.Needs.{needs}
-use native.Mathlib.Omega.{arith}
 use Rattle.discovery.proofs.known.file_place.Statement.{statement}
 use Rattle.discovery.proofs.known.file_place.Tie as tie
 

@@ -1,5 +1,5 @@
 -- `find_use` meets its contract. Assumes nothing.
-use Prim.Native.Nat.{_-_, _≤_}
+use Prim.Native.Nat.{_-_}
 use native.Mathlib.Omega.{arith}
 use Rattle.discovery.specs.Known.{Between, between-all, between-above, between-below, between-one}
 use borrow.Author.Needs.{needs}

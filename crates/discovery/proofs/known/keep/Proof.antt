@@ -1,5 +1,4 @@
 -- `keep` meets its contract. Assumes nothing.
-use native.Mathlib.Omega.{arith}
 use Rattle.discovery.specs.Known.{keeps-one}
 use borrow.Author.Needs.{needs}
 use Rattle.discovery.proofs.known.keep.Statement.{statement}

@@ -1,6 +1,4 @@
 -- `discover_dependencies` meets its contract. Assumes nothing.
-use borrow.Author.Needs.{needs}
-use native.Mathlib.Omega.{arith}
 use Rattle.driver.proofs.turns.discover_dependencies.Statement.{statement}
 use Rattle.driver.proofs.turns.discover_dependencies.Tie as tie
 use Prim.Native.Nat.{ℕ}

@@ -3,9 +3,8 @@ use borrow.Author.Needs.{needs}
 use native.Mathlib.Omega.{arith}
 use Rattle.form.proofs.fields.count_end.Statement.{statement}
 use Rattle.form.proofs.fields.count_end.Tie as tie
-use mathlib.Core.Path.{sym, ap, _∙_}
+use mathlib.Core.Path.{sym}
 use Rattle.bundle.specs.Steps.{count-cut, count-few, count-many, count-passed}
-use Rattle.bundle.specs.declared.Scan.the-variants.{Next}
 
 width-bytes-requires : tie.Need-width-bytes-requires
 width-bytes-requires c κs = search needs

@@ -3,7 +3,7 @@ use borrow.Author.Needs.{needs}
 use native.Mathlib.Omega.{arith}
 use Rattle.form.proofs.items.head_end.Statement.{statement}
 use Rattle.form.proofs.items.head_end.Tie as tie
-use mathlib.Core.Path.{sym, _∙_, ap}
+use mathlib.Core.Path.{sym, _∙_}
 use borrow.Author.Tests.{lt-ltb, le-ltb, le-leb, lt-leb}
 use Rattle.bundle.specs.Steps.{length-next}
 use Rattle.bundle.specs.Scan.{scanHead}

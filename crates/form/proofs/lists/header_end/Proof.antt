@@ -1,6 +1,5 @@
 -- `form::lists::header_end` meets its contract, way by way. Assumes nothing.
 use borrow.Author.Needs.{needs}
-use native.Mathlib.Omega.{arith}
 use Rattle.form.proofs.lists.header_end.Statement.{statement}
 use Rattle.form.proofs.lists.header_end.Tie as tie
 use borrow.Author.Tests.{lt-ltb, le-ltb}

@@ -1,6 +1,5 @@
 -- `form::lists::lists_form` meets its contract, way by way. Assumes nothing.
 use borrow.Author.Needs.{needs}
-use native.Mathlib.Omega.{arith}
 use Rattle.form.proofs.lists.lists_form.Statement.{statement}
 use Rattle.form.proofs.lists.lists_form.Tie as tie
 use mathlib.Core.Path.{sym, ap, _∙_}

@@ -1,5 +1,4 @@
 use borrow.Author.Needs.{needs}
-use native.Mathlib.Omega.{arith}
 use Rattle.host.proofs.tree.gontsamy_exit.Statement.{statement}
 use Rattle.host.proofs.tree.gontsamy_exit.Tie as tie
 use Rattle.host.specs.TreeTold.{tree-told}

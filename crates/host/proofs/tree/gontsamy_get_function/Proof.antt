@@ -1,5 +1,4 @@
 use borrow.Author.Needs.{needs}
-use native.Mathlib.Omega.{arith}
 use Rattle.host.proofs.tree.gontsamy_get_function.Statement.{statement}
 use Rattle.host.proofs.tree.gontsamy_get_function.Tie as tie
 use Rattle.scopes.specs.Declares.{answers-function}

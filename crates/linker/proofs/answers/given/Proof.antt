@@ -1,5 +1,3 @@
-use borrow.Author.Needs.{needs}
-use native.Mathlib.Omega.{arith}
 use Rattle.linker.proofs.answers.given.Statement.{statement}
 use Rattle.linker.proofs.answers.given.Tie as tie
 use Rattle.linker.specs.Join.{record-given, record-made}

@@ -1,10 +1,8 @@
 use borrow.Author.Needs.{needs}
-use native.Mathlib.Omega.{arith}
 use Rattle.linker.proofs.units.tell_units.Statement.{statement}
 use Rattle.linker.proofs.units.tell_units.Tie as tie
-use Prim.Native.Nat.{ℕ, _≤_}
-use mathlib.Core.Path.{_≡_, refl}
-use lib.ListN.{length, take}
+use mathlib.Core.Path.{refl}
+use lib.ListN.{take}
 use Rattle.bundle.specs.Decode.{decode}
 use Rattle.scope_walk.specs.Units.{scoped-as}
 use Rattle.linker.specs.Ends.{told-ended, told-refused, told-rows}

@@ -1,5 +1,4 @@
 use borrow.Author.Needs.{needs}
-use native.Mathlib.Omega.{arith}
 use Rattle.order.proofs.steps.tells.Statement.{statement}
 use Rattle.order.proofs.steps.tells.Tie as tie
 use mathlib.Core.Path.{sym, ap}

@@ -1,7 +1,6 @@
 use denote.Ref.{now}
 use mathlib.Core.Path.{sym, _∙_}
 use Rattle.printing.specs.Reports.{by-ring, by-faults}
-use native.Mathlib.Omega.{arith}
 use borrow.Author.Needs.{needs}
 use Rattle.printing.proofs.report.put_report.Statement.{statement}
 use Rattle.printing.proofs.report.put_report.Tie as tie

@@ -1,5 +1,4 @@
 use Rattle.printing.specs.Reports.{ring-put}
-use native.Mathlib.Omega.{arith}
 use borrow.Author.Needs.{needs}
 use Rattle.printing.proofs.report.put_ring.Statement.{statement}
 use Rattle.printing.proofs.report.put_ring.Tie as tie

@@ -3,7 +3,6 @@ use Prim.Native.Nat.{_-_}
 use mathlib.Core.Path.{_≡_}
 use lib.ListN.{length}
 use Rattle.printing.specs.Units.{UnitsPut, units-none, units-one, units-all}
-use native.Mathlib.Omega.{arith}
 use borrow.Author.Needs.{needs}
 use Rattle.printing.proofs.units.put_list.Statement.{statement}
 use Rattle.printing.proofs.units.put_list.Tie as tie

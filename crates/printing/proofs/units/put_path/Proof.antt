@@ -1,8 +1,6 @@
 use denote.Ref.{now}
 use Rattle.printing.specs.Units.{path-there, path-none}
-use mathlib.Core.Path.{_≡_}
 use Rattle.text.specs.Writing.{put-as}
-use native.Mathlib.Omega.{arith}
 use borrow.Author.Needs.{needs}
 use Rattle.printing.proofs.units.put_path.Statement.{statement}
 use Rattle.printing.proofs.units.put_path.Tie as tie

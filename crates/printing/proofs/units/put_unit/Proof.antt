@@ -1,6 +1,5 @@
 use denote.Ref.{now}
 use Rattle.printing.specs.Units.{unit-put}
-use native.Mathlib.Omega.{arith}
 use borrow.Author.Needs.{needs}
 use Rattle.printing.proofs.units.put_unit.Statement.{statement}
 use Rattle.printing.proofs.units.put_unit.Tie as tie

@@ -1,6 +1,5 @@
 use denote.Ref.{now}
 use Rattle.printing.specs.Units.{ok-put}
-use native.Mathlib.Omega.{arith}
 use borrow.Author.Needs.{needs}
 use Rattle.printing.proofs.units.put_units.Statement.{statement}
 use Rattle.printing.proofs.units.put_units.Tie as tie

@@ -1,5 +1,4 @@
 -- `clear` meets its contract. Assumes nothing.
-use borrow.Author.Needs.{needs}
 use native.Mathlib.Omega.{arith}
 use Rattle.reader.proofs.fill.clear.Statement.{statement}
 use Rattle.reader.proofs.fill.clear.Tie as tie

@@ -1,6 +1,5 @@
 -- `finish` meets its contract. Assumes nothing.
 use borrow.Author.Needs.{needs}
-use native.Mathlib.Omega.{arith}
 use Rattle.reader.proofs.make.finish.Statement.{statement}
 use Rattle.reader.proofs.make.finish.Tie as tie
 use Rattle.reader.specs.Made.{root-bad, root-at-folder, root-good}

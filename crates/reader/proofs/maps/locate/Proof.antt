@@ -1,6 +1,5 @@
 -- `locate` meets its contract. Assumes nothing.
 use borrow.Author.Needs.{needs}
-use native.Mathlib.Omega.{arith}
 use Rattle.reader.proofs.maps.locate.Statement.{statement}
 use Rattle.reader.proofs.maps.locate.Tie as tie
 use Rattle.reader.specs.Mapping.{place-at, place-missing, place-file}

@@ -4,7 +4,7 @@ use native.Mathlib.Omega.{arith}
 use Rattle.resolution.proofs.listing.build_and_verify_path.Statement.{statement}
 use Rattle.resolution.proofs.listing.build_and_verify_path.Tie as tie
 use Prim.Native.Nat.{_-_}
-use mathlib.Core.Path.{refl, sym, subst}
+use mathlib.Core.Path.{sym, subst}
 use mathlib.Core.List.{[], _++_}
 use Rattle.bundle.specs.Bundle.{Text}
 use Rattle.bundle.specs.Form.{IsName}

@@ -1,6 +1,4 @@
 -- `is_folder` meets its contract. Assumes nothing.
-use borrow.Author.Needs.{needs}
-use native.Mathlib.Omega.{arith}
 use Rattle.resolution.proofs.listing.is_folder.Statement.{statement}
 use Rattle.resolution.proofs.listing.is_folder.Tie as tie
 use borrow.Author.Tests.{eq-eqb, ne-eqb}

@@ -1,6 +1,5 @@
 -- `locate` meets its contract. Assumes nothing.
 use borrow.Author.Needs.{needs}
-use native.Mathlib.Omega.{arith}
 use Rattle.resolution.proofs.listing.locate.Statement.{statement}
 use Rattle.resolution.proofs.listing.locate.Tie as tie
 use Rattle.resolution.specs.CardLaws.{folder-listed}

@@ -1,9 +1,7 @@
 -- `remapping_step` meets its contract. Assumes nothing.
-use borrow.Author.Needs.{needs}
 use native.Mathlib.Omega.{arith}
 use Rattle.resolution.proofs.package.remapping_step.Statement.{statement}
 use Rattle.resolution.proofs.package.remapping_step.Tie as tie
-use mathlib.Core.Path.{_≡_}
 
 remapping-applies-requires : tie.Need-remapping-applies-requires
 remapping-applies-requires c κs = ((c .before .before .pre) .0, ((c .before .before .pre) .1 .0, (c .before .before .pre) .1 .1 .0))

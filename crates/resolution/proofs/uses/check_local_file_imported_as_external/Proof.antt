@@ -1,6 +1,5 @@
 -- `check_local_file_imported_as_external` meets its contract. Assumes nothing.
 use borrow.Author.Needs.{needs}
-use native.Mathlib.Omega.{arith}
 use Rattle.resolution.proofs.uses.check_local_file_imported_as_external.Statement.{statement}
 use Rattle.resolution.proofs.uses.check_local_file_imported_as_external.Tie as tie
 use Rattle.resolution.specs.CardLaws.{node-small, own-none, own-other, own-both}

@@ -1,6 +1,4 @@
 -- `itself` meets its contract. Assumes nothing.
-use borrow.Author.Needs.{needs}
-use native.Mathlib.Omega.{arith}
 use Rattle.resolution.proofs.uses.itself.Statement.{statement}
 use Rattle.resolution.proofs.uses.itself.Tie as tie
 use borrow.Author.Tests.{eq-eqb, ne-eqb}

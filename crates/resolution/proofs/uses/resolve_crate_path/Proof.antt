@@ -3,7 +3,7 @@ use borrow.Author.Needs.{needs}
 use native.Mathlib.Omega.{arith}
 use Rattle.resolution.proofs.uses.resolve_crate_path.Statement.{statement}
 use Rattle.resolution.proofs.uses.resolve_crate_path.Tie as tie
-use mathlib.Core.Path.{sym, subst, _∙_}
+use mathlib.Core.Path.{sym, _∙_}
 use Rattle.bundle.specs.ListLaws.{each-length}
 use Rattle.resolution.specs.CardLaws.{node-small, root-none, root-at, root-is-folder, directly}
 use Rattle.resolution.specs.UseLaws.{told-by, no-root, crate-found, crate-nothing}

@@ -3,8 +3,7 @@ use borrow.Author.Needs.{needs}
 use native.Mathlib.Omega.{arith}
 use Rattle.resolution.proofs.uses.resolve_external_path.Statement.{statement}
 use Rattle.resolution.proofs.uses.resolve_external_path.Tie as tie
-use mathlib.Core.Path.{sym, subst, _∙_}
-use Rattle.resolution.specs.Indices.{Tells}
+use mathlib.Core.Path.{sym, _∙_}
 use Rattle.resolution.specs.UseLaws.{told-by, external-nothing, external-own, external-found}
 
 build-and-verify-path-requires : tie.Need-build-and-verify-path-requires

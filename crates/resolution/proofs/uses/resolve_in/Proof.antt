@@ -3,10 +3,8 @@ use borrow.Author.Needs.{needs}
 use native.Mathlib.Omega.{arith}
 use Rattle.resolution.proofs.uses.resolve_in.Statement.{statement}
 use Rattle.resolution.proofs.uses.resolve_in.Tie as tie
-use mathlib.Core.Path.{sym, ap, subst, _∙_}
-use mathlib.Core.List.{List}
+use mathlib.Core.Path.{sym, ap, subst}
 use Prim.Native.Nat.{ℕ}
-use Rattle.bundle.specs.Bundle.{Text}
 use Rattle.bundle.specs.Form.{Every, IsName}
 use Rattle.bundle.specs.Scan.{text}
 use Rattle.bundle.specs.Decode.{each, after}

@@ -3,7 +3,6 @@ use borrow.Author.Needs.{needs}
 use native.Mathlib.Omega.{arith}
 use Rattle.resolution.proofs.uses.resolve_path_internal.Statement.{statement}
 use Rattle.resolution.proofs.uses.resolve_path_internal.Tie as tie
-use mathlib.Core.Path.{sym}
 use Rattle.resolution.specs.UseLaws.{use-empty, rest-named, use-crate, use-unknown, use-external, none-chosen, one-chosen, chosen-listed, target-path}
 use Rattle.resolution.specs.Indices.{listsIn, pathIn}
 

@@ -1,6 +1,5 @@
 -- `resolved` meets its contract. Assumes nothing.
 use borrow.Author.Needs.{needs}
-use native.Mathlib.Omega.{arith}
 use Rattle.resolution.proofs.uses.resolved.Statement.{statement}
 use Rattle.resolution.proofs.uses.resolved.Tie as tie
 use borrow.Author.Tests.{lt-ltb, le-ltb}

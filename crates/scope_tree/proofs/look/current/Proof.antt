@@ -1,5 +1,4 @@
 use borrow.Author.Needs.{needs}
-use native.Mathlib.Omega.{arith}
 use Rattle.scope_tree.proofs.look.current.Statement.{statement}
 use Rattle.scope_tree.proofs.look.current.Tie as tie
 use borrow.Author.Tests.{eq-eqb}

@@ -1,4 +1,3 @@
-use borrow.Author.Needs.{needs}
 use native.Mathlib.Omega.{arith}
 use Rattle.scope_tree.proofs.look.halves.Statement.{statement}
 use Rattle.scope_tree.proofs.look.halves.Tie as tie

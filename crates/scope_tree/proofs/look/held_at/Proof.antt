@@ -1,5 +1,4 @@
 use borrow.Author.Needs.{needs}
-use native.Mathlib.Omega.{arith}
 use Rattle.scope_tree.proofs.look.held_at.Statement.{statement}
 use Rattle.scope_tree.proofs.look.held_at.Tie as tie
 use Rattle.scope_tree.specs.Pack.{via-place, index-get}

@@ -1,5 +1,4 @@
 use borrow.Author.Needs.{needs}
-use native.Mathlib.Omega.{arith}
 use Rattle.scope_tree.proofs.look.inside.Statement.{statement}
 use Rattle.scope_tree.proofs.look.inside.Tie as tie
 use mathlib.Core.Path.{sym, _∙_}

@@ -1,5 +1,3 @@
-use borrow.Author.Needs.{needs}
-use native.Mathlib.Omega.{arith}
 use Rattle.scope_tree.proofs.look.is_own.Statement.{statement}
 use Rattle.scope_tree.proofs.look.is_own.Tie as tie
 use borrow.Author.Tests.{eq-eqb, ne-eqb}

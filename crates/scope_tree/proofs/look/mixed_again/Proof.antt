@@ -1,5 +1,4 @@
 use borrow.Author.Needs.{needs}
-use native.Mathlib.Omega.{arith}
 use Rattle.scope_tree.proofs.look.mixed_again.Statement.{statement}
 use Rattle.scope_tree.proofs.look.mixed_again.Tie as tie
 use Rattle.scope_tree.specs.Index.{mix-again}

@@ -1,5 +1,4 @@
 use borrow.Author.Needs.{needs}
-use native.Mathlib.Omega.{arith}
 use Rattle.scope_tree.proofs.look.turn.Statement.{statement}
 use Rattle.scope_tree.proofs.look.turn.Tie as tie
 use Rattle.scope_tree.specs.Index.{turn-mix, turn-again, turn-word}

@@ -1,5 +1,4 @@
 use borrow.Author.Needs.{needs}
-use native.Mathlib.Omega.{arith}
 use Rattle.scope_tree.proofs.look.word_at.Statement.{statement}
 use Rattle.scope_tree.proofs.look.word_at.Tie as tie
 use Rattle.scope_tree.specs.Index.{word-0, word-1, word-2, word-3, word-4}

@@ -1,7 +1,6 @@
 use Prim.Native.Nat.{ℕ, suc, _+_, _-_}
 use native.Mathlib.Omega.{arith}
-use mathlib.Core.Bool.{false}
-use mathlib.Core.Path.{_≡_, ap, sym, subst}
+use mathlib.Core.Path.{_≡_, sym, subst}
 use Rattle.scope_walk.specs.Cursor.{first-inside, Yields, standing-small, out-small, standing-room, yields-out, yields-item, yields-in}
 use Rattle.scope_walk.specs.declared.cursor.Step.the-variants as step
 use borrow.Author.Needs.{needs}

@@ -1,5 +1,4 @@
 use Prim.Native.Nat.{_-_}
-use native.Mathlib.Omega.{arith}
 use Rattle.scope_walk.specs.Cursor.{Passed, passed-none, passed-more, past-here, past-end}
 use borrow.Author.Needs.{needs}
 use Rattle.scope_walk.proofs.cursor.past_ignored.Statement.{statement}

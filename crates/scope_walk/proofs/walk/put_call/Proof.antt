@@ -1,5 +1,5 @@
 use native.Mathlib.Omega.{arith}
-use mathlib.Core.Path.{_≡_, ap, _∙_}
+use mathlib.Core.Path.{ap, _∙_}
 use Rattle.names.specs.Decimal.{unitName}
 use Rattle.bundle.specs.Decode.{decode}
 use Rattle.bundle.specs.Encode.{string}

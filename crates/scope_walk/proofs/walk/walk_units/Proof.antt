@@ -2,15 +2,13 @@ use borrow.Author.Needs.{needs}
 use native.Mathlib.Omega.{arith}
 use Rattle.scope_walk.proofs.walk.walk_units.Statement.{statement}
 use Rattle.scope_walk.proofs.walk.walk_units.Tie as tie
-use Prim.Native.Nat.{ℕ, _≤_}
-use mathlib.Core.Path.{_≡_, refl, sym, ap, _∙_}
+use Prim.Native.Nat.{ℕ}
+use mathlib.Core.Path.{_≡_, refl, _∙_}
 use mathlib.Core.List.{[]}
 use lib.Dec.{eqb}
-use lib.ListN.{length, take, length-replicate}
-use Rattle.bundle.specs.Decode.{decode}
+use lib.ListN.{length, length-replicate}
 use Rattle.scope_tree.specs.Trees.{packed-in}
 use Rattle.scope_walk.specs.Steps.{use-size, meets-request}
-use Rattle.scope_walk.specs.Units.{scoped-as}
 use Rattle.scope_walk.specs.Cursor.{taken-bytes}
 use Rattle.scope_walk.specs.Loop.{Walking, walking-from, turns, ready-as, turns-fall, walking-call, turns-end, walking-end}
 use Rattle.scope_walk.specs.declared.cursor.Step.the-variants as step

@@ -1,5 +1,4 @@
 use borrow.Author.Needs.{needs}
-use native.Mathlib.Omega.{arith}
 use Rattle.scopes.proofs.lent.add.Statement.{statement}
 use Rattle.scopes.proofs.lent.add.Tie as tie
 use Rattle.scope_tree.specs.Pack.{added-all}

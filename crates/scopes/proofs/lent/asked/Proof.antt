@@ -1,5 +1,3 @@
-use borrow.Author.Needs.{needs}
-use native.Mathlib.Omega.{arith}
 use Rattle.scopes.proofs.lent.asked.Statement.{statement}
 use Rattle.scopes.proofs.lent.asked.Tie as tie
 use borrow.Author.Tests.{eq-eqb, ne-eqb}

@@ -1,5 +1,4 @@
 use borrow.Author.Needs.{needs}
-use native.Mathlib.Omega.{arith}
 use Rattle.scopes.proofs.lent.call.Statement.{statement}
 use Rattle.scopes.proofs.lent.call.Tie as tie
 use mathlib.Core.List.{[]}

@@ -1,4 +1,3 @@
-use borrow.Author.Needs.{needs}
 use native.Mathlib.Omega.{arith}
 use Rattle.scopes.proofs.lent.commit.Statement.{statement}
 use Rattle.scopes.proofs.lent.commit.Tie as tie

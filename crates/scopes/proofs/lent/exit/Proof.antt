@@ -1,5 +1,4 @@
 use borrow.Author.Needs.{needs}
-use native.Mathlib.Omega.{arith}
 use Rattle.scopes.proofs.lent.exit.Statement.{statement}
 use Rattle.scopes.proofs.lent.exit.Tie as tie
 use Rattle.scopes.specs.Declares.{leave-root, leave-module}

@@ -1,5 +1,3 @@
-use borrow.Author.Needs.{needs}
-use native.Mathlib.Omega.{arith}
 use Rattle.scopes.proofs.lent.kind_of.Statement.{statement}
 use Rattle.scopes.proofs.lent.kind_of.Tie as tie
 use borrow.Author.Tests.{eq-eqb, ne-eqb}

@@ -1,7 +1,6 @@
 use denote.Ref.{now}
 use mathlib.Core.Path.{sym}
 use lib.ListN.{List·getD-eq-default}
-use native.Mathlib.Omega.{arith}
 use borrow.Author.Needs.{needs}
 use Rattle.text.proofs.read.word.Statement.{statement}
 use Rattle.text.proofs.read.word.Tie as tie
