@@ -1,6 +1,6 @@
 use borrow.Author.Needs.{needs}
-use Rattle.scopes.proofs.lent.add.Statement.{statement}
-use Rattle.scopes.proofs.lent.add.Tie as tie
+use Rattle.commit.proofs.add.Statement.{statement}
+use Rattle.commit.proofs.add.Tie as tie
 use Rattle.scope_tree.specs.Pack.{added-all}
 
 free-slot-requires : tie.Need-free-slot-requires

@@ -1,7 +1,7 @@
 use borrow.Author.Needs.{needs}
 use native.Mathlib.Omega.{arith}
-use Rattle.scopes.proofs.lent.put_opened.Statement.{statement}
-use Rattle.scopes.proofs.lent.put_opened.Tie as tie
+use Rattle.commit.proofs.put_opened.Statement.{statement}
+use Rattle.commit.proofs.put_opened.Tie as tie
 use Rattle.scope_tree.specs.Pack.{doors-open, doors-shut}
 
 element-copy-out-wide : tie.Need-element-copy-out-wide

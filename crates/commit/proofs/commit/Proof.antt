@@ -1,12 +1,12 @@
 use native.Mathlib.Omega.{arith}
-use Rattle.scopes.proofs.lent.commit.Statement.{statement}
-use Rattle.scopes.proofs.lent.commit.Tie as tie
+use Rattle.commit.proofs.commit.Statement.{statement}
+use Rattle.commit.proofs.commit.Tie as tie
 use Prim.Native.Nat.{ℕ, _-_}
 use mathlib.Core.Path.{_≡_, ap}
 use Rattle.scope_tree.specs.declared.Entry.{Entry}
 use Rattle.scope_tree.specs.Trees.{packed-in}
 use Rattle.scope_tree.specs.Batches.{staged-of}
-use Rattle.scopes.specs.Commits.{Filling, filling-start, filling-turn, filling-end}
+use Rattle.commit.specs.Filled.{Filling, filling-start, filling-turn, filling-end}
 
 abbrev Inv-loop : tie.InvT-loop
 Inv-loop opened₀ cells₀ visible₀ scopes₀ marks₀ n0₀ n1₀ n2₀ n3₀ first scope public staged i₀ opened cells visible scopes marks n0 n1 n2 n3 i = Filling first (packed-in opened₀ cells₀ visible₀ scopes₀ marks₀ n0₀ n1₀ n2₀ n3₀) (staged-of staged) scope public (packed-in opened cells visible scopes marks n0 n1 n2 n3) i

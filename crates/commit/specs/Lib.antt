@@ -1,0 +1,2 @@
+-- DEFINITIONS: the tree that a commit leaves, with its laws
+pub mod Filled
