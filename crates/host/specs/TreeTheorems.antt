@@ -9,7 +9,7 @@ use Rattle.scope_tree.specs.Flat.{Flat, flat, flattened}
 use Rattle.scope_tree.specs.Form.{Request, call-of, calls-of}
 use Rattle.scope_tree.specs.Trees.{cleared, Good, flat-of}
 use Rattle.scopes.specs.Runs.{first-is, first-good}
-use Rattle.register.specs.Demand.{Demand, demand}
+use Rattle.scopes.specs.Demand.{Demand, demand}
 use Rattle.host.specs.TreeTold.{numberOf, TreeTold, FoundTold}
 
 -- the tree u and the numbers that the calls qs, made one after another from the tree t, leave

@@ -17,7 +17,7 @@ use Rattle.scope_tree.specs.Step.{Answer, ok, marked, refused, Model, step, run
 use Rattle.scope_tree.specs.Flat.{Flat, flat, first-flat, flattened}
 use Rattle.scope_tree.specs.Form.{Request, call-of, calls-of}
 use Rattle.scope_tree.specs.Note.{accepted}
-use Rattle.register.specs.Demand.{Demand, demand}
+use Rattle.scopes.specs.Demand.{Demand, demand}
 use Rattle.assembly.specs.Assemble.{linearizeAndAssemble}
 use Rattle.assembly.specs.Assemble as assembly
 use Rattle.assembly.specs.Theorems.{Assembled, assembly-read, Program, program-only, FaultsMet}

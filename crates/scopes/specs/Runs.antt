@@ -19,7 +19,7 @@ use Rattle.scope_tree.specs.Views as views
 use Rattle.scope_tree.specs.Trees.{cleared, Good, flat-of}
 use Rattle.scope_tree.specs.Pack.{cleared-view, clear-get}
 use Rattle.scopes.specs.Meets.{Meets, Answers}
-use Rattle.register.specs.Demand.{Demand, demand}
+use Rattle.scopes.specs.Demand.{Demand, demand}
 
 -- the tree u and the answers that the calls qs, made one after another from the tree t, leave: each call, by value or over lent arrays,
 -- meets its contract
