@@ -5,6 +5,7 @@ mod segments;
 
 pub use bytes::put;
 pub use bytes::put_head;
+pub use bytes::put_string;
 pub use bytes::put_strings;
 pub use bytes::put_two;
 pub use bytes::strings_end;

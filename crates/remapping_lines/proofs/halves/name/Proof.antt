@@ -1,0 +1,28 @@
+use borrow.Author.Needs.{needs}
+use native.Mathlib.Omega.{arith}
+use Rattle.remapping_lines.proofs.halves.name.Statement.{statement}
+use Rattle.remapping_lines.proofs.halves.name.Tie as tie
+use mathlib.Core.Path.{_≡_, sym, ap, _∙_}
+use Rattle.names.specs.Bytes.{rest-is}
+use Rattle.remapping_lines.specs.Splitting.{name-is}
+
+name-place-requires : tie.Need-name-place-requires
+name-place-requires c κs = search needs
+
+sub-without-slash : tie.Need-sub-without-slash
+sub-without-slash c = search needs
+
+part-without-slash-start : tie.Need-part-without-slash-start
+part-without-slash-start c = search needs
+
+part-without-slash-end : tie.Need-part-without-slash-end
+part-without-slash-end c = search needs
+
+without-slash-requires : tie.Need-without-slash-requires
+without-slash-requires c κs = search needs
+
+returns : tie.Need-returns
+returns c = (c .without-slash) .ensures ∙ name-is ((c .before .before .before .before .args) .left .now) ((c .before .before .name-place) .result) ((c .before .before .name-place) .ensures .0)
+
+pub name-spec : {M : Type 1} → statement M
+name-spec = tie.close (tie.spec name-place-requires sub-without-slash part-without-slash-start part-without-slash-end without-slash-requires returns)
