@@ -4,6 +4,7 @@ pub mod OrderTold
 pub mod GraphTold
 pub mod LinkTold
 pub mod TreeTold
+pub mod RemappingsTold
 -- THEOREMS to cite
 pub mod Theorems
 pub mod TreeTheorems

@@ -8,6 +8,9 @@ ghost use Rattle.host.specs.GraphTold.{graphOf, orderedTold, countTold};
 ghost use Rattle.host.specs.LinkTold.{answerOf, numberTold, reportTold, imageTold, answerTold, rowsTold};
 ghost use Rattle.graph.specs.Given.{linearizeGiven};
 ghost use Rattle.resolution.specs.Call.{resolve};
+ghost use Rattle.remapping_lines.specs.Lines.{linesAnswer, linesBuffer};
+ghost use Rattle.host.specs.RemappingsTold.{linesNumber, linesTold};
+ghost use lib.ListN.{length as ListN·length};
 use graph::Graph;
 use order::Answer;
 
@@ -65,6 +68,28 @@ pub extern "C" fn gontsamy_check(s: &[u8], place: &mut usize) -> u8
         bundle::Checked::Ok => 0,
         bundle::Checked::Refused(n, p) => {
             *place = p;
+            n
+        }
+    }
+}
+
+// Reads a remapping list, `context:prefix=target` one to a line, into a version 1 remapping section at the start of `out`: 0, with the
+// section's length in `told`; or 3, 4, 12, 14 or 52, with its place in the list in `told`, and `out` as it was. Ruled out: `/b` as target
+// of `a=/b=c`; a byte of `out` changed where the number is not 0.
+#[no_mangle]
+pub extern "C" fn gontsamy_remappings(list: &[u8], out: &mut [u8], told: &mut usize) -> u8
+    ensures { λ r. ⌜ r ≡ linesNumber (linesAnswer (now (list .entry)) (ListN·length (now (out .entry)))) ⌝ }
+    ensures { λ r. ⌜ now (out .exit) ≡ linesBuffer (now (list .entry)) (now (out .entry)) ⌝ }
+    ensures { λ r. ⌜ now (told .exit) ≡ linesTold (linesAnswer (now (list .entry)) (ListN·length (now (out .entry)))) ⌝ }
+{
+    let lines = remapping_lines::read_lines(list, out);
+    match lines {
+        remapping_lines::Lines::Section(n) => {
+            *told = n;
+            0
+        }
+        remapping_lines::Lines::Refused(n, p) => {
+            *told = p;
             n
         }
     }
