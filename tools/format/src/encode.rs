@@ -1,7 +1,7 @@
 //! Bundles, images and the items that both hold, written. Forms and limits are not tested here:
 //! only what does not fit its field is an error. Stored marks and offsets are not looked at.
 
-use crate::{limits, Body, Bundle, File, Item};
+use crate::{limits, Body, Bundle, File, Item, Remapping};
 
 /// Bytes, and where each field of them begins: every string and every item, in the order written.
 #[derive(Default)]
@@ -23,11 +23,7 @@ impl Bundle {
             list("folders", &self.folders, out, |folder, out| {
                 string(folder, out)
             })?;
-            list("remappings", &self.remappings, out, |remapping, out| {
-                string(&remapping.context, out)?;
-                string(&remapping.name, out)?;
-                string(&remapping.target, out)
-            })?;
+            remappings(&self.remappings, out)?;
             list("files", &self.files, out, file)
         })?;
         Ok((out.bytes, out.fields))
@@ -37,6 +33,11 @@ impl Bundle {
 /// The image of the units, which are private modules.
 pub fn image(units: &[Item]) -> Result<Vec<u8>, String> {
     Ok(versioned(|out| units.iter().try_for_each(|unit| item(unit, out)))?.bytes)
+}
+
+/// The count of the remappings, and the remappings.
+pub fn encode_remappings(all: &[Remapping], out: &mut Vec<u8>) -> Result<(), String> {
+    append(out, |out| remappings(all, out))
 }
 
 /// A file's path, the length of its items, and the items.
@@ -57,6 +58,14 @@ fn append(
     write(&mut out)?;
     bytes.extend(out.bytes);
     Ok(())
+}
+
+fn remappings(remappings: &[Remapping], out: &mut Writer) -> Result<(), String> {
+    list("remappings", remappings, out, |remapping, out| {
+        string(&remapping.context, out)?;
+        string(&remapping.name, out)?;
+        string(&remapping.target, out)
+    })
 }
 
 fn file(file: &File, out: &mut Writer) -> Result<(), String> {

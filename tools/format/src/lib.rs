@@ -1,4 +1,4 @@
-//! Policy bundles: their bytes read, checked and written.
+//! Policy bundles: their bytes read, checked and written; and the lines that a remapping section is read from.
 //!
 //! Written from docs/SPECIFICATION.md alone. A place is an offset in the bundle; a string's place is that
 //! of its length byte.
@@ -8,9 +8,10 @@ mod decode;
 mod encode;
 pub mod forms;
 pub mod limits;
+pub mod remapping_lines;
 
 pub use decode::decode_use;
-pub use encode::{encode_file, encode_item, image};
+pub use encode::{encode_file, encode_item, encode_remappings, image};
 
 #[derive(Clone, Debug, Default, PartialEq, Eq)]
 pub struct Bundle {

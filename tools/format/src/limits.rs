@@ -19,6 +19,11 @@ pub const ELEMENTS: usize = 32;
 /// An inline module directly in a file has depth 1.
 pub const DEPTH: usize = 8;
 
+/// Bytes of a string, and so of a remapping's name.
+pub const STRING: usize = 255;
+/// Bytes of a remapping section: a count, then three strings of each.
+pub const SECTION: usize = 1 + REMAPPINGS * 3 * (1 + STRING);
+
 /// Bytes of a component and of an identifier.
 pub const NAME: usize = 32;
 /// Components of a path.
