@@ -1,9 +1,10 @@
-//! A deterministic stream of bundles. The bundle of a seed and an index does not depend on those
+//! A deterministic stream of bundles, and one of remapping lists. The bundle of a seed and an index does not depend on those
 //! before it.
 
 mod cases;
 mod clashes;
 mod families;
+pub mod lines;
 pub mod link;
 pub mod lookup;
 mod project;
