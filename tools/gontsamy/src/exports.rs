@@ -82,6 +82,13 @@ extern "C" {
         answer_length: usize,
     ) -> u8;
     fn gontsamy_check(bundle: *const u8, bundle_length: usize, place: *mut usize) -> u8;
+    fn gontsamy_remappings(
+        list: *const u8,
+        list_length: usize,
+        out: *mut u8,
+        out_length: usize,
+        told: *mut usize,
+    ) -> u8;
     fn gontsamy_resolve(
         bundle: *const u8,
         bundle_length: usize,
@@ -148,6 +155,12 @@ pub fn order(bundle: &[u8], report: &mut [u8], answer: &mut [usize]) -> u8 {
 pub fn check(bundle: &[u8], place: &mut usize) -> u8 {
     // SAFETY: as above.
     unsafe { gontsamy_check(bundle.as_ptr(), bundle.len(), place) }
+}
+
+/// `gontsamy_remappings`.
+pub fn remappings(list: &[u8], out: &mut [u8], told: &mut usize) -> u8 {
+    // SAFETY: as above.
+    unsafe { gontsamy_remappings(list.as_ptr(), list.len(), out.as_mut_ptr(), out.len(), told) }
 }
 
 /// What `gontsamy_resolve` tells beside its number; what it does not tell stays.
