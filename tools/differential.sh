@@ -25,6 +25,7 @@ trap 'rm -rf "$work"' EXIT
 "$bin/differ" clashes "$seed" "$((count / 30 + 1))"
 "$bin/differ" order "$seed" "$count"
 "$bin/differ" assemble "$seed" "$count"
+"$bin/differ" lines "$seed" "$count"
 "$bin/scopes-diff" "$seed" "$count"
 
 # The whole run: every printed line, and the image; then the same of bundles that reach to the limits.

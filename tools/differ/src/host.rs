@@ -3,7 +3,7 @@
 use gontsamy::exports::{self, Found};
 use gontsamy::layout::{
     ANSWER, ANSWER_ENTRIES, ANSWER_FILES, ANSWER_IDS, ANSWER_IMAGE, ANSWER_PLACE, ANSWER_REPORT,
-    ANSWER_UNITS, FILES,
+    ANSWER_UNITS, FILES, IMAGE, REPORT, ROWS,
 };
 
 use crate::order::Told;
@@ -16,6 +16,48 @@ pub fn check(bundle: &[u8]) -> (u8, usize) {
     let mut place = UNTOLD;
     let number = exports::check(bundle, &mut place);
     (number, place)
+}
+
+/// 0 and the length of the section at the start of `out`; or a number and its place.
+pub fn remappings(list: &[u8], out: &mut [u8]) -> (u8, usize) {
+    let mut told = UNTOLD;
+    let number = exports::remappings(list, out, &mut told);
+    (number, told)
+}
+
+/// What a link returns, and what it leaves in buffers that hold every answer.
+#[derive(PartialEq, Eq)]
+pub struct Linked {
+    number: u8,
+    report: Vec<u8>,
+    image: Vec<u8>,
+    answer: Vec<usize>,
+    rows: Vec<u64>,
+}
+
+impl Linked {
+    /// Whether it is a linked program, no refusal and no report.
+    pub fn is_program(&self) -> bool {
+        self.number == 0 && self.answer[ANSWER_REPORT] == 0
+    }
+}
+
+pub fn link(bundle: &[u8]) -> Linked {
+    let mut linked = Linked {
+        number: 0,
+        report: vec![0; REPORT],
+        image: vec![0; IMAGE],
+        answer: vec![UNTOLD; ANSWER],
+        rows: vec![0; ROWS],
+    };
+    linked.number = exports::link(
+        bundle,
+        &mut linked.report,
+        &mut linked.image,
+        &mut linked.answer,
+        &mut linked.rows,
+    );
+    linked
 }
 
 /// 0 with a file's index or `FOLDER` with a folder's, and how many segments are left; or a number and its place. What is not told is

@@ -5,6 +5,7 @@
 mod assemble;
 mod bundles;
 mod host;
+mod lines;
 mod names;
 mod order;
 mod steps;
@@ -83,6 +84,10 @@ fn main() -> std::process::ExitCode {
             Some(times) => order::measure(shape, who, times),
             _ => return usage(),
         },
+        ["lines", seed, count] => match (number(seed), number(count)) {
+            (Some(seed), Some(count)) => lines::compare(seed, count),
+            _ => return usage(),
+        },
         ["names", seed, count] => match (number(seed), number(count)) {
             (Some(seed), Some(count)) => names::compare(seed, count),
             _ => return usage(),
@@ -117,6 +122,7 @@ fn usage() -> std::process::ExitCode {
          \x20      differ order-sample FORM LENGTH  stored bundles and answers; FORM is lists or order\n\
          \x20      differ assemble SEED COUNT   steps 1 to 5 and the image of generated bundles\n\
          \x20      differ assemble-sample LENGTH  the files stdin and stdout of crates/assembly_vectors\n\
+         \x20      differ lines SEED COUNT      remapping lists, every short one too, and their sections in bundles\n\
          \x20      differ names SEED COUNT      prefixes and keywords\n\
          \x20      differ measure WHICH WHO TIMES   WHICH is largest, alike or middle, WHO port or tools: checks\n\
          \x20      differ measure names WHO TIMES   WHO is port or original: prefixes and keywords\n\
