@@ -17,13 +17,14 @@ extern "C" {
 #endif
 
 /* Limits. */
-#define GONTSAMY_FILES 64      /* files of a bundle, and so units of a program */
-#define GONTSAMY_ENTRIES 1024  /* entries of a tree */
-#define GONTSAMY_BUNDLE 65538  /* bytes of the longest bundle */
-#define GONTSAMY_REPORT 4096   /* bytes that hold every report */
-#define GONTSAMY_IMAGE 65538   /* bytes that hold every image */
-#define GONTSAMY_UNITS 64      /* units of a graph given directly */
-#define GONTSAMY_IDS 256       /* ids in all of its lists */
+#define GONTSAMY_FILES 64         /* files of a bundle, and so units of a program */
+#define GONTSAMY_ENTRIES 1024     /* entries of a tree */
+#define GONTSAMY_BUNDLE 65538     /* bytes of the longest bundle */
+#define GONTSAMY_REPORT 4096      /* bytes that hold every report */
+#define GONTSAMY_IMAGE 65538      /* bytes that hold every image */
+#define GONTSAMY_REMAPPINGS 24577 /* bytes that hold every remapping section */
+#define GONTSAMY_UNITS 64         /* units of a graph given directly */
+#define GONTSAMY_IDS 256          /* ids in all of its lists */
 
 /* An answer of gontsamy_link and gontsamy_order, number by number. */
 #define GONTSAMY_ANSWER_PLACE 0    /* the place of a refusal */
@@ -65,6 +66,22 @@ uint8_t gontsamy_link(const uint8_t *bundle, size_t bundle_length,
 
 /* Tests a bundle by the numbers 1 to 13 alone: 0, and `place` is as it was; or a number, with its place in `place`. */
 uint8_t gontsamy_check(const uint8_t *bundle, size_t bundle_length, size_t *place);
+
+/* Reads a remapping list, lines `context:name=target` or `name=target`, into the remapping section of a bundle: a count byte, then of
+ * each line with content, in their order, the strings context, name and target. docs/SPECIFICATION.md 10 has the form of a line.
+ *
+ * Returns 0: the section stands at the start of `out`, its length in `told`, and bytes of `out` past it are as they were. Or returns a
+ * number, with its place in `told`, an offset in the list, and all of `out` is as it was:
+ * - GONTSAMY_TOO_MANY: 32 lines with content came before this one; the place is its first byte;
+ * - GONTSAMY_BAD_LINE: a line has no `=`; its first byte;
+ * - GONTSAMY_BAD_PATH: a context is no path; the line's first byte. Or a target is none; the byte after the `=`;
+ * - GONTSAMY_ODD_NAME: a name is over 255 bytes; the name's first byte;
+ * - GONTSAMY_SMALL_BUFFER: the list is good and its section longer than `out`; 0. GONTSAMY_REMAPPINGS bytes always suffice.
+ *
+ * Names that are no identifiers, lines of the same context and name, and paths that are listed nowhere are written: the call that takes
+ * the bundle refuses them. */
+uint8_t gontsamy_remappings(const uint8_t *list, size_t list_length,
+                            uint8_t *out, size_t out_length, size_t *told);
 
 /* Resolves a use of a listed file: 0 for a file and GONTSAMY_FOLDER for a folder, with its place among the bundle's files or folders in
  * `index` and the number of segments left in `left`; or a number, with its place in `place`. What is not told is as it was. `use` is in
@@ -242,6 +259,7 @@ static inline uint8_t gontsamy_tree_rows(const gontsamy_tree *tree, uint64_t *ro
 #define GONTSAMY_FUNCTION_TWICE 49
 #define GONTSAMY_NOT_INSIDE 50
 #define GONTSAMY_TREE_FULL 51
+#define GONTSAMY_BAD_LINE 52
 
 #ifdef __cplusplus
 }

@@ -1,6 +1,7 @@
 //! A bundle written from parsed items. Forms and limits are left to the linker's numbers; what has no encoding is an error.
 
 use crate::layout::BUNDLE;
+use crate::{remappings, ListRefusal};
 
 /// Writes a bundle into a lent buffer, part after part in the bundle's order: the root, folders, remappings, files, each file with its
 /// items. Each item's mark is told, so that a host can map an answer's place back to its own syntax tree. A call that ends in an error
@@ -46,6 +47,8 @@ pub enum Part {
     Folder(usize),
     /// A remapping.
     Remapping(usize),
+    /// A remapping list.
+    RemappingList,
     /// A file: its path, or all of its items.
     File(usize),
     /// An item of a file, nested ones counted too.
@@ -76,6 +79,8 @@ pub enum Reason {
     Order,
     /// A module that is closed and was not opened, or one left open, or over 32 open ones.
     Modules,
+    /// A remapping list that is refused.
+    List(ListRefusal),
 }
 
 /// What can't be encoded, and why.
@@ -106,6 +111,7 @@ impl core::fmt::Display for Part {
             Part::Root => f.write_str("the package root"),
             Part::Folder(index) => write!(f, "folder {index}"),
             Part::Remapping(index) => write!(f, "remapping {index}"),
+            Part::RemappingList => f.write_str("the remapping list"),
             Part::File(index) => write!(f, "file {index}"),
             Part::Item { file, item, kind } => {
                 let article = match kind.as_bytes().first() {
@@ -128,6 +134,7 @@ impl core::fmt::Display for Reason {
             Reason::SmallBuffer => "the buffer is full",
             Reason::Order => "it does not come here",
             Reason::Modules => "modules are not opened and closed in turn",
+            Reason::List(refusal) => return write!(f, "{refusal}"),
         })
     }
 }
@@ -169,7 +176,7 @@ impl<'a> Builder<'a> {
         self.write(Part::Folder(self.counted(List::Folders)), |builder| {
             builder.enter(List::Folders)?;
             builder.string(path)?;
-            builder.count()
+            builder.count(1)
         })
     }
 
@@ -185,7 +192,28 @@ impl<'a> Builder<'a> {
             builder.string(context)?;
             builder.string(name)?;
             builder.string(target)?;
-            builder.count()
+            builder.count(1)
+        })
+    }
+
+    /// The remappings of a list, lines `context:name=target` or `name=target`, in their order.
+    ///
+    /// ```
+    /// use gontsamy::Builder;
+    ///
+    /// let mut bytes = [0; 64];
+    /// let mut builder = Builder::new(&mut bytes, b"/").unwrap();
+    /// builder.folder(b"/lib").unwrap();
+    /// let error = builder.remapping_list(b"limits=lib/\n").unwrap_err();
+    /// assert_eq!(error.to_string(), "the remapping list: line 1, column 8: 4 bad path");
+    /// builder.remapping_list(b"limits=/lib/\n").unwrap();
+    /// let bundle = builder.finish().unwrap();
+    /// assert_eq!(bundle, b"\x01\x00\x16\x01/\x01\x04/lib\x01\x01/\x06limits\x04/lib\x00");
+    /// ```
+    pub fn remapping_list(&mut self, list: &[u8]) -> Result<(), BuildError> {
+        self.write(Part::RemappingList, |builder| {
+            builder.enter(List::Remappings)?;
+            builder.section(list)
         })
     }
 
@@ -198,7 +226,7 @@ impl<'a> Builder<'a> {
             builder.state.file_at = Some(builder.state.at);
             builder.state.items = 0;
             builder.bytes(&[0, 0])?;
-            builder.count()
+            builder.count(1)
         })
     }
 
@@ -352,12 +380,29 @@ impl<'a> Builder<'a> {
         Ok(())
     }
 
-    /// One more of the present list.
-    fn count(&mut self) -> Result<(), Reason> {
-        let count = self.state.count + 1;
+    /// So many more of the present list.
+    fn count(&mut self, added: usize) -> Result<(), Reason> {
+        let count = self.state.count + added;
         self.out[self.state.count_at] = u8::try_from(count).map_err(|_| Reason::LongList)?;
         self.state.count = count;
         Ok(())
+    }
+
+    /// The remappings of a list behind those written. The section is put one byte ahead of where its strings belong: its count stands
+    /// in the last byte written, which then gets back what it held.
+    fn section(&mut self, list: &[u8]) -> Result<(), Reason> {
+        let start = self.state.at - 1;
+        let end = self.out.len().min(BUNDLE);
+        let held = self.out[start];
+        let length = match remappings(list, &mut self.out[start..end]) {
+            Ok(section) => section.bytes().len(),
+            Err(refusal) if refusal.number.0 != 14 => return Err(Reason::List(refusal)),
+            Err(_) if end < BUNDLE => return Err(Reason::SmallBuffer),
+            Err(_) => return Err(Reason::LongBundle),
+        };
+        let added = core::mem::replace(&mut self.out[start], held);
+        self.state.at = start + length;
+        self.count(usize::from(added))
     }
 
     /// The length of the present file's items, where there is a file.

@@ -111,6 +111,12 @@ fn use_body(fields: &[u8]) -> Option<Body<'_>> {
     Some(Body::Use(path, Elements { strings }))
 }
 
+impl<'a> Strings<'a> {
+    pub(crate) fn new(left: usize, bytes: &'a [u8]) -> Self {
+        Strings { left, bytes }
+    }
+}
+
 impl<'a> Iterator for Strings<'a> {
     type Item = &'a [u8];
 

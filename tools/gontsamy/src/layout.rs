@@ -11,6 +11,8 @@ pub const BUNDLE: usize = 65_538;
 pub const REPORT: usize = 4_096;
 /// Bytes that hold every image.
 pub const IMAGE: usize = 65_538;
+/// Bytes that hold every remapping section.
+pub const REMAPPINGS: usize = 24_577;
 
 /// The most units of a graph given directly.
 pub const UNITS: usize = 64;

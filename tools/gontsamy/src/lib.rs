@@ -33,12 +33,14 @@ mod image;
 pub mod layout;
 mod number;
 mod parts;
+mod remappings;
 mod tree;
 
 pub use builder::{BuildError, Builder, Part, Reason};
 pub use graph::{linearize, Graph, Ids, Linearized};
 pub use image::{Body, Element, Elements, Item, Items, Strings};
 pub use number::{Meaning, Number, MEANINGS};
+pub use remappings::{remappings, ListRefusal, Remapping, RemappingSection};
 pub use tree::Tree;
 
 use layout::*;

@@ -76,16 +76,16 @@ pub const MEANINGS: &[Meaning] = &[
     of(
         3,
         "too many",
-        "a count or a depth is over its limit, or there is no file or unit",
-        "the count, or the start of the item that is one too many",
+        "a count or a depth is over its limit, there is no file or unit, or a remapping list has over 32 lines with content",
+        "the count, or the start of the item or line that is one too many",
         "split the card, or leave out what is not used",
     ),
     of(
         4,
         "bad path",
-        "a path is not `/` or components of 1 to 32 printable bytes, or has over 16 of them or 255 bytes",
-        FIELD,
-        "rename the folder or file",
+        "a path is not `/` or components of 1 to 32 printable bytes, each led by `/` and none `.` or `..`, or has over 16 of them or 255 bytes",
+        "the first byte of the faulty field; in a list of the context or the target",
+        "rename the folder or file, or mend the path",
     ),
     of(
         5,
@@ -139,7 +139,7 @@ pub const MEANINGS: &[Meaning] = &[
     of(
         12,
         "odd name",
-        "a remapping's name is no identifier or is a reserved word",
+        "a remapping's name is no identifier or is a reserved word, or in a list has over 255 bytes",
         "the name",
         "give the library another name",
     ),
@@ -153,9 +153,9 @@ pub const MEANINGS: &[Meaning] = &[
     of(
         14,
         "small buffer",
-        "the report or the image is longer than the buffer lent for it",
+        "the report, the image or the remapping section is longer than the buffer lent for it",
         "0",
-        "lend a longer buffer: 4,096 bytes hold every report, 65,538 every image",
+        "lend a longer buffer: 4,096 bytes hold every report, 65,538 every image, 24,577 every remapping section",
     ),
     of(
         15,
@@ -317,5 +317,12 @@ pub const MEANINGS: &[Meaning] = &[
         "the call, otherwise good, would pass 1,024 entries or 9 open modules",
         ITEM,
         "split the program, or import fewer names",
+    ),
+    of(
+        52,
+        "bad line",
+        "a line of a remapping list has no `=`",
+        "the first byte of the line",
+        "write it as `context:name=target` or `name=target`, or leave it out",
     ),
 ];
