@@ -3,26 +3,83 @@
 
 use std::collections::BTreeMap;
 use std::io::Read;
+use std::ops::Range;
 use std::path::{Path, PathBuf};
 use std::rc::Rc;
 
-use bundle_format::{Bundle, File, Item, Remapping};
+use bundle_format::{limits, Bundle, File, Item, Remapping};
 use bundle_text::{pack_with_fields, show};
 use source_items::{line_and_column, SourceBody, SourceItem};
 
-/// A range of a text that a person wrote, or of the text form of a bundle.
+use crate::list::{self, Line};
+
+/// A text that a person wrote, or the text form of a bundle.
+#[derive(Clone, Debug)]
+pub enum Text {
+    /// Characters; a column counts them.
+    Source(Rc<str>),
+    /// A remapping list, of any bytes; a column counts them.
+    List(Rc<[u8]>),
+}
+
+/// A range of a text.
 #[derive(Clone, Debug)]
 pub struct Location {
     pub name: Rc<str>,
-    pub text: Rc<str>,
+    pub text: Text,
     pub start: usize,
     pub end: usize,
+}
+
+/// A line as it is shown: what stands before the range that is marked, the range, and what stands behind it.
+pub struct Shown {
+    pub before: String,
+    pub marked: String,
+    pub after: String,
 }
 
 impl Location {
     /// Line and column, from 1.
     pub fn position(&self) -> (usize, usize) {
-        line_and_column(&self.text, self.start)
+        match &self.text {
+            Text::Source(text) => line_and_column(text, self.start),
+            Text::List(bytes) => {
+                let before = &bytes[..self.start];
+                let line = before.iter().filter(|&&byte| byte == b'\n').count() + 1;
+                (
+                    line,
+                    self.start - list::line_at(bytes, self.start).start + 1,
+                )
+            }
+        }
+    }
+
+    /// The first line of the range.
+    pub fn shown(&self) -> Shown {
+        let parts = |line: Range<usize>, end: usize| {
+            let end = end.clamp(self.start, line.end);
+            [line.start..self.start, self.start..end, end..line.end]
+        };
+        let [before, marked, after] = match &self.text {
+            Text::Source(text) => {
+                let line = list::line_at(text.as_bytes(), self.start);
+                let mut end = self.end;
+                while !text.is_char_boundary(end.min(text.len())) {
+                    end += 1;
+                }
+                parts(line, end).map(|part| text[part].replace('\t', " "))
+            }
+            Text::List(bytes) => {
+                let line = list::line_at(bytes, self.start);
+                let plain = list::is_plain(&bytes[line.clone()]);
+                parts(line, self.end).map(|part| list::drawn(&bytes[part], plain))
+            }
+        };
+        Shown {
+            before,
+            marked,
+            after,
+        }
     }
 }
 
@@ -72,18 +129,45 @@ impl Card {
         if input != "-" && Path::new(input).is_dir() {
             return Card::of_folder(Path::new(input), options);
         }
-        let mut bytes = Vec::new();
-        let read = match input {
-            "-" => std::io::stdin().read_to_end(&mut bytes),
-            path => std::fs::File::open(path).and_then(|mut file| file.read_to_end(&mut bytes)),
-        };
-        read.map_err(|error| InputError::new(format!("{input}: {error}")))?;
-        let name = if input == "-" { "<input>" } else { input };
+        let (name, bytes) = read(input)?;
         if is_text(&bytes) {
             Card::of_text(name, &bytes)
         } else {
             Ok(Card::of_bytes(name, bytes))
         }
+    }
+
+    /// The remappings of a list behind the bundle's own.
+    pub fn add(&mut self, lines: &[Line]) -> Result<(), InputError> {
+        let Some((count_at, end)) = remappings_of(&self.bytes) else {
+            return Err(InputError::new(
+                "the bundle is cut off before its files, and no remapping can be added",
+            ));
+        };
+        let mut section = Vec::new();
+        let mut places = Vec::new();
+        for line in lines {
+            for (field, location) in line.fields() {
+                places.push((end + section.len(), location));
+                section.push(field.len() as u8);
+                section.extend(field);
+            }
+        }
+        let count = u8::try_from(usize::from(self.bytes[count_at]) + lines.len())
+            .map_err(|_| InputError::new("over 255 remappings"))?;
+        let length = usize::from(u16::from_be_bytes([self.bytes[1], self.bytes[2]]));
+        let length = u16::try_from(length + section.len())
+            .map_err(|_| InputError::new("the bundle has over 65535 bytes"))?;
+        self.bytes[1..3].copy_from_slice(&length.to_be_bytes());
+        self.bytes[count_at] = count;
+        let behind = self.places.split_off(&end);
+        self.places.extend(places);
+        for (offset, location) in behind {
+            self.places.insert(offset + section.len(), location);
+        }
+        self.bytes.splice(end..end, section);
+        self.bundle = Bundle::decode_form(&self.bytes).ok();
+        Ok(())
     }
 
     pub fn of_text(name: &str, text: &[u8]) -> Result<Card, InputError> {
@@ -94,14 +178,14 @@ impl Card {
                 name: name.clone(),
                 start: offset_of(&shown, error.line, error.column),
                 end: offset_of(&shown, error.line, error.column) + 1,
-                text: shown.clone(),
+                text: Text::Source(shown.clone()),
             }),
             message: error.message,
         })?;
         let places = packed.fields.into_iter().map(|(offset, range)| {
             let location = Location {
                 name: name.clone(),
-                text: shown.clone(),
+                text: Text::Source(shown.clone()),
                 start: range.start,
                 end: range.end,
             };
@@ -178,6 +262,30 @@ impl Card {
             places: places.collect(),
         })
     }
+}
+
+/// The bytes of a file or, for `-`, of standard input, and the name to show for it.
+pub fn read(input: &str) -> Result<(&str, Vec<u8>), InputError> {
+    let mut bytes = Vec::new();
+    let read = match input {
+        "-" => std::io::stdin().read_to_end(&mut bytes),
+        path => std::fs::File::open(path).and_then(|mut file| file.read_to_end(&mut bytes)),
+    };
+    read.map_err(|error| InputError::new(format!("{input}: {error}")))?;
+    let name = if input == "-" { "<input>" } else { input };
+    Ok((name, bytes))
+}
+
+/// Where the count of a bundle's remappings stands, and where they end.
+fn remappings_of(bytes: &[u8]) -> Option<(usize, usize)> {
+    let past = |at: usize| Some(at + 1 + usize::from(*bytes.get(at)?));
+    let past_all = |at: usize, strings: usize| {
+        let count = usize::from(*bytes.get(at)?) * strings;
+        (0..count).try_fold(at + 1, |at, _| past(at))
+    };
+    let count_at = past_all(past(3)?, 1)?;
+    let end = past_all(count_at, 3)?;
+    (bytes[0] == limits::VERSION && end <= bytes.len()).then_some((count_at, end))
 }
 
 /// Whether the bytes are a text form: its first word is `bundle`.
@@ -292,7 +400,7 @@ fn items_of(file: &Path) -> Result<SourceFile, InputError> {
         message: error.message,
         location: Some(Location {
             name: name.clone(),
-            text: text.clone(),
+            text: Text::Source(text.clone()),
             start: error.span.start,
             end: error.span.end,
         }),
@@ -305,7 +413,7 @@ fn locate(item: &SourceItem, name: &Rc<str>, text: &Rc<str>, spans: &mut Vec<Opt
     let mut push = |span: source_items::Span| {
         spans.push(Some(Location {
             name: name.clone(),
-            text: text.clone(),
+            text: Text::Source(text.clone()),
             start: span.start,
             end: span.end,
         }));

@@ -1,6 +1,6 @@
 //! Why a bundle is refused, found again from what it says, for a person to read. Nothing here decides: the proved linker has.
 
-use bundle_format::{forms, Body, Bundle, Element, Item};
+use bundle_format::{forms, limits, Body, Bundle, Element, Item};
 use bundle_generate::link::{discover, Discovered};
 use bundle_generate::lookup::{is_prefix, join, Lookup};
 
@@ -21,10 +21,12 @@ pub struct Finding {
     pub location: Option<Location>,
     pub label: String,
     pub notes: Vec<Note>,
+    /// What to do, where it is not what the number says.
+    pub help: Option<String>,
 }
 
 impl Finding {
-    fn note(&mut self, text: impl Into<String>) {
+    pub fn note(&mut self, text: impl Into<String>) {
         self.note_at(text, None);
     }
 
@@ -86,7 +88,7 @@ pub fn find(card: &Card, number: u8, place: usize, ring: &[u8]) -> Finding {
     match number {
         7 | 8 => listed_path(card, bundle, number, place, &mut finding),
         9 | 10 => folder(bundle, number, place, &mut finding),
-        12 => remapping_name(bundle, place, &mut finding),
+        11 | 12 => remapping_name(bundle, place, &mut finding),
         13 => remapping(card, bundle, place, &mut finding),
         20..=25 => resolution(card, bundle, number, place, &mut finding),
         26 => ring_of(card, bundle, ring, &mut finding),
@@ -150,12 +152,24 @@ fn folder(bundle: &Bundle, number: u8, place: usize, finding: &mut Finding) {
 
 fn remapping_name(bundle: &Bundle, place: usize, finding: &mut Finding) {
     let mut names = bundle.remappings.iter();
-    if let Some(remapping) = names.find(|remapping| remapping.name_at == place) {
-        let name = text(&remapping.name);
-        finding.label = match forms::is_keyword(&remapping.name) {
-            true => format!("{name} is a reserved word"),
-            false => format!("{name} is no identifier"),
-        };
+    let named = names.find(|remapping| remapping.name_at == place);
+    if let Some((_, label)) = named.and_then(|remapping| name_fault(&remapping.name)) {
+        finding.label = label;
+    }
+}
+
+/// By which number the linker refuses a remapping's name, and why.
+pub fn name_fault(name: &[u8]) -> Option<(u8, String)> {
+    let shown = text(name);
+    match name {
+        b"crate" => Some((11, "crate is the package itself".to_string())),
+        _ if forms::is_keyword(name) => Some((12, format!("{shown} is a reserved word"))),
+        _ if name.len() > limits::NAME => {
+            let label = format!("the name has {} bytes, over {}", name.len(), limits::NAME);
+            Some((12, label))
+        }
+        _ if !forms::is_identifier(name) => Some((12, format!("{shown} is no identifier"))),
+        _ => None,
     }
 }
 

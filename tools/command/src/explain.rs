@@ -1,6 +1,6 @@
 //! `explain`: what a number means, with an example that the tests link.
 
-use gontsamy::layout::{ANSWER, ANSWER_PLACE, BUNDLE, ENTRIES, REPORT, ROWS};
+use gontsamy::layout::{ANSWER, ANSWER_PLACE, BUNDLE, ENTRIES, REMAPPINGS, REPORT, ROWS};
 use gontsamy::{exports, link, Buffers, BuildError, Builder, Number, Refusal};
 
 /// How a number comes about.
@@ -9,6 +9,8 @@ pub enum Example {
     Text(&'static str, usize),
     /// A bundle's bytes in hexadecimal, and the place told.
     Bytes(&'static str, usize),
+    /// A remapping list, and the place told.
+    List(&'static str, usize),
     /// No small bundle tells it: what does, in words, and as a function that gives the number and the place told.
     Call(&'static str, fn() -> (u8, usize)),
 }
@@ -132,12 +134,40 @@ fn full_tree() -> (u8, usize) {
     }))
 }
 
-/// An example for each number.
+/// The number and the place that a remapping list is told, with a buffer of this length.
+fn list_told(list: &[u8], length: usize) -> (u8, usize) {
+    match gontsamy::remappings(list, &mut vec![0; length]) {
+        Ok(_) => (0, 0),
+        Err(refusal) => (refusal.number.0, refusal.place),
+    }
+}
+
+/// 3: a line more than a bundle has remappings.
+fn long_list() -> (u8, usize) {
+    list_told(&b"lib=/l\n".repeat(33), REMAPPINGS)
+}
+
+/// 12: a name that fits no string of a bundle.
+fn long_name() -> (u8, usize) {
+    list_told(&[&[b'n'; 256][..], b"=/lib"].concat(), REMAPPINGS)
+}
+
+/// 14: the section of this list has 10 bytes.
+fn short_section() -> (u8, usize) {
+    list_told(b"lib=/l", 9)
+}
+
+/// An example or two for each number.
 pub const EXAMPLES: &[(u8, Example)] = &[
     (1, Example::Bytes("01000100ff", 4)),
     (2, Example::Bytes("020000", 0)),
     (3, Example::Text("bundle 1\nroot /\n", 7)),
+    (
+        3,
+        Example::Call("a remapping list of 33 lines `lib=/l`", long_list),
+    ),
     (4, Example::Text("bundle 1\nroot \"src\"\n", 3)),
+    (4, Example::List("limits/=lib/limits/\n", 8)),
     (5, Example::Text(main_with!("    fn \"1st\"\n"), 40)),
     (6, Example::Bytes("01000e012f0000 01022f6d 0004 0002 0900", 15)),
     (
@@ -177,6 +207,13 @@ pub const EXAMPLES: &[(u8, Example)] = &[
         ),
     ),
     (
+        12,
+        Example::Call(
+            "a remapping list of one line with a name of 256 bytes",
+            long_name,
+        ),
+    ),
+    (
         13,
         Example::Text(
             "bundle 1\nroot /\nremap / lib = /\nremap / lib = /\nfile /m.simf {\n    fn main\n}\n",
@@ -188,6 +225,13 @@ pub const EXAMPLES: &[(u8, Example)] = &[
         Example::Call(
             "`gontsamy_link` of the README's printed case with an image buffer of 61 bytes, where the image has 62,",
             short_image,
+        ),
+    ),
+    (
+        14,
+        Example::Call(
+            "`gontsamy_remappings` of the list `lib=/l` with a buffer of 9 bytes, where the section has 10,",
+            short_section,
         ),
     ),
     (
@@ -288,7 +332,14 @@ pub const EXAMPLES: &[(u8, Example)] = &[
             full_tree,
         ),
     ),
+    (52, Example::List("limits=/lib/limits\ndaily\n", 19)),
 ];
+
+/// The examples of a number.
+fn examples(number: u8) -> impl Iterator<Item = &'static Example> {
+    let all = EXAMPLES.iter().filter(move |(of, _)| *of == number);
+    all.map(|(_, example)| example)
+}
 
 /// The page of a number.
 pub fn page(number: u8) -> Option<String> {
@@ -297,7 +348,7 @@ pub fn page(number: u8) -> Option<String> {
         "{number} {}\n\nGiven when {}.\nPlace: {}.\nWhat to do: {}.\n",
         meaning.word, meaning.when, meaning.place, meaning.help
     );
-    if let Some((_, example)) = EXAMPLES.iter().find(|(of, _)| *of == number) {
+    for example in examples(number) {
         out += "\nExample:\n";
         match example {
             Example::Text(text, place) => {
@@ -308,6 +359,12 @@ pub fn page(number: u8) -> Option<String> {
             }
             Example::Bytes(hex, place) => {
                 out += &format!("    the bytes {hex}\ntell `no {number} {place}`\n");
+            }
+            Example::List(list, place) => {
+                for line in list.lines() {
+                    out += &format!("    {line}\n");
+                }
+                out += &format!("as a remapping list tells `no {number} {place}`\n");
             }
             Example::Call(words, call) => {
                 let (number, place) = call();
@@ -329,20 +386,25 @@ pub fn pages() -> String {
     }
     out += "\n## Examples\n";
     for meaning in gontsamy::MEANINGS {
-        let Some((_, example)) = EXAMPLES.iter().find(|(of, _)| *of == meaning.number) else {
-            continue;
-        };
-        out += &format!("\n**{} {}.** ", meaning.number, meaning.word);
-        match example {
-            Example::Text(text, place) => {
-                out += &format!("Tells `no {} {place}`:\n\n```\n{text}```\n", meaning.number);
-            }
-            Example::Bytes(hex, place) => {
-                out += &format!("The bytes `{hex}` tell `no {} {place}`.\n", meaning.number);
-            }
-            Example::Call(words, call) => {
-                let (number, place) = call();
-                out += &format!("{words} tells `no {number} {place}`.\n");
+        let number = meaning.number;
+        for example in examples(number) {
+            out += &format!("\n**{number} {}.** ", meaning.word);
+            match example {
+                Example::Text(text, place) => {
+                    out += &format!("Tells `no {number} {place}`:\n\n```\n{text}```\n");
+                }
+                Example::Bytes(hex, place) => {
+                    out += &format!("The bytes `{hex}` tell `no {number} {place}`.\n");
+                }
+                Example::List(list, place) => {
+                    out += &format!(
+                        "As a remapping list, tells `no {number} {place}`:\n\n```\n{list}```\n"
+                    );
+                }
+                Example::Call(words, call) => {
+                    let (number, place) = call();
+                    out += &format!("{words} tells `no {number} {place}`.\n");
+                }
             }
         }
     }
@@ -371,22 +433,24 @@ mod tests {
         let mut wrong = Vec::new();
         for meaning in gontsamy::MEANINGS {
             let number = meaning.number;
-            let Some((_, example)) = EXAMPLES.iter().find(|(of, _)| *of == number) else {
-                panic!("{number} has no example");
-            };
-            let (answer, place) = match example {
-                Example::Text(text, place) => {
-                    let card = Card::of_text("example", text.as_bytes()).expect("the text is good");
-                    (told(&card.bytes), *place)
+            assert!(examples(number).next().is_some(), "{number} has no example");
+            for example in examples(number) {
+                let (answer, place) = match example {
+                    Example::Text(text, place) => {
+                        let card =
+                            Card::of_text("example", text.as_bytes()).expect("the text is good");
+                        (told(&card.bytes), *place)
+                    }
+                    Example::Bytes(hex, place) => (told(&bytes_of(hex)), *place),
+                    Example::List(list, place) => (list_told(list.as_bytes(), REMAPPINGS), *place),
+                    Example::Call(_, call) => {
+                        let told = call();
+                        (told, told.1)
+                    }
+                };
+                if answer != (number, place) {
+                    wrong.push(format!("{number}: {answer:?}, not {:?}", (number, place)));
                 }
-                Example::Bytes(hex, place) => (told(&bytes_of(hex)), *place),
-                Example::Call(_, call) => {
-                    let told = call();
-                    (told, told.1)
-                }
-            };
-            if answer != (number, place) {
-                wrong.push(format!("{number}: {answer:?}, not {:?}", (number, place)));
             }
         }
         assert!(wrong.is_empty(), "{wrong:#?}");

@@ -8,6 +8,7 @@ mod explain;
 mod fields;
 mod graph;
 mod image;
+mod list;
 mod render;
 mod scopes;
 
@@ -18,6 +19,7 @@ use bundle_text::show;
 use gontsamy::{link, Buffers, Entry, Items, Kind, Linked, Number, Refusal};
 
 use card::{Card, InputError, PackOptions};
+use list::List;
 use render::Diagnostic;
 
 const USAGE: &str = "\
@@ -29,6 +31,7 @@ usage: gontsamy COMMAND ..          gontsamy COMMAND --help
   pack INPUT        write the bundle of a text or of a folder of .simf files
   image FILE        print an image as text
   graph INPUT       print the import graph
+  remappings FILE   say what each line of a remapping list means
   explain NUMBER    say what a number means
 
 INPUT is a bundle, its text form, a folder, or - for standard input.
@@ -36,6 +39,11 @@ Status: 0 linked, 1 refused, 2 bad usage or input.
 ";
 
 const PACKING: &str = "
+For every input:
+  --remappings FILE              the remappings of a list, lines CONTEXT:NAME=TARGET or NAME=TARGET,
+                                 behind those that the input or --remap has; may be given again.
+                                 All are kept: the same context and name twice is refused by 13
+
 For a folder, which becomes `/` of the bundle:
   --entry PATH                   the entry, as a path in the bundle; else the only main.simf
   --root PATH                    its package root; else the entry's folder
@@ -51,6 +59,7 @@ fn usage_of(command: &str) -> String {
         "pack" => ("usage: gontsamy pack INPUT [-o FILE]\n\nWrites the bundle to FILE or standard output.\n", true),
         "image" => ("usage: gontsamy image FILE\n\nPrints the items of an image.\n", false),
         "graph" => ("usage: gontsamy graph INPUT [--svg]\n\nPrints the import graph as DOT, or draws it as SVG; the imports of a ring are red.\n", true),
+        "remappings" => ("usage: gontsamy remappings FILE [--json]\n\nReads a remapping list, lines CONTEXT:NAME=TARGET or NAME=TARGET, and prints context, name and target of each line, then those that the linker refuses by 11 to 13; or says why the list is refused. FILE is - for standard input.\n  --json          one object a line\n\nA line ends in LF alone, and nothing is trimmed; there are no comments. One / at the end of a name and of a target is dropped. Paths are those of the bundle, from / on.\n", false),
         "explain" => ("usage: gontsamy explain NUMBER\n       gontsamy explain --all\n\nSays when a number is given, what its place is, and what to do.\n", false),
         _ => return USAGE.to_string(),
     };
@@ -67,6 +76,8 @@ struct Arguments {
     help: bool,
     output: Option<String>,
     image: Option<String>,
+    /// Remapping lists, by their files.
+    lists: Vec<String>,
     packing: PackOptions,
 }
 
@@ -94,6 +105,7 @@ fn arguments(words: &[String]) -> Result<Arguments, String> {
                 let remapping = value()?;
                 arguments.packing.remappings.push(remapping);
             }
+            "--remappings" => arguments.lists.push(value()?),
             option if option.len() > 1 && option.starts_with('-') => {
                 return Err(format!("there is no option `{option}`"))
             }
@@ -149,7 +161,16 @@ fn run(words: &[String], out: &mut String) -> Result<(), Failure> {
         *out += USAGE;
         return Ok(());
     }
-    let known = ["link", "check", "show", "pack", "image", "graph", "explain"];
+    let known = [
+        "link",
+        "check",
+        "show",
+        "pack",
+        "image",
+        "graph",
+        "remappings",
+        "explain",
+    ];
     if !known.contains(&command.as_str()) {
         return Err(Failure::Usage(format!("there is no command `{command}`")));
     }
@@ -168,8 +189,9 @@ fn run(words: &[String], out: &mut String) -> Result<(), Failure> {
     match command.as_str() {
         "explain" => explain_number(input, out),
         "image" => show_image(input, out),
+        "remappings" => show_list(input, &arguments, out),
         _ => {
-            let card = Card::load(input, &arguments.packing)?;
+            let card = load(input, &arguments, out)?;
             match command.as_str() {
                 "link" => link_card(&card, &arguments, out),
                 "check" => check_card(&card, &arguments, out),
@@ -178,6 +200,35 @@ fn run(words: &[String], out: &mut String) -> Result<(), Failure> {
                 _ => draw_card(&card, &arguments, out),
             }
         }
+    }
+}
+
+/// The card of an input, with the remappings of the lists given.
+fn load(input: &str, arguments: &Arguments, out: &mut String) -> Result<Card, Failure> {
+    let inputs = arguments.lists.iter().map(String::as_str).chain([input]);
+    if inputs.filter(|&input| input == "-").count() > 1 {
+        return Err(Failure::Usage("`-` stands for one input alone".to_string()));
+    }
+    let mut card = Card::load(input, &arguments.packing)?;
+    for path in &arguments.lists {
+        let list = List::load(path)?;
+        let lines = list.lines();
+        card.add(&lines.map_err(|refusal| tell(list.len(), &[refusal], arguments.json, out))?)?;
+    }
+    Ok(card)
+}
+
+fn show_list(input: &str, arguments: &Arguments, out: &mut String) -> Result<(), Failure> {
+    let list = List::load(input)?;
+    match list.lines() {
+        Ok(lines) => {
+            *out += &match arguments.json {
+                true => list::json(&lines),
+                false => list::text(&lines),
+            };
+            Ok(())
+        }
+        Err(refusal) => Err(tell(list.len(), &[refusal], arguments.json, out)),
     }
 }
 
@@ -223,7 +274,8 @@ fn diagnostics(card: &Card, refusal: Refusal) -> Vec<Diagnostic> {
     }
 }
 
-fn tell(card: &Card, diagnostics: &[Diagnostic], json: bool, out: &mut String) -> Failure {
+/// Says why a bundle or a list of that length is refused.
+fn tell(length: usize, diagnostics: &[Diagnostic], json: bool, out: &mut String) -> Failure {
     if json {
         for diagnostic in diagnostics {
             *out += &format!("{}\n", diagnostic.json());
@@ -231,7 +283,7 @@ fn tell(card: &Card, diagnostics: &[Diagnostic], json: bool, out: &mut String) -
         return Failure::Refused;
     }
     for diagnostic in diagnostics {
-        eprintln!("{}", diagnostic.text(card));
+        eprintln!("{}", diagnostic.text(length));
     }
     let lines: Vec<String> = diagnostics
         .iter()
@@ -256,7 +308,7 @@ fn link_card(card: &Card, arguments: &Arguments, out: &mut String) -> Result<(),
         }
         Err(refusal) => {
             let diagnostics = diagnostics(card, refusal);
-            Err(tell(card, &diagnostics, arguments.json, out))
+            Err(tell(card.bytes.len(), &diagnostics, arguments.json, out))
         }
     }
 }
@@ -340,7 +392,7 @@ fn check_card(card: &Card, arguments: &Arguments, out: &mut String) -> Result<()
         }
         Err((number, place)) => {
             let diagnostics = diagnostics(card, Refusal::At(number, place));
-            Err(tell(card, &diagnostics, arguments.json, out))
+            Err(tell(card.bytes.len(), &diagnostics, arguments.json, out))
         }
     }
 }
@@ -355,7 +407,7 @@ fn show_card(card: &Card, out: &mut String) -> Result<(), Failure> {
         (Some(bundle), Some((number, place))) => {
             *out += &show(bundle);
             let diagnostics = diagnostics(card, Refusal::At(number, place));
-            Err(tell(card, &diagnostics, false, out))
+            Err(tell(card.bytes.len(), &diagnostics, false, out))
         }
         (None, refusal) => {
             let (number, place) = refusal.unwrap_or((Number(1), 0));
@@ -391,7 +443,7 @@ fn draw_card(card: &Card, arguments: &Arguments, out: &mut String) -> Result<(),
         (Some(bundle), None) => graph::Graph::of(card, bundle),
         (_, Some((number, place))) => {
             let diagnostics = diagnostics(card, Refusal::At(number, place));
-            return Err(tell(card, &diagnostics, false, out));
+            return Err(tell(card.bytes.len(), &diagnostics, false, out));
         }
         _ => None,
     };

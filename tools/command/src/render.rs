@@ -2,7 +2,7 @@
 
 use gontsamy::Number;
 
-use crate::card::{Card, InputError, Location};
+use crate::card::{InputError, Location, Shown};
 use crate::cause::Finding;
 
 /// A refusal with all that is said of it.
@@ -17,15 +17,13 @@ fn excerpt(location: &Location, arrow: &str, label: &str, mark: char) -> String 
     let (line, column) = location.position();
     let width = line.to_string().len();
     let blank = " ".repeat(width);
-    let start = location.text[..location.start]
-        .rfind('\n')
-        .map_or(0, |at| at + 1);
-    let end = location.text[start..]
-        .find('\n')
-        .map_or(location.text.len(), |at| start + at);
-    let shown = location.text[start..end].replace('\t', " ");
-    let marked = location.end.min(end).max(location.start);
-    let count = location.text[location.start..marked].chars().count().max(1);
+    let Shown {
+        before,
+        marked,
+        after,
+    } = location.shown();
+    let (column_shown, count) = (before.chars().count(), marked.chars().count().max(1));
+    let shown = before + &marked + &after;
     let label = if label.is_empty() {
         String::new()
     } else {
@@ -35,13 +33,14 @@ fn excerpt(location: &Location, arrow: &str, label: &str, mark: char) -> String 
         "{blank}{arrow} {}:{line}:{column}\n{blank} |\n{line} | {}\n{blank} | {}{}{label}\n",
         location.name,
         shown.trim_end(),
-        " ".repeat(column - 1),
+        " ".repeat(column_shown),
         mark.to_string().repeat(count),
     )
 }
 
 impl Diagnostic {
-    pub fn text(&self, card: &Card) -> String {
+    /// As text; `length` is that of the bundle.
+    pub fn text(&self, length: usize) -> String {
         let meaning = self.number.meaning();
         let when = meaning.map_or("", |meaning| meaning.when);
         let mut out = format!("error[{}]: {}: {when}\n", self.number.0, self.number.word());
@@ -49,12 +48,12 @@ impl Diagnostic {
             location,
             label,
             notes,
+            ..
         } = &self.finding;
         match location {
             Some(location) => out += &excerpt(location, "-->", label, '^'),
             None => {
                 if self.place != 0 {
-                    let length = card.bytes.len();
                     out += &format!(" --> byte {} of {length} of the bundle\n", self.place);
                 }
                 if !label.is_empty() {
@@ -68,10 +67,15 @@ impl Diagnostic {
                 None => out += &format!("  = note: {}\n", note.text),
             }
         }
-        if let Some(meaning) = meaning {
-            out += &format!("  = help: {}\n", meaning.help);
+        if let Some(help) = self.help() {
+            out += &format!("  = help: {help}\n");
         }
         out
+    }
+
+    fn help(&self) -> Option<&str> {
+        let own = self.finding.help.as_deref();
+        own.or(self.number.meaning().map(|meaning| meaning.help))
     }
 
     pub fn json(&self) -> String {
@@ -97,7 +101,7 @@ impl Diagnostic {
         fields.push(format!("\"notes\":[{}]", notes.join(",")));
         fields.push(format!(
             "\"help\":{}",
-            string(meaning.map_or("", |m| m.help))
+            string(self.help().unwrap_or_default())
         ));
         format!("{{{}}}", fields.join(","))
     }

@@ -208,7 +208,7 @@ impl<'a> Builder<'a> {
     /// assert_eq!(error.to_string(), "the remapping list: line 1, column 8: 4 bad path");
     /// builder.remapping_list(b"limits=/lib/\n").unwrap();
     /// let bundle = builder.finish().unwrap();
-    /// assert_eq!(bundle, b"\x01\x00\x16\x01/\x01\x04/lib\x01\x01/\x06limits\x04/lib\x00");
+    /// assert_eq!(bundle, b"\x01\x00\x18\x01/\x01\x04/lib\x01\x01/\x06limits\x04/lib\x00");
     /// ```
     pub fn remapping_list(&mut self, list: &[u8]) -> Result<(), BuildError> {
         self.write(Part::RemappingList, |builder| {
