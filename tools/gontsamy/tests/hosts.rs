@@ -102,3 +102,36 @@ fn host_in_rust() {
         lines + &sizes(bundle, stored)
     });
 }
+
+/// The host in C that reads remapping lists, on those of the examples.
+#[test]
+fn lists_in_c() {
+    let host = scratch("lists-c");
+    let source = root().join("examples/hosts/remappings.c");
+    compile(&["cc", "-std=c11", "-O1"], &source, &host);
+    for (name, status, told) in [
+        (
+            "solidity",
+            0,
+            "/ @openzeppelin /lib/openzeppelin-contracts\n\
+             / forge-std /lib/forge-std/src\n\
+             / ds-test /lib/forge-std/lib/ds-test/src\n\
+             /lib/forge-std ds-test /lib/ds-test/src\n",
+        ),
+        ("relative", 1, "no 4 15\n"),
+        (
+            "identifiers",
+            0,
+            "/ openzeppelin /lib/openzeppelin-contracts\n\
+             / forge_std /lib/forge-std/src\n\
+             / ds_test /lib/forge-std/lib/ds-test/src\n\
+             /lib/forge-std ds_test /lib/ds-test/src\n",
+        ),
+    ] {
+        let list = root().join(format!("examples/remappings/{name}.txt"));
+        let output = Command::new(&host).arg(&list).output().unwrap();
+        assert_eq!(String::from_utf8_lossy(&output.stdout), told, "{name}");
+        assert_eq!(output.status.code(), Some(status), "{name}");
+    }
+    std::fs::remove_file(&host).unwrap();
+}
