@@ -11,7 +11,7 @@ use bundle_format::{limits, Bundle, File, Item, Remapping};
 use bundle_text::{pack_with_fields, show};
 use source_items::{line_and_column, SourceBody, SourceItem};
 
-use crate::list::{self, Line};
+use crate::list::Line;
 
 /// A text that a person wrote, or the text form of a bundle.
 #[derive(Clone, Debug)]
@@ -31,11 +31,11 @@ pub struct Location {
     pub end: usize,
 }
 
-/// A line as it is shown: what stands before the range that is marked, the range, and what stands behind it.
-pub struct Shown {
-    pub before: String,
-    pub marked: String,
-    pub after: String,
+/// The line that an offset lies in, without its line feed.
+pub fn line_at(text: &[u8], offset: usize) -> Range<usize> {
+    let start = text[..offset].iter().rposition(|&byte| byte == b'\n');
+    let end = text[offset..].iter().position(|&byte| byte == b'\n');
+    start.map_or(0, |at| at + 1)..end.map_or(text.len(), |at| offset + at)
 }
 
 impl Location {
@@ -44,41 +44,10 @@ impl Location {
         match &self.text {
             Text::Source(text) => line_and_column(text, self.start),
             Text::List(bytes) => {
-                let before = &bytes[..self.start];
-                let line = before.iter().filter(|&&byte| byte == b'\n').count() + 1;
-                (
-                    line,
-                    self.start - list::line_at(bytes, self.start).start + 1,
-                )
+                let before = bytes[..self.start].iter();
+                let line = before.filter(|&&byte| byte == b'\n').count() + 1;
+                (line, self.start - line_at(bytes, self.start).start + 1)
             }
-        }
-    }
-
-    /// The first line of the range.
-    pub fn shown(&self) -> Shown {
-        let parts = |line: Range<usize>, end: usize| {
-            let end = end.clamp(self.start, line.end);
-            [line.start..self.start, self.start..end, end..line.end]
-        };
-        let [before, marked, after] = match &self.text {
-            Text::Source(text) => {
-                let line = list::line_at(text.as_bytes(), self.start);
-                let mut end = self.end;
-                while !text.is_char_boundary(end.min(text.len())) {
-                    end += 1;
-                }
-                parts(line, end).map(|part| text[part].replace('\t', " "))
-            }
-            Text::List(bytes) => {
-                let line = list::line_at(bytes, self.start);
-                let plain = list::is_plain(&bytes[line.clone()]);
-                parts(line, self.end).map(|part| list::drawn(&bytes[part], plain))
-            }
-        };
-        Shown {
-            before,
-            marked,
-            after,
         }
     }
 }

@@ -7,47 +7,16 @@ use bundle_format::{forms, limits};
 use gontsamy::layout::REMAPPINGS;
 use gontsamy::{remappings, ListRefusal};
 
-use crate::card::{self, InputError, Location, Text};
+use crate::card::{self, line_at, InputError, Location, Text};
 use crate::cause::{name_fault, Finding};
 use crate::fields::quoted;
-use crate::render::{self, Diagnostic};
+use crate::render::{self, is_plain, Diagnostic, SHOWN};
 
-/// A part of a line that has more bytes than these is shown by its ends.
-const SHOWN: usize = 72;
 /// Cells of the table are padded up to this width.
 const CELL: usize = 40;
 
 const CR_LF: &str =
     "the line ends in CR LF; only LF ends a line, so the CR belongs to it: save the list with LF alone";
-
-/// The line that an offset lies in, without its line feed.
-pub fn line_at(text: &[u8], offset: usize) -> Range<usize> {
-    let start = text[..offset].iter().rposition(|&byte| byte == b'\n');
-    let end = text[offset..].iter().position(|&byte| byte == b'\n');
-    start.map_or(0, |at| at + 1)..end.map_or(text.len(), |at| offset + at)
-}
-
-/// Whether all bytes of a line print.
-pub fn is_plain(line: &[u8]) -> bool {
-    line.iter().all(|byte| (b' '..=b'~').contains(byte))
-}
-
-/// A part of a line, as it stands in a line that is plain, else with escapes for bytes that don't print.
-pub fn drawn(part: &[u8], plain: bool) -> String {
-    let text = |bytes: &[u8]| -> String {
-        let escaped = |&byte: &u8| match byte {
-            b'"' | b'\'' => char::from(byte).to_string(),
-            _ if plain => char::from(byte).to_string(),
-            _ => byte.escape_ascii().to_string(),
-        };
-        bytes.iter().map(escaped).collect()
-    };
-    if part.len() <= SHOWN {
-        return text(part);
-    }
-    let (first, last) = (&part[..SHOWN * 2 / 3], &part[part.len() - SHOWN / 4..]);
-    format!("{}...{}", text(first), text(last))
-}
 
 /// The words of a line with a `=`, by their ranges in the list. Where no context is written the whole line stands for it.
 struct Words {
@@ -124,13 +93,9 @@ impl List {
     }
 
     /// Its lines with content, or the refusal.
-    pub fn lines(&self) -> Result<Vec<Line>, Diagnostic> {
+    pub fn lines(&self) -> Result<Vec<Line>, ListRefusal> {
         let mut buffer = vec![0; REMAPPINGS];
-        let section = remappings(&self.bytes, &mut buffer).map_err(|refusal| Diagnostic {
-            number: refusal.number,
-            place: refusal.place,
-            finding: self.finding(refusal),
-        })?;
+        let section = remappings(&self.bytes, &mut buffer)?;
         let mut start = 0;
         let ranges = self.bytes.split(|&byte| byte == b'\n').map(|line| {
             let range = start..start + line.len();
@@ -165,7 +130,15 @@ impl List {
         }
     }
 
-    /// What can be said of a refusal.
+    /// A refusal with its cause.
+    pub fn diagnostic(&self, refusal: ListRefusal) -> Diagnostic {
+        Diagnostic {
+            number: refusal.number,
+            place: refusal.place,
+            finding: self.finding(refusal),
+        }
+    }
+
     fn finding(&self, refusal: ListRefusal) -> Finding {
         let range = line_at(&self.bytes, refusal.place);
         let line = &self.bytes[range.clone()];

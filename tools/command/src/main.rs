@@ -19,7 +19,7 @@ use bundle_text::show;
 use gontsamy::{link, Buffers, Entry, Items, Kind, Linked, Number, Refusal};
 
 use card::{Card, InputError, PackOptions};
-use list::List;
+use list::{Line, List};
 use render::Diagnostic;
 
 const USAGE: &str = "\
@@ -211,25 +211,25 @@ fn load(input: &str, arguments: &Arguments, out: &mut String) -> Result<Card, Fa
     }
     let mut card = Card::load(input, &arguments.packing)?;
     for path in &arguments.lists {
-        let list = List::load(path)?;
-        let lines = list.lines();
-        card.add(&lines.map_err(|refusal| tell(list.len(), &[refusal], arguments.json, out))?)?;
+        card.add(&lines(path, arguments.json, out)?)?;
     }
     Ok(card)
 }
 
+/// The lines of a remapping list.
+fn lines(path: &str, json: bool, out: &mut String) -> Result<Vec<Line>, Failure> {
+    let list = List::load(path)?;
+    list.lines()
+        .map_err(|refusal| tell(list.len(), &[list.diagnostic(refusal)], json, out))
+}
+
 fn show_list(input: &str, arguments: &Arguments, out: &mut String) -> Result<(), Failure> {
-    let list = List::load(input)?;
-    match list.lines() {
-        Ok(lines) => {
-            *out += &match arguments.json {
-                true => list::json(&lines),
-                false => list::text(&lines),
-            };
-            Ok(())
-        }
-        Err(refusal) => Err(tell(list.len(), &[refusal], arguments.json, out)),
-    }
+    let lines = lines(input, arguments.json, out)?;
+    *out += &match arguments.json {
+        true => list::json(&lines),
+        false => list::text(&lines),
+    };
+    Ok(())
 }
 
 fn explain_number(input: &str, out: &mut String) -> Result<(), Failure> {

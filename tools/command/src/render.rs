@@ -1,8 +1,10 @@
 //! Diagnostics as text, in the manner of rustc's, and as JSON.
 
+use std::ops::Range;
+
 use gontsamy::Number;
 
-use crate::card::{InputError, Location, Shown};
+use crate::card::{line_at, InputError, Location, Text};
 use crate::cause::Finding;
 
 /// A refusal with all that is said of it.
@@ -12,17 +14,59 @@ pub struct Diagnostic {
     pub finding: Finding,
 }
 
+/// A part of a list's line that has more bytes than these is shown by its ends.
+pub const SHOWN: usize = 72;
+
+/// Whether all bytes of a list's line print.
+pub fn is_plain(line: &[u8]) -> bool {
+    line.iter().all(|byte| (b' '..=b'~').contains(byte))
+}
+
+/// A part of a list's line: as it stands where the line is plain, else with escapes for what doesn't print.
+fn drawn(part: &[u8], plain: bool) -> String {
+    let escaped = |&byte: &u8| match byte {
+        b' '..=b'~' if plain || byte != b'\\' => char::from(byte).to_string(),
+        _ => byte.escape_ascii().to_string(),
+    };
+    let text = |bytes: &[u8]| bytes.iter().map(escaped).collect::<String>();
+    if part.len() <= SHOWN {
+        return text(part);
+    }
+    let (first, last) = (&part[..SHOWN * 2 / 3], &part[part.len() - SHOWN / 4..]);
+    format!("{}...{}", text(first), text(last))
+}
+
+/// The line of a location as it is shown: what stands before the range, the range as far as it goes there, and what stands behind it.
+fn shown(location: &Location) -> [String; 3] {
+    let start = location.start;
+    let parts = |line: Range<usize>, end: usize| {
+        let end = end.clamp(start, line.end);
+        [line.start..start, start..end, end..line.end]
+    };
+    match &location.text {
+        Text::Source(text) => {
+            let mut end = location.end.min(text.len());
+            while !text.is_char_boundary(end) {
+                end += 1;
+            }
+            let line = line_at(text.as_bytes(), start);
+            parts(line, end).map(|part| text[part].replace('\t', " "))
+        }
+        Text::List(bytes) => {
+            let line = line_at(bytes, start);
+            let plain = is_plain(&bytes[line.clone()]);
+            parts(line, location.end).map(|part| drawn(&bytes[part], plain))
+        }
+    }
+}
+
 /// The lines of a location with its range marked, led by `-->` or `:::`.
 fn excerpt(location: &Location, arrow: &str, label: &str, mark: char) -> String {
     let (line, column) = location.position();
     let width = line.to_string().len();
     let blank = " ".repeat(width);
-    let Shown {
-        before,
-        marked,
-        after,
-    } = location.shown();
-    let (column_shown, count) = (before.chars().count(), marked.chars().count().max(1));
+    let [before, marked, after] = shown(location);
+    let (indent, count) = (before.chars().count(), marked.chars().count().max(1));
     let shown = before + &marked + &after;
     let label = if label.is_empty() {
         String::new()
@@ -33,7 +77,7 @@ fn excerpt(location: &Location, arrow: &str, label: &str, mark: char) -> String 
         "{blank}{arrow} {}:{line}:{column}\n{blank} |\n{line} | {}\n{blank} | {}{}{label}\n",
         location.name,
         shown.trim_end(),
-        " ".repeat(column_shown),
+        " ".repeat(indent),
         mark.to_string().repeat(count),
     )
 }

@@ -112,6 +112,14 @@ fn bad_source() {
     );
 }
 
+/// A text form that breaks off at a letter of two bytes: the letter is marked.
+#[test]
+fn bad_text() {
+    let (status, _, said) = with_list("bundle 1\nroot é\n".as_bytes(), &["check", "list"]);
+    assert_eq!(status, Some(2));
+    assert!(said.contains("2 | root é\n  |      ^\n"), "{said}");
+}
+
 #[test]
 fn usage() {
     assert_eq!(gontsamy(&["--help"]).status.code(), Some(0));
@@ -228,7 +236,7 @@ fn remapping_lists() {
     }
 }
 
-/// A file of its own with these bytes, which the command is given as `list`; its output with that name for the file's.
+/// The command with `list` standing for a file of these bytes: status and output.
 fn with_list(bytes: &[u8], words: &[&str]) -> (Option<i32>, String, String) {
     static FILES: std::sync::atomic::AtomicUsize = std::sync::atomic::AtomicUsize::new(0);
     let number = FILES.fetch_add(1, std::sync::atomic::Ordering::Relaxed);
