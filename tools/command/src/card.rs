@@ -110,7 +110,7 @@ impl Card {
     pub fn add(&mut self, lines: &[Line]) -> Result<(), InputError> {
         let Some((count_at, end)) = remappings_of(&self.bytes) else {
             return Err(InputError::new(
-                "the bundle is cut off before its files, and no remapping can be added",
+                "no remapping can be added: this is no bundle, or it is cut off before its files",
             ));
         };
         let mut section = Vec::new();

@@ -59,7 +59,7 @@ fn usage_of(command: &str) -> String {
         "pack" => ("usage: gontsamy pack INPUT [-o FILE]\n\nWrites the bundle to FILE or standard output.\n", true),
         "image" => ("usage: gontsamy image FILE\n\nPrints the items of an image.\n", false),
         "graph" => ("usage: gontsamy graph INPUT [--svg]\n\nPrints the import graph as DOT, or draws it as SVG; the imports of a ring are red.\n", true),
-        "remappings" => ("usage: gontsamy remappings FILE [--json]\n\nReads a remapping list, lines CONTEXT:NAME=TARGET or NAME=TARGET, and prints context, name and target of each line, then those that the linker refuses by 11 to 13; or says why the list is refused. FILE is - for standard input.\n  --json          one object a line\n\nA line ends in LF alone, and nothing is trimmed; there are no comments. One / at the end of a name and of a target is dropped. Paths are those of the bundle, from / on.\n", false),
+        "remappings" => ("usage: gontsamy remappings FILE [--json]\n\nPrints context, name and target of each line of a remapping list, and which lines the linker refuses by 11 to 13; or says why the list is refused. FILE is - for standard input.\n  --json          one object a line\n\nA line is CONTEXT:NAME=TARGET or NAME=TARGET and ends in LF alone; nothing is trimmed, and there are no comments. One / at the end of a name or a target is dropped. Paths are those of the bundle, from / on.\n", false),
         "explain" => ("usage: gontsamy explain NUMBER\n       gontsamy explain --all\n\nSays when a number is given, what its place is, and what to do.\n", false),
         _ => return USAGE.to_string(),
     };
