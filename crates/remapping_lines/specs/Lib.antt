@@ -1,8 +1,10 @@
--- definitions
+-- DEFINITIONS: what contracts speak of
 pub mod Lines
--- theorems to cite
+-- THEOREMS to cite
+pub mod SplitTheorems
 pub mod Theorems
+pub mod Printed
 pub mod Cases
--- laws for the proofs
+-- LAWS for the code
 pub mod Splitting
 pub mod Passes

@@ -54,7 +54,10 @@ fn test_line(t: &[u8], at: usize, n: usize, size: usize) -> Tested
     if prefix.len() > NAME {
         return Tested::Bad(12, at + name_place(left, c));
     }
-    Tested::Counted(next, size + (3 + context_len(left, c) + prefix.len() + to.len()))
+    Tested::Counted(
+        next,
+        size + (3 + context_len(left, c) + prefix.len() + to.len()),
+    )
 }
 
 // All lines.

@@ -62,7 +62,10 @@ fn replay(s: &[u8]) {
         if at < s.len() {
             let lent = lines::frame_at(s, at);
             if lent.whole {
-                tell(lines::part(s, list.at, list.end), lines::part(s, lent.at, lent.end));
+                tell(
+                    lines::part(s, list.at, list.end),
+                    lines::part(s, lent.at, lent.end),
+                );
             }
             at = lent.end;
         }

@@ -19,13 +19,13 @@ use Rattle.remapping_lines.specs.Splitting.{part-before, right-part, has
 use Rattle.remapping_lines.specs.Passes.{Passes, pieceBytes, bytes-empty, bytes-line, bytes-length, part-lengths, second, third, all-three}
 
 returns : tie.Need-returns
-returns c =  none-filled (pieceBytes ((c .before .before .before .args) .t .now)) (now ((c .before .before .before .args) .out)) (bytes-empty ((c .before .before .before .args) .t .now) ((c .if1) .taken))
+returns c = none-filled (pieceBytes ((c .before .before .before .args) .t .now)) (now ((c .before .before .before .args) .out)) (bytes-empty ((c .before .before .before .args) .t .now) ((c .if1) .taken))
 
 find-requires : tie.Need-find-requires
 find-requires c κs = search needs
 
 slice-aggregate-left : tie.Need-slice-aggregate-left
-slice-aggregate-left c =  sym (length-take-le ((c .before .find) .result) ((c .before .before .before .before .before .args) .t .now) ((c .before .find) .ensures .1))
+slice-aggregate-left c = sym (length-take-le ((c .before .find) .result) ((c .before .before .before .before .before .args) .t .now) ((c .before .find) .ensures .1))
 
 find-requires-2 : tie.Need-find-requires-2
 find-requires-2 c κs = search needs
