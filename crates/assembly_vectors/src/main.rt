@@ -3,20 +3,6 @@
 // the number of units, and the image in hexadecimal.
 const SIZE: usize = 65538;
 
-fn tell_byte(b: u8) {
-    let pair = [lines::hex_digit(b / 16), lines::hex_digit(b % 16)];
-    io::write_all(1, &pair);
-}
-
-// Bytes in hexadecimal.
-fn tell_hex(s: &[u8]) {
-    let mut at = 0;
-    while at < s.len() {
-        tell_byte(s[at]);
-        at += 1;
-    }
-}
-
 fn tell(s: &[u8]) {
     let mut report = [0u8; 4096];
     let mut image = [0u8; SIZE];
@@ -38,7 +24,7 @@ fn tell(s: &[u8]) {
     io::write_all(1, b"ok ");
     io::print_decimal(1, a.units as u64);
     io::write_all(1, b"\nimage ");
-    tell_hex(lines::part(&image, 0, a.image));
+    lines::tell_hex(lines::part(&image, 0, a.image));
     io::write_all(1, b"\n");
 }
 

@@ -8,5 +8,6 @@ pub mod RemappingsTold
 -- THEOREMS to cite
 pub mod Theorems
 pub mod TreeTheorems
+pub mod RemappingTheorems
 -- LAWS for the code
 pub mod LinkLaws

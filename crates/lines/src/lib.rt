@@ -6,6 +6,7 @@ ghost use Prim.Native.Nat.{_+_, _<_, _≤_, _^_};
 ghost use lib.ListN.{length};
 pub use report::is_ring;
 pub use report::tell_faults;
+pub use report::tell_hex;
 pub use report::tell_refusal;
 pub use report::tell_ring;
 

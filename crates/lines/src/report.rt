@@ -1,5 +1,6 @@
-// What the programs write of a refusal and of a report.
+// What the programs write of a refusal, of a report and of bytes.
 use crate::RING;
+use crate::hex_digit;
 use crate::wide;
 
 // The byte at `at`; 0 where there is none.
@@ -44,4 +45,18 @@ pub fn tell_ring(report: &[u8]) {
         at += 1;
     }
     io::write_all(1, b"\n");
+}
+
+fn tell_byte(b: u8) {
+    let pair = [hex_digit(b / 16), hex_digit(b % 16)];
+    io::write_all(1, &pair);
+}
+
+// Bytes in hexadecimal.
+pub fn tell_hex(s: &[u8]) {
+    let mut at = 0;
+    while at < s.len() {
+        tell_byte(s[at]);
+        at += 1;
+    }
 }

@@ -7,24 +7,9 @@ use remapping_lines::Lines;
 
 const SIZE: usize = 32768;
 
-fn tell_byte(b: u8) {
-    let pair = [lines::hex_digit(b / 16), lines::hex_digit(b % 16)];
-    io::write_all(1, &pair);
-}
-
-// Bytes in hexadecimal.
-fn tell_hex(s: &[u8]) {
-    let mut at = 0;
-    while at < s.len() {
-        tell_byte(s[at]);
-        at += 1;
-    }
-    io::write_all(1, b"\n");
-}
-
 // As many of the bytes as there is room for.
 fn copy(s: &[u8], out: &mut [u8]) -> usize
-    ensures { λ r. ⌜ r ≤ length (now (out .entry)) ⌝ }
+    ensures { λ r. ⌜ r ≤ length (now (out .exit)) ⌝ }
 {
     let mut n = 0;
     while n < out.len() {
@@ -37,10 +22,9 @@ fn copy(s: &[u8], out: &mut [u8]) -> usize
     n
 }
 
-fn tell(s: &[u8], lent: &[u8]) {
-    let mut out = [0u8; SIZE];
-    let n = copy(lent, &mut out);
-    let told = remapping_lines::read_lines(s, &mut out[..n]);
+// Reads the list into the buffer that is lent.
+fn tell(s: &[u8], out: &mut [u8]) {
+    let told = remapping_lines::read_lines(s, out);
     match told {
         Lines::Section(k) => {
             io::write_all(1, b"ok ");
@@ -51,7 +35,14 @@ fn tell(s: &[u8], lent: &[u8]) {
             lines::tell_refusal(w, p);
         }
     }
-    tell_hex(&out[..n]);
+    lines::tell_hex(out);
+    io::write_all(1, b"\n");
+}
+
+fn tell_with(s: &[u8], lent: &[u8]) {
+    let mut out = [0u8; SIZE];
+    let n = copy(lent, &mut out);
+    tell(s, &mut out[..n]);
 }
 
 fn replay(s: &[u8]) {
@@ -62,7 +53,7 @@ fn replay(s: &[u8]) {
         if at < s.len() {
             let lent = lines::frame_at(s, at);
             if lent.whole {
-                tell(
+                tell_with(
                     lines::part(s, list.at, list.end),
                     lines::part(s, lent.at, lent.end),
                 );

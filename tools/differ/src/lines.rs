@@ -25,6 +25,98 @@ pub fn compare(seed: u64, count: u64) -> u64 {
     tally.tell()
 }
 
+/// The bytes of a buffer of a length, different from place to place.
+fn lent(length: usize) -> Vec<u8> {
+    (0..length).map(|i| (i * 7 + 13) as u8).collect()
+}
+
+/// Writes the files `stdin` and `stdout` of crates/remapping_lines_vectors: the lists of the specification's examples, lists at
+/// the limits, and `count` generated ones of each number at different places, each with buffers of the length that it
+/// needs, of one byte less and of some more, and what tools/format says of them.
+pub fn sample(count: usize) -> std::io::Result<()> {
+    let good = |n: usize| b"a=/b\n".repeat(n);
+    let mut lists: Vec<Vec<u8>> = EXAMPLES.iter().map(|list| list.to_vec()).collect();
+    lists.extend([
+        good(limits::REMAPPINGS),
+        good(limits::REMAPPINGS + 1),
+        [good(limits::REMAPPINGS), b"x".to_vec()].concat(),
+        [good(limits::REMAPPINGS - 1), b"x\n".to_vec(), good(2)].concat(),
+        [b"\n".repeat(40), good(1)].concat(),
+    ]);
+    for (name, slash) in [(255, ""), (255, "/"), (256, ""), (256, "/")] {
+        lists.push([&b"n".repeat(name), slash.as_bytes(), b"=/b"].concat());
+    }
+    let mut found: BTreeMap<u8, Vec<usize>> = BTreeMap::new();
+    for index in 0..100_000 {
+        let list = lines::list(7, index);
+        let (number, place) = match read(&list) {
+            Ok(remappings) => (0, remappings.len()),
+            Err(told) => told,
+        };
+        let places = found.entry(number).or_default();
+        if list.len() <= 300 && places.len() < count && !places.contains(&place) {
+            places.push(place);
+            lists.push(list);
+        }
+    }
+    let (mut input, mut output) = (Vec::new(), String::new());
+    for list in lists {
+        let rooms = match answer(&list, usize::MAX) {
+            Ok(length) => vec![length, length - 1, length + 3],
+            Err(_) => vec![8],
+        };
+        for room in rooms {
+            let mut buffer = lent(room);
+            for part in [&list, &buffer] {
+                input.extend_from_slice(&(part.len() as u32).to_be_bytes());
+                input.extend_from_slice(part);
+            }
+            output += &match answer(&list, room) {
+                Ok(length) => {
+                    let remappings = read(&list).unwrap_or_default();
+                    buffer[..length].copy_from_slice(&section(&remappings));
+                    format!("ok {length}\n")
+                }
+                Err((number, place)) => format!("no {number} {place}\n"),
+            };
+            buffer
+                .iter()
+                .for_each(|byte| output += &format!("{byte:02x}"));
+            output += "\n";
+        }
+    }
+    std::fs::write("stdin", input)?;
+    std::fs::write("stdout", output)
+}
+
+/// The examples of docs/SPECIFICATION.md and their kin.
+const EXAMPLES: &[&[u8]] = &[
+    b"",
+    b"\n\n",
+    b"lib=/l",
+    b"/r:lib=/l\n",
+    b"lib/=/l/",
+    b"lib=/l//",
+    b"lib=//",
+    b"lib=/",
+    b"/=/b",
+    b"//=/b",
+    b"a=/b:c",
+    b"a=/b=c",
+    b"/x:b:c=/d",
+    b"/a=b:c=/d",
+    b"/r/:a=/b",
+    b":a=/b",
+    b"=",
+    b"a=/b\n=",
+    b"a=/b\n\nc=/d",
+    b"\r\n",
+    b"a=/b\r\n",
+    b" ",
+    b"crate=/l\ncrate=/l\n",
+    b"@openzeppelin/=/lib/openzeppelin-contracts/\n",
+];
+
 /// Bundles with a section put in, how many of them pass 1 to 13, and how many link.
 #[derive(Default)]
 struct Spliced {

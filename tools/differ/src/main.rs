@@ -88,6 +88,14 @@ fn main() -> std::process::ExitCode {
             (Some(seed), Some(count)) => lines::compare(seed, count),
             _ => return usage(),
         },
+        ["lines-sample", count] => match number(count).map(|count| lines::sample(count as usize)) {
+            Some(Ok(())) => 0,
+            Some(Err(error)) => {
+                eprintln!("differ: {error}");
+                1
+            }
+            None => return usage(),
+        },
         ["names", seed, count] => match (number(seed), number(count)) {
             (Some(seed), Some(count)) => names::compare(seed, count),
             _ => return usage(),
@@ -123,6 +131,7 @@ fn usage() -> std::process::ExitCode {
          \x20      differ assemble SEED COUNT   steps 1 to 5 and the image of generated bundles\n\
          \x20      differ assemble-sample LENGTH  the files stdin and stdout of crates/assembly_vectors\n\
          \x20      differ lines SEED COUNT      remapping lists, every short one too, and their sections in bundles\n\
+         \x20      differ lines-sample COUNT    the files stdin and stdout of crates/remapping_lines_vectors\n\
          \x20      differ names SEED COUNT      prefixes and keywords\n\
          \x20      differ measure WHICH WHO TIMES   WHICH is largest, alike or middle, WHO port or tools: checks\n\
          \x20      differ measure names WHO TIMES   WHO is port or original: prefixes and keywords\n\

@@ -32,7 +32,7 @@ find-requires-2 : tie.Need-find-requires-2
 find-requires-2 c κs = search needs
 
 is-context-requires : tie.Need-is-context-requires
-is-context-requires c κs = search needs
+is-context-requires c κs = (c .find2) .ensures .0
 
 returns-2 : tie.Need-returns-2
 returns-2 c = let some : 0 < length ((c .before .before .before .before .before .before .before .args) .t .now) = let f = (c .before .before .before .before .before .if1) .left in omega arith in let h : remapping-limit ≤ (c .before .before .before .before .before .before .before .args) .n = omega arith in test-many ((c .before .before .before .before .before .before .before .args) .at) ((c .before .before .before .before .before .before .before .args) .n) ((c .before .before .before .before .before .before .before .args) .size) ((c .before .before .before .before .before .before .before .args) .t .now) some h
@@ -68,10 +68,10 @@ returns-5 : tie.Need-returns-5
 returns-5 c = let some : 0 < length ((c .before .before .before .before .before .before .before .before .before .before .before .before .before .args) .t .now) = let f = (c .before .before .before .before .before .before .before .before .before .before .before .if1) .left in omega arith in let few : (c .before .before .before .before .before .before .before .before .before .before .before .before .before .args) .n < remapping-limit = omega arith in let split : has equals ((c .before .before .before .before .before .before .before .before .before .before .before .before .before .args) .t .now) ≡ true = it-has equals ((c .before .before .before .before .before .before .before .before .before .before .before .before .before .args) .t .now) ((c .before .before .before .before .before .before .before .before .before .before .find) .result) ((c .before .before .before .before .before .before .before .before .before .before .find) .ensures .0) (omega arith) in let l : take ((c .before .before .before .before .before .before .before .before .before .before .find) .result) ((c .before .before .before .before .before .before .before .before .before .before .before .before .before .args) .t .now) ≡ left ((c .before .before .before .before .before .before .before .before .before .before .before .before .before .args) .t .now) = part-before equals ((c .before .before .before .before .before .before .before .before .before .before .before .before .before .args) .t .now) ((c .before .before .before .before .before .before .before .before .before .before .find) .result) ((c .before .before .before .before .before .before .before .before .before .before .find) .ensures .0) in let context : isPath (contextIn (left ((c .before .before .before .before .before .before .before .before .before .before .before .before .before .args) .t .now))) ≡ true = ap (λ (x : List ℕ). isPath (contextIn x)) (sym l) ∙ (sym ((c .before .before .before .before .before .before .before .is-context) .ensures) ∙ not-false _ ((c .before .before .before .before .if4) .left)) in let r : (c .before .before .target) .result .now ≡ targetIn (right ((c .before .before .before .before .before .before .before .before .before .before .before .before .before .args) .t .now)) = (c .before .before .target) .ensures ∙ right-part ((c .before .before .before .before .before .before .before .before .before .before .before .before .before .args) .t .now) ((c .before .before .before .before .before .before .before .before .before .before .find) .result) ((c .before .before .before .before .before .before .before .before .before .before .find) .ensures .0) in test-target ((c .before .before .before .before .before .before .before .before .before .before .before .before .before .args) .at) ((c .before .before .before .before .before .before .before .before .before .before .before .before .before .args) .n) ((c .before .before .before .before .before .before .before .before .before .before .before .before .before .args) .size) ((c .before .before .before .before .before .before .before .before .before .before .before .before .before .args) .t .now) some few split context ((c .before .before .before .before .before .before .before .before .before .before .before .before .before .args) .at + ((c .before .before .before .before .before .before .before .before .before .before .find) .result + 1)) (let e = (c .before .before .before .before .before .before .before .before .before .before .find) .ensures .0 in omega arith) (ap isPath (sym r) ∙ (sym ((c .before .is-path) .ensures) ∙ not-true _ ((c .if5) .taken)))
 
 name-requires : tie.Need-name-requires
-name-requires c κs = search needs
+name-requires c κs = (c .before .before .before .before .before .before .before .before .find2) .ensures .0
 
 name-place-requires : tie.Need-name-place-requires
-name-place-requires c κs = search needs
+name-place-requires c κs = (c .before .before .before .before .before .before .before .before .before .before .find2) .ensures .0
 
 add-t22 : tie.Need-add-t22
 add-t22 c = let k = length-take-le ((c .before .before .before .before .before .before .before .before .before .before .before .before .before .find) .result) ((c .before .before .before .before .before .before .before .before .before .before .before .before .before .before .before .before .args) .t .now) ((c .before .before .before .before .before .before .before .before .before .before .before .before .before .find) .ensures .1) in let p = (c .name-place) .ensures .1 in omega arith
@@ -80,7 +80,7 @@ returns-6 : tie.Need-returns-6
 returns-6 c = let some : 0 < length ((c .before .before .before .before .before .before .before .before .before .before .before .before .before .before .before .before .args) .t .now) = let f = (c .before .before .before .before .before .before .before .before .before .before .before .before .before .before .if1) .left in omega arith in let few : (c .before .before .before .before .before .before .before .before .before .before .before .before .before .before .before .before .args) .n < remapping-limit = omega arith in let split : has equals ((c .before .before .before .before .before .before .before .before .before .before .before .before .before .before .before .before .args) .t .now) ≡ true = it-has equals ((c .before .before .before .before .before .before .before .before .before .before .before .before .before .before .before .before .args) .t .now) ((c .before .before .before .before .before .before .before .before .before .before .before .before .before .find) .result) ((c .before .before .before .before .before .before .before .before .before .before .before .before .before .find) .ensures .0) (omega arith) in let l : take ((c .before .before .before .before .before .before .before .before .before .before .before .before .before .find) .result) ((c .before .before .before .before .before .before .before .before .before .before .before .before .before .before .before .before .args) .t .now) ≡ left ((c .before .before .before .before .before .before .before .before .before .before .before .before .before .before .before .before .args) .t .now) = part-before equals ((c .before .before .before .before .before .before .before .before .before .before .before .before .before .before .before .before .args) .t .now) ((c .before .before .before .before .before .before .before .before .before .before .before .before .before .find) .result) ((c .before .before .before .before .before .before .before .before .before .before .before .before .before .find) .ensures .0) in let context : isPath (contextIn (left ((c .before .before .before .before .before .before .before .before .before .before .before .before .before .before .before .before .args) .t .now))) ≡ true = ap (λ (x : List ℕ). isPath (contextIn x)) (sym l) ∙ (sym ((c .before .before .before .before .before .before .before .before .before .before .is-context) .ensures) ∙ not-false _ ((c .before .before .before .before .before .before .before .if4) .left)) in let r : (c .before .before .before .before .before .target) .result .now ≡ targetIn (right ((c .before .before .before .before .before .before .before .before .before .before .before .before .before .before .before .before .args) .t .now)) = (c .before .before .before .before .before .target) .ensures ∙ right-part ((c .before .before .before .before .before .before .before .before .before .before .before .before .before .before .before .before .args) .t .now) ((c .before .before .before .before .before .before .before .before .before .before .before .before .before .find) .result) ((c .before .before .before .before .before .before .before .before .before .before .before .before .before .find) .ensures .0) in let target : isPath (targetIn (right ((c .before .before .before .before .before .before .before .before .before .before .before .before .before .before .before .before .args) .t .now))) ≡ true = ap isPath (sym r) ∙ (sym ((c .before .before .before .before .is-path) .ensures) ∙ not-false _ ((c .before .before .before .if5) .left)) in let n : (c .before .before .name) .result .now ≡ nameIn (left ((c .before .before .before .before .before .before .before .before .before .before .before .before .before .before .before .before .args) .t .now)) = (c .before .before .name) .ensures ∙ ap nameIn l in let nl = ap length n in let p : (c .name-place) .result ≡ namePlace (left ((c .before .before .before .before .before .before .before .before .before .before .before .before .before .before .before .before .args) .t .now)) = (c .name-place) .ensures .0 ∙ ap namePlace l in let h : name-size < length (nameIn (left ((c .before .before .before .before .before .before .before .before .before .before .before .before .before .before .before .before .args) .t .now))) = omega arith in test-name ((c .before .before .before .before .before .before .before .before .before .before .before .before .before .before .before .before .args) .at) ((c .before .before .before .before .before .before .before .before .before .before .before .before .before .before .before .before .args) .n) ((c .before .before .before .before .before .before .before .before .before .before .before .before .before .before .before .before .args) .size) ((c .before .before .before .before .before .before .before .before .before .before .before .before .before .before .before .before .args) .t .now) some few split context target ((c .before .before .before .before .before .before .before .before .before .before .before .before .before .before .before .before .args) .at + (c .name-place) .result) (omega arith) h
 
 context-len-requires : tie.Need-context-len-requires
-context-len-requires c κs = search needs
+context-len-requires c κs = (c .before .before .before .before .before .before .before .before .before .before .find2) .ensures .0
 
 add-t23 : tie.Need-add-t23
 add-t23 c = let some : 0 < length ((c .before .before .before .before .before .before .before .before .before .before .before .before .before .before .before .before .args) .t .now) = let f = (c .before .before .before .before .before .before .before .before .before .before .before .before .before .before .if1) .left in omega arith in let few : (c .before .before .before .before .before .before .before .before .before .before .before .before .before .before .before .before .args) .n < remapping-limit = omega arith in let split : has equals ((c .before .before .before .before .before .before .before .before .before .before .before .before .before .before .before .before .args) .t .now) ≡ true = it-has equals ((c .before .before .before .before .before .before .before .before .before .before .before .before .before .before .before .before .args) .t .now) ((c .before .before .before .before .before .before .before .before .before .before .before .before .before .find) .result) ((c .before .before .before .before .before .before .before .before .before .before .before .before .before .find) .ensures .0) (omega arith) in let l : take ((c .before .before .before .before .before .before .before .before .before .before .before .before .before .find) .result) ((c .before .before .before .before .before .before .before .before .before .before .before .before .before .before .before .before .args) .t .now) ≡ left ((c .before .before .before .before .before .before .before .before .before .before .before .before .before .before .before .before .args) .t .now) = part-before equals ((c .before .before .before .before .before .before .before .before .before .before .before .before .before .before .before .before .args) .t .now) ((c .before .before .before .before .before .before .before .before .before .before .before .before .before .find) .result) ((c .before .before .before .before .before .before .before .before .before .before .before .before .before .find) .ensures .0) in let context : isPath (contextIn (left ((c .before .before .before .before .before .before .before .before .before .before .before .before .before .before .before .before .args) .t .now))) ≡ true = ap (λ (x : List ℕ). isPath (contextIn x)) (sym l) ∙ (sym ((c .before .before .before .before .before .before .before .before .before .before .is-context) .ensures) ∙ not-false _ ((c .before .before .before .before .before .before .before .if4) .left)) in let r : (c .before .before .before .before .before .target) .result .now ≡ targetIn (right ((c .before .before .before .before .before .before .before .before .before .before .before .before .before .before .before .before .args) .t .now)) = (c .before .before .before .before .before .target) .ensures ∙ right-part ((c .before .before .before .before .before .before .before .before .before .before .before .before .before .before .before .before .args) .t .now) ((c .before .before .before .before .before .before .before .before .before .before .before .before .before .find) .result) ((c .before .before .before .before .before .before .before .before .before .before .before .before .before .find) .ensures .0) in let target : isPath (targetIn (right ((c .before .before .before .before .before .before .before .before .before .before .before .before .before .before .before .before .args) .t .now))) ≡ true = ap isPath (sym r) ∙ (sym ((c .before .before .before .before .is-path) .ensures) ∙ not-false _ ((c .before .before .before .if5) .left)) in let n : (c .before .before .name) .result .now ≡ nameIn (left ((c .before .before .before .before .before .before .before .before .before .before .before .before .before .before .before .before .args) .t .now)) = (c .before .before .name) .ensures ∙ ap nameIn l in let nl = ap length n in let cl : (c .context-len) .result ≡ length (contextIn (left ((c .before .before .before .before .before .before .before .before .before .before .before .before .before .before .before .before .args) .t .now))) = (c .context-len) .ensures ∙ ap (λ (x : List ℕ). length (contextIn x)) l in let rl = ap length r in let b = (path-form (contextIn (left ((c .before .before .before .before .before .before .before .before .before .before .before .before .before .before .before .before .args) .t .now))) context) .short in let d = (path-form (targetIn (right ((c .before .before .before .before .before .before .before .before .before .before .before .before .before .before .before .before .args) .t .now))) target) .short in omega arith

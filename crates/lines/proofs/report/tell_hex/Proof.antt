@@ -2,8 +2,8 @@
 use Prim.Native.Nat.{_-_}
 use lib.ListN.{length}
 use borrow.Author.Needs.{needs}
-use Rattle.assembly_vectors.proofs.tell_hex.Statement.{statement}
-use Rattle.assembly_vectors.proofs.tell_hex.Tie as tie
+use Rattle.lines.proofs.report.tell_hex.Statement.{statement}
+use Rattle.lines.proofs.report.tell_hex.Tie as tie
 
 abbrev Inv-loop : tie.InvT-loop
 Inv-loop s at₀ at = Unit {0}
