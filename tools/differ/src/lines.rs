@@ -89,6 +89,45 @@ pub fn sample(count: usize) -> std::io::Result<()> {
     std::fs::write("stdout", output)
 }
 
+/// Lists to count instructions on: `long` has 32 lines of 700 bytes with their line feed, `short` 32 lines of the form `lib_07=/lib/seven`.
+fn measured(which: &str) -> Option<Vec<u8>> {
+    let path = |bytes: usize| -> Vec<u8> {
+        let component = b"/the_component_of_thirty_2_bytes".iter();
+        component.cycle().take(bytes).copied().collect()
+    };
+    let line = |i: usize| match which {
+        "long" => {
+            let name = format!("{i:02}").into_bytes().repeat(93);
+            Some([&path(255), &b":"[..], &name, b"/=", &path(255), b"\n"].concat())
+        }
+        "short" => Some(format!("lib_{i:02}=/lib/number_{i:02}\n").into_bytes()),
+        _ => None,
+    };
+    (0..limits::REMAPPINGS)
+        .map(line)
+        .collect::<Option<Vec<_>>>()
+        .map(|lines| lines.concat())
+}
+
+/// Reads a list so often; WHO is `port`, or `tools` for the reader of tools/format, which writes the section too.
+pub fn measure(which: &str, who: &str, times: u64) -> u64 {
+    let Some(list) = measured(which) else {
+        return 1;
+    };
+    let mut out = vec![0; limits::SECTION];
+    let mut told = 0;
+    for _ in 0..times {
+        let list = std::hint::black_box(&list);
+        told += match who {
+            "port" => host::remappings(list, &mut out).1,
+            "tools" => read(list).map_or(0, |remappings| section(&remappings).len()),
+            _ => return 1,
+        };
+    }
+    println!("{} bytes, {told} told", list.len());
+    0
+}
+
 /// The examples of docs/SPECIFICATION.md and their kin.
 const EXAMPLES: &[&[u8]] = &[
     b"",

@@ -100,6 +100,10 @@ fn main() -> std::process::ExitCode {
             (Some(seed), Some(count)) => names::compare(seed, count),
             _ => return usage(),
         },
+        ["measure", "lines", which, who, times] => match number(times) {
+            Some(times) => lines::measure(which, who, times),
+            _ => return usage(),
+        },
         ["measure", "names", who, times] => match number(times) {
             Some(times) => names::measure(who, times),
             _ => return usage(),
@@ -133,6 +137,7 @@ fn usage() -> std::process::ExitCode {
          \x20      differ lines SEED COUNT      remapping lists, every short one too, and their sections in bundles\n\
          \x20      differ lines-sample COUNT    the files stdin and stdout of crates/remapping_lines_vectors\n\
          \x20      differ names SEED COUNT      prefixes and keywords\n\
+         \x20      differ measure lines LIST WHO TIMES   LIST is long or short, WHO port or tools: remapping lists\n\
          \x20      differ measure WHICH WHO TIMES   WHICH is largest, alike or middle, WHO port or tools: checks\n\
          \x20      differ measure names WHO TIMES   WHO is port or original: prefixes and keywords\n\
          \x20      differ measure order SHAPE WHO TIMES   WHO is port, original or model, SHAPE as in `generate`\n\
