@@ -11,7 +11,7 @@ use Rattle.bundle.specs.Theorems.{complete}
 use Rattle.linker.specs.Link.{linkBundle}
 use Rattle.linker.specs.Call.{answerTo, reportTo, imageTo, entriesTo, TreeTo, linkAnswer, linkReport, linkImage, linkEntries, LinkTree}
 use Rattle.scope_tree.specs.declared.Tree.{Tree}
-use Rattle.remapping_lines.specs.Lines.{section, linesAnswer, linesBuffer}
+use Rattle.remapping_lines.specs.Lines.{linesAnswer, linesBuffer}
 use Rattle.remapping_lines.specs.Theorems.{meant, withSection, withRemappings, same-bytes, written}
 use Rattle.remapping_lines.specs.declared.Lines.the-variants.{Section}
 

@@ -5,7 +5,7 @@ use mathlib.Core.Bool.{Bool, true, false, _&&_}
 use mathlib.Core.Path.{_≡_, refl}
 use mathlib.Core.List.{List, [], _∷_, _++_, map}
 use lib.Dec.{eqb}
-use lib.ListN.{length, replicate, drop, take}
+use lib.ListN.{length, replicate}
 use Rattle.names.specs.Bytes.{ascii, same, all}
 use Rattle.names.specs.Path.{onto, split, components, isComponent, wellFormed, isPath}
 use Rattle.bundle.specs.Bundle.{Text}

@@ -7,4 +7,6 @@ pub mod Printed
 pub mod Cases
 -- LAWS for the code
 pub mod Splitting
-pub mod Passes
+pub mod Testing
+pub mod Writing
+pub mod Answers

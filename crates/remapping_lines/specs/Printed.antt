@@ -1,14 +1,14 @@
 -- Remappings printed as lines are read back as themselves. Assumes nothing.
-use Prim.Native.Nat.{ℕ, zero, suc, _+_, _≤_, _<_}
+use Prim.Native.Nat.{ℕ, suc, _+_, _≤_, _<_}
 use native.Mathlib.Omega.{arith}
-use mathlib.Core.Bool.{Bool, true, false, cond, _||_, or-false}
+use mathlib.Core.Bool.{Bool, true, false, cond}
 use mathlib.Core.Logic.{_⊎_, inl, inr}
 use mathlib.Core.Path.{_≡_, refl, sym, ap, subst, _∙_}
-use mathlib.Core.List.{List, [], _∷_, _++_, append-assoc, map}
+use mathlib.Core.List.{List, [], _∷_, _++_, map}
 use lib.Dec.{eqb, leb}
-use lib.ListN.{length, drop, length-append}
+use lib.ListN.{length, length-append}
 use borrow.Author.Tests.{ne-eqb, eqb-true}
-use Rattle.names.specs.Bytes.{slash, same, all, same-eq, same-refl, same-differs, false-true, and-left, and-right}
+use Rattle.names.specs.Bytes.{slash, same, all, same-eq, same-differs, false-true, and-left, and-right}
 use Rattle.names.specs.Path.{component-limit, root, split, components, isComponent, wellFormed, isPath}
 use Rattle.names.specs.PathTheorems.{form as path-form}
 use Rattle.names.specs.Split.{split-join}
@@ -17,9 +17,10 @@ use Rattle.bundle.specs.Limits.{remapping-limit}
 use Rattle.bundle.specs.Encode.{remapping}
 use Rattle.bundle.specs.Encode.{counted as byte-list}
 use Rattle.bundle.specs.Form.{Every, FormedRemapping}
-use Rattle.remapping_lines.specs.Lines.{line-feed, equals, colon, has, before, behind, pieces, dropped, Line, placed, content, linesOf, left, right, contextIn, prefixIn, nameIn, targetIn, remappingOf, remappingsOf, section}
-use Rattle.remapping_lines.specs.SplitTheorems.{Split, split-only, glued, Without, pieces-only, slash-dropped, others-kept}
-use Rattle.remapping_lines.specs.Passes.{Passes, AllPass, Accepted}
+use Rattle.remapping_lines.specs.Lines.{line-feed, equals, colon, has, pieces, dropped, placed, content, linesOf, left, right, contextIn, prefixIn, nameIn, targetIn, remappingOf, remappingsOf, section}
+use Rattle.remapping_lines.specs.SplitTheorems.{split-only, glued, Without, pieces-only, slash-dropped}
+use Rattle.remapping_lines.specs.Testing.{Passes}
+use Rattle.remapping_lines.specs.Writing.{AllPass, Accepted}
 use Rattle.remapping_lines.specs.Theorems.{passes-always}
 
 -- one slash more behind a name that would lose one

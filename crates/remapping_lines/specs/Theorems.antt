@@ -1,7 +1,7 @@
 -- What a remapping list is answered, in words; and the section in a bundle. Assumes nothing.
 use Prim.Native.Nat.{ℕ, zero, suc, _+_, _*_, _≤_, _<_}
 use native.Mathlib.Omega.{arith}
-use mathlib.Core.Bool.{Bool, true, false, cond}
+use mathlib.Core.Bool.{Bool, true, false}
 use mathlib.Core.Path.{_≡_, refl, sym, ap, subst, _∙_}
 use mathlib.Core.List.{List, [], _∷_, _++_}
 use lib.Dec.{ltb, leb}
@@ -9,7 +9,7 @@ use lib.ListN.{length, getD, take, drop, length-append}
 use lib.Seq.{take-at, drop-at, length-take-le}
 use borrow.Author.Tests.{ltb-true, ltb-false, lt-ltb, le-ltb, leb-true, leb-false, le-leb, lt-leb}
 use Rattle.names.specs.Path.{isPath}
-use Rattle.bundle.specs.Bundle.{Text, File, Remapping, Bundle}
+use Rattle.bundle.specs.Bundle.{Text, Remapping, Bundle}
 use Rattle.bundle.specs.Limits.{remapping-limit, remapping-size, folder-width, file-width}
 use Rattle.bundle.specs.Encode.{string, joined, sized, remapping, file, fields, encode}
 use Rattle.bundle.specs.Encode.{counted as byte-list, countedBy as count-list}
@@ -18,8 +18,8 @@ use Rattle.bundle.specs.Decode.{afterRemapping, remappingAt, remappingsAt, file
 use Rattle.bundle.specs.Form.{Every, FormedRemapping}
 use Rattle.bundle.specs.Complete.{remapping-writ, count-writ}
 use Rattle.bundle.specs.Conflicts.{orElse}
-use Rattle.bundle.specs.Answers.{refused-ok, refused-number, refused-place, both-ok}
-use Rattle.bundle.specs.First.{firstTold, tested, First, first-only, first-all}
+use Rattle.bundle.specs.Answers.{refused-ok, refused-number, refused-place}
+use Rattle.bundle.specs.First.{firstTold, tested, first-only, first-all}
 use Rattle.bundle.specs.declared.Width.the-variants.{Byte}
 use Rattle.bundle.specs.declared.Field.the-variants.{Remapping as RemappingField}
 use Rattle.bundle.specs.declared.Scan.the-variants.{Next}
@@ -28,9 +28,10 @@ use Rattle.bundle.specs.declared.Checked.the-variants.{Ok}
 use Rattle.bundle.specs.declared.Checked.the-variants.{Refused as Fault}
 use Rattle.encoder.specs.Started.{started}
 use Rattle.encoder.specs.Parts.{started-length}
-use Rattle.remapping_lines.specs.Lines.{equals, name-size, has, Line, linesOf, left, right, remappingOf, targetPlace, namePlace, unless, lineVerdict, linesVerdict, verdict, remappingsOf, section, linesAnswer, linesBuffer}
-use Rattle.remapping_lines.specs.Passes.{Passes, AllPass, Accepted, lineBytes, listBytes, lines-pass, line-passes, remapping-few, section-is, tally, tally-is, tally-within, Within}
-use Rattle.remapping_lines.specs.declared.Lines.{Lines}
+use Rattle.remapping_lines.specs.Lines.{equals, name-size, has, Line, linesOf, left, remappingOf, targetPlace, namePlace, unless, lineVerdict, linesVerdict, verdict, remappingsOf, section, linesAnswer, linesBuffer}
+use Rattle.remapping_lines.specs.Testing.{Passes, lineBytes, lines-pass, remapping-few}
+use Rattle.remapping_lines.specs.Writing.{AllPass, Accepted, listBytes}
+use Rattle.remapping_lines.specs.Answers.{meant-length, section-is}
 use Rattle.remapping_lines.specs.declared.Lines.the-variants.{Section, Refused}
 
 -- A LINE'S REFUSALS after n lines with content, each with its number and place, where those before it don't hold
@@ -156,11 +157,6 @@ pub record Encoded (s : Text) : Type 0 where
   pub each : (i : ℕ) → i < length (linesOf s) → (d : Remapping) → getD (meant s) i d ≡ remappingOf (getD (linesOf s) i none .text)
   pub formed : Every FormedRemapping (meant s)
   pub short : length (section s) ≤ section-size
-
-meant-length : (ls : List Line) → length (remappingsOf ls) ≡ length ls
-unfolding remappingsOf
-meant-length [] = refl
-meant-length (l ∷ ls) = ap suc (meant-length ls)
 
 meant-each : (ls : List Line) (i : ℕ) → i < length ls → (d : Remapping) → getD (remappingsOf ls) i d ≡ remappingOf (getD ls i none .text)
 unfolding remappingsOf

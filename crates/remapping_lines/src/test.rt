@@ -4,7 +4,7 @@ ghost use Prim.Native.Nat.{_+_, _*_, _≤_, _<_, _^_};
 ghost use lib.ListN.{length};
 ghost use Rattle.bundle.specs.Limits.{remapping-limit, remapping-size};
 ghost use Rattle.remapping_lines.specs.Lines.{linesOf};
-ghost use Rattle.remapping_lines.specs.Passes.{tally, tallyPiece};
+ghost use Rattle.remapping_lines.specs.Testing.{tally, tallyPiece};
 use crate::Tested;
 use crate::bytes::find;
 use crate::halves::context_len;

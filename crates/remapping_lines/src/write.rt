@@ -7,7 +7,7 @@ ghost use Rattle.bundle.specs.declared.Width.the-variants.{Byte};
 ghost use Rattle.bundle.specs.Encode.{string};
 ghost use Rattle.encoder.specs.Started.{started};
 ghost use Rattle.remapping_lines.specs.Lines.{colon, before, contextIn};
-ghost use Rattle.remapping_lines.specs.Passes.{Passable, pieceBytes, listBytes, Accepted};
+ghost use Rattle.remapping_lines.specs.Writing.{Passable, pieceBytes, listBytes, Accepted};
 use crate::bytes::find;
 use crate::halves::name;
 use crate::halves::target;

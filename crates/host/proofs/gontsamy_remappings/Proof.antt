@@ -1,5 +1,5 @@
+-- `gontsamy_remappings` meets its contract. Assumes nothing.
 use borrow.Author.Needs.{needs}
-use native.Mathlib.Omega.{arith}
 use Rattle.host.proofs.gontsamy_remappings.Statement.{statement}
 use Rattle.host.proofs.gontsamy_remappings.Tie as tie
 use Rattle.host.specs.RemappingsTold.{told-section, told-turned}

@@ -1,5 +1,5 @@
+-- `copy` stays within what is lent. Assumes nothing.
 use borrow.Author.Needs.{needs}
-use native.Mathlib.Omega.{arith}
 use Rattle.remapping_lines_vectors.proofs.copy.Statement.{statement}
 use Rattle.remapping_lines_vectors.proofs.copy.Tie as tie
 use Prim.Native.Nat.{_≤_, _-_}

@@ -1,5 +1,5 @@
+-- The loop of `replay` goes on while something is left. Assumes nothing.
 use borrow.Author.Needs.{needs}
-use native.Mathlib.Omega.{arith}
 use Rattle.remapping_lines_vectors.proofs.replay.Statement.{statement}
 use Rattle.remapping_lines_vectors.proofs.replay.Tie as tie
 use Prim.Native.Nat.{_-_}

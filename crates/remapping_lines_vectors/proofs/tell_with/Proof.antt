@@ -1,5 +1,5 @@
+-- The needs of `tell_with`. Assumes nothing.
 use borrow.Author.Needs.{needs}
-use native.Mathlib.Omega.{arith}
 use Rattle.remapping_lines_vectors.proofs.tell_with.Statement.{statement}
 use Rattle.remapping_lines_vectors.proofs.tell_with.Tie as tie
 use mathlib.Core.Path.{sym}

@@ -1,3 +1,4 @@
+-- `find` meets its contract: no byte passed is c. Assumes nothing.
 use borrow.Author.Needs.{needs}
 use native.Mathlib.Omega.{arith}
 use Rattle.remapping_lines.proofs.bytes.find.Statement.{statement}

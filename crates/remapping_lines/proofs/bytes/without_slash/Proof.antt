@@ -1,10 +1,11 @@
+-- `without_slash` meets its contract: by its last byte. Assumes nothing.
 use borrow.Author.Needs.{needs}
 use native.Mathlib.Omega.{arith}
 use Rattle.remapping_lines.proofs.bytes.without_slash.Statement.{statement}
 use Rattle.remapping_lines.proofs.bytes.without_slash.Tie as tie
-use Prim.Native.Nat.{ℕ, suc, _-_}
-use mathlib.Core.Path.{_≡_, sym, _∙_}
-use lib.ListN.{length, length-take}
+use Prim.Native.Nat.{_-_}
+use mathlib.Core.Path.{sym}
+use lib.ListN.{length}
 use lib.Seq.{length-take-le}
 use Rattle.remapping_lines.specs.Splitting.{dropped-none, dropped-kept, dropped-slash}
 

@@ -1,8 +1,8 @@
-use borrow.Author.Needs.{needs}
+-- `context_len` meets its contract. Assumes nothing.
 use native.Mathlib.Omega.{arith}
 use Rattle.remapping_lines.proofs.halves.context_len.Statement.{statement}
 use Rattle.remapping_lines.proofs.halves.context_len.Tie as tie
-use mathlib.Core.Path.{_≡_, sym, ap, _∙_}
+use mathlib.Core.Path.{sym, ap, _∙_}
 use lib.ListN.{length}
 use lib.Seq.{length-take-le}
 use Rattle.remapping_lines.specs.Splitting.{context-whole, context-part}

@@ -1,11 +1,11 @@
+-- `is_context` meets its contract. Assumes nothing.
 use borrow.Author.Needs.{needs}
 use native.Mathlib.Omega.{arith}
 use Rattle.remapping_lines.proofs.halves.is_context.Statement.{statement}
 use Rattle.remapping_lines.proofs.halves.is_context.Tie as tie
-use mathlib.Core.Path.{_≡_, sym, ap, _∙_}
-use lib.ListN.{length}
+use mathlib.Core.Path.{sym, ap, _∙_}
 use lib.Seq.{length-take-le}
-use Rattle.names.specs.Path.{isPath, root}
+use Rattle.names.specs.Path.{isPath}
 use Rattle.remapping_lines.specs.Splitting.{context-whole, context-part, root-is-path}
 
 returns : tie.Need-returns

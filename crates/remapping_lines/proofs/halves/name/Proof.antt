@@ -1,9 +1,8 @@
+-- `name` meets its contract. Assumes nothing.
 use borrow.Author.Needs.{needs}
-use native.Mathlib.Omega.{arith}
 use Rattle.remapping_lines.proofs.halves.name.Statement.{statement}
 use Rattle.remapping_lines.proofs.halves.name.Tie as tie
-use mathlib.Core.Path.{_≡_, sym, ap, _∙_}
-use Rattle.names.specs.Bytes.{rest-is}
+use mathlib.Core.Path.{_∙_}
 use Rattle.remapping_lines.specs.Splitting.{name-is}
 
 name-place-requires : tie.Need-name-place-requires

@@ -1,3 +1,4 @@
+-- `name_place` meets its contract. Assumes nothing.
 use borrow.Author.Needs.{needs}
 use native.Mathlib.Omega.{arith}
 use Rattle.remapping_lines.proofs.halves.name_place.Statement.{statement}
