@@ -12,7 +12,7 @@ use Rattle.linker.specs.Link.{linkBundle}
 use Rattle.linker.specs.Call.{answerTo, reportTo, imageTo, entriesTo, TreeTo, linkAnswer, linkReport, linkImage, linkEntries, LinkTree}
 use Rattle.scope_tree.specs.declared.Tree.{Tree}
 use Rattle.remapping_lines.specs.Lines.{linesAnswer, linesBuffer}
-use Rattle.remapping_lines.specs.Theorems.{meant, withSection, withRemappings, same-bytes, written}
+use Rattle.remapping_lines.specs.Theorems.{meant, withSection, withRemappings, same-bytes, written, accepted-remappings}
 use Rattle.remapping_lines.specs.declared.Lines.the-variants.{Section}
 
 -- b with what the operation wrote of a list at its remappings' place, and b with the remappings meant, written by the encoder
@@ -38,6 +38,8 @@ module _ (b : Bundle) (list : Text) (out : List ℕ) (n : ℕ) (told : linesAnsw
     pub entries : (image : List ℕ) → linkEntries spliced image ≡ linkEntries (encode remapped) image
     pub trees : (image : List ℕ) (t u : Tree) → LinkTree spliced image t u → LinkTree (encode remapped) image t u
     pub trees-back : (image : List ℕ) (t u : Tree) → LinkTree (encode remapped) image t u → LinkTree spliced image t u
+    -- and an accepted bundle has the remappings meant
+    pub remappings : (b′ : Bundle) → read spliced ≡ value b′ → b′ .remappings ≡ meant list
 
   pub as-one : AsOne
   as-one =
@@ -51,6 +53,7 @@ module _ (b : Bundle) (list : Text) (out : List ℕ) (n : ℕ) (told : linesAnsw
         entries = λ image. ap (λ (s : List ℕ). linkEntries s image) e;
         trees = λ image t u. subst (λ (s : List ℕ). LinkTree s image t u) e;
         trees-back = λ image t u. subst (λ (s : List ℕ). LinkTree s image t u) (sym e);
+        remappings = λ b′ h. accepted-remappings b list (written list out n told .passes) b′ (ap (λ (x : List ℕ). read (withSection b x)) (sym (written list out n told .starts)) ∙ h);
       }
 
   -- AND WHERE THE BUNDLE WITH THE REMAPPINGS IS WELL-FORMED it is the value read, so that all of it is told of its `linkBundle`

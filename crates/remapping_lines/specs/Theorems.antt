@@ -3,23 +3,27 @@ use Prim.Native.Nat.{ℕ, zero, suc, _+_, _*_, _≤_, _<_}
 use native.Mathlib.Omega.{arith}
 use mathlib.Core.Bool.{Bool, true, false}
 use mathlib.Core.Path.{_≡_, refl, sym, ap, subst, _∙_}
-use mathlib.Core.List.{List, [], _∷_, _++_}
+use mathlib.Core.List.{List, [], _∷_, _++_, append-assoc}
 use lib.Dec.{ltb, leb}
 use lib.ListN.{length, getD, take, drop, length-append}
 use lib.Seq.{take-at, drop-at, length-take-le}
 use borrow.Author.Tests.{ltb-true, ltb-false, lt-ltb, le-ltb, leb-true, leb-false, le-leb, lt-leb}
 use Rattle.names.specs.Path.{isPath}
 use Rattle.bundle.specs.Bundle.{Text, Remapping, Bundle}
-use Rattle.bundle.specs.Limits.{remapping-limit, remapping-size, folder-width, file-width}
-use Rattle.bundle.specs.Encode.{string, joined, sized, remapping, file, fields, encode}
+use Rattle.bundle.specs.Limits.{header, remapping-limit, remapping-size, folder-width, file-width}
+use Rattle.bundle.specs.Encode.{two, string, count-bytes, joined, sized, remapping, file, fields, encode}
 use Rattle.bundle.specs.Encode.{counted as byte-list, countedBy as count-list}
-use Rattle.bundle.specs.Scan.{scanField, scanList}
-use Rattle.bundle.specs.Decode.{afterRemapping, remappingAt, remappingsAt, filesAt, decode}
+use Rattle.bundle.specs.Scan.{pastCount, scanField, scanList}
+use Rattle.bundle.specs.Decode.{far, after, afterListBy, afterRemapping, remappingAt, remappingsAt, filesAt, decode}
 use Rattle.bundle.specs.Form.{Every, FormedRemapping}
 use Rattle.bundle.specs.Complete.{remapping-writ, count-writ}
 use Rattle.bundle.specs.Conflicts.{orElse}
-use Rattle.bundle.specs.Answers.{refused-ok, refused-number, refused-place}
+use Rattle.bundle.specs.Read.{value, read}
+use Rattle.bundle.specs.Read.{verdict as Read·verdict}
+use Rattle.bundle.specs.Stand.{at-byte, at-count, at-append, count-length}
+use Rattle.bundle.specs.Answers.{refused-ok, refused-number, refused-place, value-ok}
 use Rattle.bundle.specs.First.{firstTold, tested, first-only, first-all}
+use Rattle.bundle.specs.declared.Width.{Width}
 use Rattle.bundle.specs.declared.Width.the-variants.{Byte}
 use Rattle.bundle.specs.declared.Field.the-variants.{Remapping as RemappingField}
 use Rattle.bundle.specs.declared.Scan.the-variants.{Next}
@@ -288,3 +292,57 @@ stood s h bytes rest end at e k =
       scans = w .scans;
       ends = λ i. rw (← i) (w .skips);
     }
+
+-- WHERE THE REMAPPINGS OF A BUNDLE STAND, whatever its other fields are
+module _ (bytes : List ℕ) where
+  past-string : (t : Text) (at : ℕ) (rest : List ℕ) → drop at bytes ≡ string t ++ rest → after bytes at ≡ at + length (string t)
+  unfolding string
+  past-string t at rest e = let n = at-byte bytes at (length t) (t ++ rest) e .0 in omega arith
+
+  past-strings : (l : List Text) (at : ℕ) (rest : List ℕ) → drop at bytes ≡ joined string l ++ rest → far (after bytes) (length l) at ≡ at + length (joined string l)
+  unfolding far joined
+  past-strings [] at rest e = omega arith
+  past-strings (t ∷ l) at rest e =
+      let e₁ : drop at bytes ≡ string t ++ (joined string l ++ rest) = e ∙ append-assoc (string t) (joined string l) rest in
+      let a = past-string t at (joined string l ++ rest) e₁ in
+      let b = past-strings l (at + length (string t)) rest (at-append bytes at (string t) (joined string l ++ rest) e₁) in
+      ap (λ (n : ℕ). far (after bytes) (length l) n) a ∙ (b ∙ omega (arith, length-append (string t) (joined string l)))
+
+  past-list : (w : Width) (l : List Text) (at : ℕ) (rest : List ℕ) → drop at bytes ≡ count-list w string l ++ rest → afterListBy w (after bytes) bytes at ≡ at + length (count-list w string l)
+  past-list w l at rest e =
+      let c = at-count bytes w at (length l) (joined string l ++ rest) (e ∙ append-assoc (count-bytes w (length l)) (joined string l) rest) in
+      let b = past-strings l (pastCount w at) rest (c .1) in
+      ap (λ (n : ℕ). far (after bytes) n (pastCount w at)) (c .0)
+      ∙ (b ∙ omega (arith, length-append (count-bytes w (length l)) (joined string l), count-length bytes w (length l)))
+
+module _ (b : Bundle) (mid : List ℕ) where
+  abbrev bytes-of : List ℕ
+  bytes-of = withSection b mid
+
+  abbrev fields-of : List ℕ
+  fields-of = string (b .root) ++ (count-list (folder-width (b .version)) string (b .folders) ++ (mid ++ count-list (file-width (b .version)) file (b .files)))
+
+  behind-header : drop header bytes-of ≡ fields-of
+  unfolding sized two
+  behind-header = refl
+
+  remappings-place : drop (remappingsAt bytes-of) bytes-of ≡ mid ++ count-list (file-width (b .version)) file (b .files)
+  remappings-place =
+      let X = string (b .root) in
+      let Y = count-list (folder-width (b .version)) string (b .folders) in
+      let Z = mid ++ count-list (file-width (b .version)) file (b .files) in
+      let a = past-string bytes-of (b .root) header (Y ++ Z) behind-header in
+      let e = at-append bytes-of header X (Y ++ Z) behind-header in
+      let p = past-list bytes-of (folder-width (b .version)) (b .folders) (header + length X) Z e in
+      let q : remappingsAt bytes-of ≡ header + length X + length Y = ap (λ (n : ℕ). afterListBy (folder-width (b .version)) (after bytes-of) bytes-of n) a ∙ p in
+      ap (λ (n : ℕ). drop n bytes-of) q ∙ at-append bytes-of (header + length X) Y Z e
+
+-- A bundle that is accepted with the section of a list at its remappings' place has the remappings meant
+pub accepted-remappings : (b : Bundle) (s : Text) → Accepted s → (b′ : Bundle) → read (withSection b (section s)) ≡ value b′ → b′ .remappings ≡ meant s
+unfolding read
+accepted-remappings b s h b′ e =
+    let bytes = withSection b (section s) in
+    let at = remappingsAt bytes in
+    let v = value-ok (Read·verdict bytes) (decode bytes) b′ e in
+    let k = stood s h bytes (count-list (file-width (b .version)) file (b .files)) (at + length (section s)) at (remappings-place b (section s)) (omega arith) in
+    ap (λ (x : Bundle). x .remappings) (sym (v .1)) ∙ k .reads refl

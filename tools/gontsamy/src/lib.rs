@@ -1,7 +1,8 @@
 //! The proved linker of SimplicityHL module files behind safe calls.
 //!
 //! [`link`] takes a bundle of whatever bytes and answers with the linked program or a refusal; it never panics and allocates nothing.
-//! What it does is proved of the library that it calls (docs/EVIDENCE.md); this crate only lends the buffers and reads the answer.
+//! [`remappings`] reads a remapping list of a Solidity project, and [`Builder::remapping_list`] puts one into a bundle.
+//! What they do is proved of the library that is called (docs/EVIDENCE.md); this crate only lends the buffers and reads the answer.
 //!
 //! ```
 //! use gontsamy::{link, Builder, Buffers};
