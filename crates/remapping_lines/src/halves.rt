@@ -40,7 +40,7 @@ pub fn name_place(left: &[u8], c: usize) -> usize
 }
 
 // The prefix without one slash at its end.
-pub fn name(left: &[u8], c: usize) -> &[u8]
+pub fn name_in(left: &[u8], c: usize) -> &[u8]
     requires { ⌜ c ≡ length (before colon (now left)) ⌝ }
     ensures { λ r. ⌜ now r ≡ nameIn (now (left .entry)) ⌝ }
 {
@@ -49,7 +49,7 @@ pub fn name(left: &[u8], c: usize) -> &[u8]
 }
 
 // The target without one slash at its end, unless it is `/`.
-pub fn target(right: &[u8]) -> &[u8]
+pub fn target_in(right: &[u8]) -> &[u8]
     ensures { λ r. ⌜ now r ≡ targetIn (now (right .entry)) ⌝ }
 {
     if right.len() == 1 {

@@ -9,9 +9,9 @@ use crate::Tested;
 use crate::bytes::find;
 use crate::halves::context_len;
 use crate::halves::is_context;
-use crate::halves::name;
+use crate::halves::name_in;
 use crate::halves::name_place;
-use crate::halves::target;
+use crate::halves::target_in;
 use bundle::limits::REMAPPINGS;
 
 pub const LINE_FEED: u8 = 10;
@@ -46,11 +46,11 @@ fn test_line(t: &[u8], at: usize, n: usize, size: usize) -> Tested
         return Tested::Bad(4, at);
     }
     let second = e + 1;
-    let to = target(&t[second..]);
+    let to = target_in(&t[second..]);
     if !names::is_path(to) {
         return Tested::Bad(4, at + second);
     }
-    let prefix = name(left, c);
+    let prefix = name_in(left, c);
     if prefix.len() > NAME {
         return Tested::Bad(12, at + name_place(left, c));
     }

@@ -9,8 +9,8 @@ ghost use Rattle.encoder.specs.Started.{started};
 ghost use Rattle.remapping_lines.specs.Lines.{colon, before, contextIn};
 ghost use Rattle.remapping_lines.specs.Writing.{Passable, pieceBytes, listBytes, Accepted};
 use crate::bytes::find;
-use crate::halves::name;
-use crate::halves::target;
+use crate::halves::name_in;
+use crate::halves::target_in;
 use crate::test::COLON;
 use crate::test::EQUALS;
 use crate::test::LINE_FEED;
@@ -39,9 +39,9 @@ fn write_line(out: &mut [u8], t: &[u8]) -> usize
     let left = &t[..e];
     let c = find(left, COLON);
     let a = put_context(out, left, c);
-    let b = a + put_string(&mut out[a..], name(left, c));
+    let b = a + put_string(&mut out[a..], name_in(left, c));
     let second = e + 1;
-    b + put_string(&mut out[b..], target(&t[second..]))
+    b + put_string(&mut out[b..], target_in(&t[second..]))
 }
 
 // All lines' remappings.

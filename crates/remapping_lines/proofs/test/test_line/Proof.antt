@@ -67,17 +67,17 @@ returns-4 c =
 add-second : tie.Need-add-second
 add-second c = search needs
 
-sub-target : tie.Need-sub-target
-sub-target c = search needs
+sub-target-in : tie.Need-sub-target-in
+sub-target-in c = search needs
 
-part-target-start : tie.Need-part-target-start
-part-target-start c = search needs
+part-target-in-start : tie.Need-part-target-in-start
+part-target-in-start c = search needs
 
-part-target-end : tie.Need-part-target-end
-part-target-end c = search needs
+part-target-in-end : tie.Need-part-target-in-end
+part-target-in-end c = search needs
 
-target-requires : tie.Need-target-requires
-target-requires c κs = search needs
+target-in-requires : tie.Need-target-in-requires
+target-in-requires c κs = search needs
 
 is-path-requires : tie.Need-is-path-requires
 is-path-requires c κs = search needs
@@ -92,15 +92,15 @@ returns-5 c =
     let find' = c .before .before .before .before .before .before .before .before .before .before .find in
     let is-context' = c .before .before .before .before .before .before .before .is-context in
     let if4' = c .before .before .before .before .if4 in
-    let target' = c .before .before .target in
+    let target-in' = c .before .before .target-in in
     let is-path' = c .before .is-path in
     let some : 0 < length (args' .t .now) = let f = if1' .left in omega arith in
     let few : args' .n < remapping-limit = omega arith in
     let inside : (find' .result) < length (args' .t .now) = omega arith in
-    test-target (args' .at) (args' .n) (args' .size) (args' .t .now) some few (find' .result) (find' .ensures .0) inside (is-context' .result) (is-context' .ensures) (not-false _ (if4' .left)) (target' .result .now) (target' .ensures) (is-path' .result) (is-path' .ensures) (not-true _ ((c .if5) .taken))
+    test-target (args' .at) (args' .n) (args' .size) (args' .t .now) some few (find' .result) (find' .ensures .0) inside (is-context' .result) (is-context' .ensures) (not-false _ (if4' .left)) (target-in' .result .now) (target-in' .ensures) (is-path' .result) (is-path' .ensures) (not-true _ ((c .if5) .taken))
 
-name-requires : tie.Need-name-requires
-name-requires c κs =
+name-in-requires : tie.Need-name-in-requires
+name-in-requires c κs =
     let find2' = c .before .before .before .before .before .before .before .before .find2 in
     find2' .ensures .0
 
@@ -122,18 +122,18 @@ returns-6 c =
     let args' = c .before .before .before .before .before .before .before .before .before .before .before .before .before .before .before .before .args in
     let if1' = c .before .before .before .before .before .before .before .before .before .before .before .before .before .before .if1 in
     let find' = c .before .before .before .before .before .before .before .before .before .before .before .before .before .find in
-    let name' = c .before .before .name in
+    let name-in' = c .before .before .name-in in
     let is-context' = c .before .before .before .before .before .before .before .before .before .before .is-context in
     let if4' = c .before .before .before .before .before .before .before .if4 in
-    let target' = c .before .before .before .before .before .target in
+    let target-in' = c .before .before .before .before .before .target-in in
     let is-path' = c .before .before .before .before .is-path in
     let if5' = c .before .before .before .if5 in
     let name-place' = c .name-place in
     let some : 0 < length (args' .t .now) = let f = if1' .left in omega arith in
     let few : args' .n < remapping-limit = omega arith in
     let inside : (find' .result) < length (args' .t .now) = omega arith in
-    let long : name-size < length (name' .result .now) = omega arith in
-    test-name (args' .at) (args' .n) (args' .size) (args' .t .now) some few (find' .result) (find' .ensures .0) inside (is-context' .result) (is-context' .ensures) (not-false _ (if4' .left)) (target' .result .now) (target' .ensures) (is-path' .result) (is-path' .ensures) (not-false _ (if5' .left)) (name' .result .now) (name' .ensures) (name-place' .result) (name-place' .ensures .0) long
+    let long : name-size < length (name-in' .result .now) = omega arith in
+    test-name (args' .at) (args' .n) (args' .size) (args' .t .now) some few (find' .result) (find' .ensures .0) inside (is-context' .result) (is-context' .ensures) (not-false _ (if4' .left)) (target-in' .result .now) (target-in' .ensures) (is-path' .result) (is-path' .ensures) (not-false _ (if5' .left)) (name-in' .result .now) (name-in' .ensures) (name-place' .result) (name-place' .ensures .0) long
 
 context-len-requires : tie.Need-context-len-requires
 context-len-requires c κs =
@@ -145,10 +145,10 @@ add-t23 c =
     let args' = c .before .before .before .before .before .before .before .before .before .before .before .before .before .before .before .before .args in
     let if1' = c .before .before .before .before .before .before .before .before .before .before .before .before .before .before .if1 in
     let find' = c .before .before .before .before .before .before .before .before .before .before .before .before .before .find in
-    let name' = c .before .before .name in
+    let name-in' = c .before .before .name-in in
     let is-context' = c .before .before .before .before .before .before .before .before .before .before .is-context in
     let if4' = c .before .before .before .before .before .before .before .if4 in
-    let target' = c .before .before .before .before .before .target in
+    let target-in' = c .before .before .before .before .before .target-in in
     let is-path' = c .before .before .before .before .is-path in
     let if5' = c .before .before .before .if5 in
     let context-len' = c .context-len in
@@ -156,8 +156,8 @@ add-t23 c =
     let some : 0 < length (args' .t .now) = let f = if1' .left in omega arith in
     let few : args' .n < remapping-limit = omega arith in
     let inside : (find' .result) < length (args' .t .now) = omega arith in
-    let short : length (name' .result .now) ≤ name-size = omega arith in
-    let k = added-few (args' .at) (args' .n) (args' .size) (args' .t .now) some few (find' .result) (find' .ensures .0) inside (is-context' .result) (is-context' .ensures) (not-false _ (if4' .left)) (target' .result .now) (target' .ensures) (is-path' .result) (is-path' .ensures) (not-false _ (if5' .left)) (name' .result .now) (name' .ensures) (context-len' .result) (context-len' .ensures) short in
+    let short : length (name-in' .result .now) ≤ name-size = omega arith in
+    let k = added-few (args' .at) (args' .n) (args' .size) (args' .t .now) some few (find' .result) (find' .ensures .0) inside (is-context' .result) (is-context' .ensures) (not-false _ (if4' .left)) (target-in' .result .now) (target-in' .ensures) (is-path' .result) (is-path' .ensures) (not-false _ (if5' .left)) (name-in' .result .now) (name-in' .ensures) (context-len' .result) (context-len' .ensures) short in
     let w = pre' .1 in
     omega arith
 
@@ -166,10 +166,10 @@ add-t25 c =
     let args' = c .before .before .before .before .before .before .before .before .before .before .before .before .before .before .before .before .args in
     let if1' = c .before .before .before .before .before .before .before .before .before .before .before .before .before .before .if1 in
     let find' = c .before .before .before .before .before .before .before .before .before .before .before .before .before .find in
-    let name' = c .before .before .name in
+    let name-in' = c .before .before .name-in in
     let is-context' = c .before .before .before .before .before .before .before .before .before .before .is-context in
     let if4' = c .before .before .before .before .before .before .before .if4 in
-    let target' = c .before .before .before .before .before .target in
+    let target-in' = c .before .before .before .before .before .target-in in
     let is-path' = c .before .before .before .before .is-path in
     let if5' = c .before .before .before .if5 in
     let context-len' = c .context-len in
@@ -177,8 +177,8 @@ add-t25 c =
     let some : 0 < length (args' .t .now) = let f = if1' .left in omega arith in
     let few : args' .n < remapping-limit = omega arith in
     let inside : (find' .result) < length (args' .t .now) = omega arith in
-    let short : length (name' .result .now) ≤ name-size = omega arith in
-    let k = added-few (args' .at) (args' .n) (args' .size) (args' .t .now) some few (find' .result) (find' .ensures .0) inside (is-context' .result) (is-context' .ensures) (not-false _ (if4' .left)) (target' .result .now) (target' .ensures) (is-path' .result) (is-path' .ensures) (not-false _ (if5' .left)) (name' .result .now) (name' .ensures) (context-len' .result) (context-len' .ensures) short in
+    let short : length (name-in' .result .now) ≤ name-size = omega arith in
+    let k = added-few (args' .at) (args' .n) (args' .size) (args' .t .now) some few (find' .result) (find' .ensures .0) inside (is-context' .result) (is-context' .ensures) (not-false _ (if4' .left)) (target-in' .result .now) (target-in' .ensures) (is-path' .result) (is-path' .ensures) (not-false _ (if5' .left)) (name-in' .result .now) (name-in' .ensures) (context-len' .result) (context-len' .ensures) short in
     let w = pre' .1 in
     omega arith
 
@@ -187,10 +187,10 @@ add-t27 c =
     let args' = c .before .before .before .before .before .before .before .before .before .before .before .before .before .before .before .before .args in
     let if1' = c .before .before .before .before .before .before .before .before .before .before .before .before .before .before .if1 in
     let find' = c .before .before .before .before .before .before .before .before .before .before .before .before .before .find in
-    let name' = c .before .before .name in
+    let name-in' = c .before .before .name-in in
     let is-context' = c .before .before .before .before .before .before .before .before .before .before .is-context in
     let if4' = c .before .before .before .before .before .before .before .if4 in
-    let target' = c .before .before .before .before .before .target in
+    let target-in' = c .before .before .before .before .before .target-in in
     let is-path' = c .before .before .before .before .is-path in
     let if5' = c .before .before .before .if5 in
     let context-len' = c .context-len in
@@ -198,8 +198,8 @@ add-t27 c =
     let some : 0 < length (args' .t .now) = let f = if1' .left in omega arith in
     let few : args' .n < remapping-limit = omega arith in
     let inside : (find' .result) < length (args' .t .now) = omega arith in
-    let short : length (name' .result .now) ≤ name-size = omega arith in
-    let k = added-few (args' .at) (args' .n) (args' .size) (args' .t .now) some few (find' .result) (find' .ensures .0) inside (is-context' .result) (is-context' .ensures) (not-false _ (if4' .left)) (target' .result .now) (target' .ensures) (is-path' .result) (is-path' .ensures) (not-false _ (if5' .left)) (name' .result .now) (name' .ensures) (context-len' .result) (context-len' .ensures) short in
+    let short : length (name-in' .result .now) ≤ name-size = omega arith in
+    let k = added-few (args' .at) (args' .n) (args' .size) (args' .t .now) some few (find' .result) (find' .ensures .0) inside (is-context' .result) (is-context' .ensures) (not-false _ (if4' .left)) (target-in' .result .now) (target-in' .ensures) (is-path' .result) (is-path' .ensures) (not-false _ (if5' .left)) (name-in' .result .now) (name-in' .ensures) (context-len' .result) (context-len' .ensures) short in
     let w = pre' .1 in
     omega arith
 
@@ -208,10 +208,10 @@ add-t28 c =
     let args' = c .before .before .before .before .before .before .before .before .before .before .before .before .before .before .before .before .args in
     let if1' = c .before .before .before .before .before .before .before .before .before .before .before .before .before .before .if1 in
     let find' = c .before .before .before .before .before .before .before .before .before .before .before .before .before .find in
-    let name' = c .before .before .name in
+    let name-in' = c .before .before .name-in in
     let is-context' = c .before .before .before .before .before .before .before .before .before .before .is-context in
     let if4' = c .before .before .before .before .before .before .before .if4 in
-    let target' = c .before .before .before .before .before .target in
+    let target-in' = c .before .before .before .before .before .target-in in
     let is-path' = c .before .before .before .before .is-path in
     let if5' = c .before .before .before .if5 in
     let context-len' = c .context-len in
@@ -219,8 +219,8 @@ add-t28 c =
     let some : 0 < length (args' .t .now) = let f = if1' .left in omega arith in
     let few : args' .n < remapping-limit = omega arith in
     let inside : (find' .result) < length (args' .t .now) = omega arith in
-    let short : length (name' .result .now) ≤ name-size = omega arith in
-    let k = added-few (args' .at) (args' .n) (args' .size) (args' .t .now) some few (find' .result) (find' .ensures .0) inside (is-context' .result) (is-context' .ensures) (not-false _ (if4' .left)) (target' .result .now) (target' .ensures) (is-path' .result) (is-path' .ensures) (not-false _ (if5' .left)) (name' .result .now) (name' .ensures) (context-len' .result) (context-len' .ensures) short in
+    let short : length (name-in' .result .now) ≤ name-size = omega arith in
+    let k = added-few (args' .at) (args' .n) (args' .size) (args' .t .now) some few (find' .result) (find' .ensures .0) inside (is-context' .result) (is-context' .ensures) (not-false _ (if4' .left)) (target-in' .result .now) (target-in' .ensures) (is-path' .result) (is-path' .ensures) (not-false _ (if5' .left)) (name-in' .result .now) (name-in' .ensures) (context-len' .result) (context-len' .ensures) short in
     let w = pre' .1 in
     omega arith
 
@@ -229,18 +229,18 @@ returns-7 c =
     let args' = c .before .before .before .before .before .before .before .before .before .before .before .before .before .before .before .before .args in
     let if1' = c .before .before .before .before .before .before .before .before .before .before .before .before .before .before .if1 in
     let find' = c .before .before .before .before .before .before .before .before .before .before .before .before .before .find in
-    let name' = c .before .before .name in
+    let name-in' = c .before .before .name-in in
     let is-context' = c .before .before .before .before .before .before .before .before .before .before .is-context in
     let if4' = c .before .before .before .before .before .before .before .if4 in
-    let target' = c .before .before .before .before .before .target in
+    let target-in' = c .before .before .before .before .before .target-in in
     let is-path' = c .before .before .before .before .is-path in
     let if5' = c .before .before .before .if5 in
     let context-len' = c .context-len in
     let some : 0 < length (args' .t .now) = let f = if1' .left in omega arith in
     let few : args' .n < remapping-limit = omega arith in
     let inside : (find' .result) < length (args' .t .now) = omega arith in
-    let short : length (name' .result .now) ≤ name-size = omega arith in
-    test-good (args' .at) (args' .n) (args' .size) (args' .t .now) some few (find' .result) (find' .ensures .0) inside (is-context' .result) (is-context' .ensures) (not-false _ (if4' .left)) (target' .result .now) (target' .ensures) (is-path' .result) (is-path' .ensures) (not-false _ (if5' .left)) (name' .result .now) (name' .ensures) (context-len' .result) (context-len' .ensures) short
+    let short : length (name-in' .result .now) ≤ name-size = omega arith in
+    test-good (args' .at) (args' .n) (args' .size) (args' .t .now) some few (find' .result) (find' .ensures .0) inside (is-context' .result) (is-context' .ensures) (not-false _ (if4' .left)) (target-in' .result .now) (target-in' .ensures) (is-path' .result) (is-path' .ensures) (not-false _ (if5' .left)) (name-in' .result .now) (name-in' .ensures) (context-len' .result) (context-len' .ensures) short
 
 pub test-line-spec : {M : Type 1} → statement M
-test-line-spec = tie.close (tie.spec add-next returns find-requires slice-aggregate-left find-requires-2 is-context-requires returns-2 returns-3 returns-4 add-second sub-target part-target-start part-target-end target-requires is-path-requires add-t20 returns-5 name-requires name-place-requires add-t22 returns-6 context-len-requires add-t23 add-t25 add-t27 add-t28 returns-7)
+test-line-spec = tie.close (tie.spec add-next returns find-requires slice-aggregate-left find-requires-2 is-context-requires returns-2 returns-3 returns-4 add-second sub-target-in part-target-in-start part-target-in-end target-in-requires is-path-requires add-t20 returns-5 name-in-requires name-place-requires add-t22 returns-6 context-len-requires add-t23 add-t25 add-t27 add-t28 returns-7)

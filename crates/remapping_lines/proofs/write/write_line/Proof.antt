@@ -70,8 +70,8 @@ part-put-string-end c =
     let k = front-start (before-name (args' .t .now) some (pre' .0 some) (find' .result) (find' .ensures .0) (now (args' .out)) (pre' .1) (put-context' .last .0) (put-context' .result) (put-context' .ensures)) in
     search needs
 
-name-requires : tie.Need-name-requires
-name-requires c κs = search needs
+name-in-requires : tie.Need-name-in-requires
+name-in-requires c κs = search needs
 
 put-string-requires : tie.Need-put-string-requires
 put-string-requires c κs =
@@ -80,9 +80,9 @@ put-string-requires c κs =
     let pre' = c .before .before .before .before .before .before .before .before .before .before .before .before .pre in
     let find' = c .before .before .before .before .before .before .before .before .find in
     let put-context' = c .before .before .before .before .put-context in
-    let name' = c .name in
+    let name-in' = c .name-in in
     let some : 0 < length (args' .t .now) = let f = if1' .left in omega arith in
-    name-asked (args' .t .now) some (pre' .0 some) (find' .result) (find' .ensures .0) (now (args' .out)) (pre' .1) (put-context' .last .0) (put-context' .result) (put-context' .ensures) (name' .result .now) (name' .ensures)
+    name-asked (args' .t .now) some (pre' .0 some) (find' .result) (find' .ensures .0) (now (args' .out)) (pre' .1) (put-context' .last .0) (put-context' .result) (put-context' .ensures) (name-in' .result .now) (name-in' .ensures)
 
 add-b : tie.Need-add-b
 add-b c =
@@ -91,10 +91,10 @@ add-b c =
     let pre' = c .before .before .before .before .before .before .before .before .before .before .before .before .before .before .before .pre in
     let find' = c .before .before .before .before .before .before .before .before .before .before .before .find in
     let put-context' = c .before .before .before .before .before .before .before .put-context in
-    let name' = c .before .before .before .name in
+    let name-in' = c .before .before .before .name-in in
     let put-string' = c .before .before .put-string in
     let some : 0 < length (args' .t .now) = let f = if1' .left in omega arith in
-    let k = name-fits (args' .t .now) some (pre' .0 some) (find' .result) (find' .ensures .0) (now (args' .out)) (pre' .1) (put-context' .last .0) (put-context' .result) (put-context' .ensures) (name' .result .now) (name' .ensures) (put-string' .last .0) (put-string' .result) (put-string' .ensures) in
+    let k = name-fits (args' .t .now) some (pre' .0 some) (find' .result) (find' .ensures .0) (now (args' .out)) (pre' .1) (put-context' .last .0) (put-context' .result) (put-context' .ensures) (name-in' .result .now) (name-in' .ensures) (put-string' .last .0) (put-string' .result) (put-string' .ensures) in
     omega arith
 
 add-second : tie.Need-add-second
@@ -114,10 +114,10 @@ sub-put-string-2 c =
     let pre' = c .before .before .before .before .before .before .before .before .before .before .before .before .before .before .before .pre in
     let find' = c .before .before .before .before .before .before .before .before .before .before .before .find in
     let put-context' = c .before .before .before .before .before .before .before .put-context in
-    let name' = c .before .before .before .name in
+    let name-in' = c .before .before .before .name-in in
     let put-string' = c .before .before .put-string in
     let some : 0 < length (args' .t .now) = let f = if1' .left in omega arith in
-    let k = front-start (before-target (args' .t .now) some (pre' .0 some) (find' .result) (find' .ensures .0) (now (args' .out)) (pre' .1) (put-context' .last .0) (put-context' .result) (put-context' .ensures) (name' .result .now) (name' .ensures) (put-string' .last .0) (put-string' .result) (put-string' .ensures)) in
+    let k = front-start (before-target (args' .t .now) some (pre' .0 some) (find' .result) (find' .ensures .0) (now (args' .out)) (pre' .1) (put-context' .last .0) (put-context' .result) (put-context' .ensures) (name-in' .result .now) (name-in' .ensures) (put-string' .last .0) (put-string' .result) (put-string' .ensures)) in
     search needs
 
 part-put-string-start-2 : tie.Need-part-put-string-start-2
@@ -127,10 +127,10 @@ part-put-string-start-2 c =
     let pre' = c .before .before .before .before .before .before .before .before .before .before .before .before .before .before .before .pre in
     let find' = c .before .before .before .before .before .before .before .before .before .before .before .find in
     let put-context' = c .before .before .before .before .before .before .before .put-context in
-    let name' = c .before .before .before .name in
+    let name-in' = c .before .before .before .name-in in
     let put-string' = c .before .before .put-string in
     let some : 0 < length (args' .t .now) = let f = if1' .left in omega arith in
-    let k = front-start (before-target (args' .t .now) some (pre' .0 some) (find' .result) (find' .ensures .0) (now (args' .out)) (pre' .1) (put-context' .last .0) (put-context' .result) (put-context' .ensures) (name' .result .now) (name' .ensures) (put-string' .last .0) (put-string' .result) (put-string' .ensures)) in
+    let k = front-start (before-target (args' .t .now) some (pre' .0 some) (find' .result) (find' .ensures .0) (now (args' .out)) (pre' .1) (put-context' .last .0) (put-context' .result) (put-context' .ensures) (name-in' .result .now) (name-in' .ensures) (put-string' .last .0) (put-string' .result) (put-string' .ensures)) in
     search needs
 
 part-put-string-end-2 : tie.Need-part-put-string-end-2
@@ -140,14 +140,14 @@ part-put-string-end-2 c =
     let pre' = c .before .before .before .before .before .before .before .before .before .before .before .before .before .before .before .pre in
     let find' = c .before .before .before .before .before .before .before .before .before .before .before .find in
     let put-context' = c .before .before .before .before .before .before .before .put-context in
-    let name' = c .before .before .before .name in
+    let name-in' = c .before .before .before .name-in in
     let put-string' = c .before .before .put-string in
     let some : 0 < length (args' .t .now) = let f = if1' .left in omega arith in
-    let k = front-start (before-target (args' .t .now) some (pre' .0 some) (find' .result) (find' .ensures .0) (now (args' .out)) (pre' .1) (put-context' .last .0) (put-context' .result) (put-context' .ensures) (name' .result .now) (name' .ensures) (put-string' .last .0) (put-string' .result) (put-string' .ensures)) in
+    let k = front-start (before-target (args' .t .now) some (pre' .0 some) (find' .result) (find' .ensures .0) (now (args' .out)) (pre' .1) (put-context' .last .0) (put-context' .result) (put-context' .ensures) (name-in' .result .now) (name-in' .ensures) (put-string' .last .0) (put-string' .result) (put-string' .ensures)) in
     search needs
 
-sub-target : tie.Need-sub-target
-sub-target c =
+sub-target-in : tie.Need-sub-target-in
+sub-target-in c =
     let args' = c .before .before .before .before .before .before .before .before .before .before .before .before .before .before .before .before .args in
     let if1' = c .before .before .before .before .before .before .before .before .before .before .before .before .before .if1 in
     let pre' = c .before .before .before .before .before .before .before .before .before .before .before .before .before .before .before .before .pre in
@@ -156,8 +156,8 @@ sub-target c =
     let k = inside (args' .t .now) some (pre' .0 some) (find' .result) (find' .ensures .0) (now (args' .out)) (pre' .1) in
     search needs
 
-part-target-start : tie.Need-part-target-start
-part-target-start c =
+part-target-in-start : tie.Need-part-target-in-start
+part-target-in-start c =
     let args' = c .before .before .before .before .before .before .before .before .before .before .before .before .before .before .before .before .args in
     let if1' = c .before .before .before .before .before .before .before .before .before .before .before .before .before .if1 in
     let pre' = c .before .before .before .before .before .before .before .before .before .before .before .before .before .before .before .before .pre in
@@ -166,8 +166,8 @@ part-target-start c =
     let k = inside (args' .t .now) some (pre' .0 some) (find' .result) (find' .ensures .0) (now (args' .out)) (pre' .1) in
     search needs
 
-part-target-end : tie.Need-part-target-end
-part-target-end c =
+part-target-in-end : tie.Need-part-target-in-end
+part-target-in-end c =
     let args' = c .before .before .before .before .before .before .before .before .before .before .before .before .before .before .before .before .args in
     let if1' = c .before .before .before .before .before .before .before .before .before .before .before .before .before .if1 in
     let pre' = c .before .before .before .before .before .before .before .before .before .before .before .before .before .before .before .before .pre in
@@ -176,8 +176,8 @@ part-target-end c =
     let k = inside (args' .t .now) some (pre' .0 some) (find' .result) (find' .ensures .0) (now (args' .out)) (pre' .1) in
     search needs
 
-target-requires : tie.Need-target-requires
-target-requires c κs = search needs
+target-in-requires : tie.Need-target-in-requires
+target-in-requires c κs = search needs
 
 put-string-requires-2 : tie.Need-put-string-requires-2
 put-string-requires-2 c κs =
@@ -186,11 +186,11 @@ put-string-requires-2 c κs =
     let pre' = c .before .before .before .before .before .before .before .before .before .before .before .before .before .before .before .before .before .before .pre in
     let find' = c .before .before .before .before .before .before .before .before .before .before .before .before .before .before .find in
     let put-context' = c .before .before .before .before .before .before .before .before .before .before .put-context in
-    let name' = c .before .before .before .before .before .before .name in
+    let name-in' = c .before .before .before .before .before .before .name-in in
     let put-string' = c .before .before .before .before .before .put-string in
-    let target' = c .target in
+    let target-in' = c .target-in in
     let some : 0 < length (args' .t .now) = let f = if1' .left in omega arith in
-    target-asked (args' .t .now) some (pre' .0 some) (find' .result) (find' .ensures .0) (now (args' .out)) (pre' .1) (put-context' .last .0) (put-context' .result) (put-context' .ensures) (name' .result .now) (name' .ensures) (put-string' .last .0) (put-string' .result) (put-string' .ensures) (target' .result .now) (target' .ensures)
+    target-asked (args' .t .now) some (pre' .0 some) (find' .result) (find' .ensures .0) (now (args' .out)) (pre' .1) (put-context' .last .0) (put-context' .result) (put-context' .ensures) (name-in' .result .now) (name-in' .ensures) (put-string' .last .0) (put-string' .result) (put-string' .ensures) (target-in' .result .now) (target-in' .ensures)
 
 add-result : tie.Need-add-result
 add-result c =
@@ -199,12 +199,12 @@ add-result c =
     let pre' = c .before .before .before .before .before .before .before .before .before .before .before .before .before .before .before .before .before .before .before .before .before .pre in
     let find' = c .before .before .before .before .before .before .before .before .before .before .before .before .before .before .before .before .before .find in
     let put-context' = c .before .before .before .before .before .before .before .before .before .before .before .before .before .put-context in
-    let name' = c .before .before .before .before .before .before .before .before .before .name in
+    let name-in' = c .before .before .before .before .before .before .before .before .before .name-in in
     let put-string' = c .before .before .before .before .before .before .before .before .put-string in
-    let target' = c .before .before .before .target in
+    let target-in' = c .before .before .before .target-in in
     let put-string2' = c .before .before .put-string2 in
     let some : 0 < length (args' .t .now) = let f = if1' .left in omega arith in
-    let k = line-few (args' .t .now) some (pre' .0 some) (find' .result) (find' .ensures .0) (now (args' .out)) (pre' .1) (put-context' .last .0) (put-context' .result) (put-context' .ensures) (name' .result .now) (name' .ensures) (put-string' .last .0) (put-string' .result) (put-string' .ensures) (target' .result .now) (target' .ensures) (put-string2' .last .0) (put-string2' .result) (put-string2' .ensures) in
+    let k = line-few (args' .t .now) some (pre' .0 some) (find' .result) (find' .ensures .0) (now (args' .out)) (pre' .1) (put-context' .last .0) (put-context' .result) (put-context' .ensures) (name-in' .result .now) (name-in' .ensures) (put-string' .last .0) (put-string' .result) (put-string' .ensures) (target-in' .result .now) (target-in' .ensures) (put-string2' .last .0) (put-string2' .result) (put-string2' .ensures) in
     omega arith
 
 same-length : tie.Need-same-length
@@ -217,12 +217,12 @@ returns-2 c =
     let pre' = c .before .before .before .before .before .before .before .before .before .before .before .before .before .before .before .before .before .before .before .before .before .pre in
     let find' = c .before .before .before .before .before .before .before .before .before .before .before .before .before .before .before .before .before .find in
     let put-context' = c .before .before .before .before .before .before .before .before .before .before .before .before .before .put-context in
-    let name' = c .before .before .before .before .before .before .before .before .before .name in
+    let name-in' = c .before .before .before .before .before .before .before .before .before .name-in in
     let put-string' = c .before .before .before .before .before .before .before .before .put-string in
-    let target' = c .before .before .before .target in
+    let target-in' = c .before .before .before .target-in in
     let put-string2' = c .before .before .put-string2 in
     let some : 0 < length (args' .t .now) = let f = if1' .left in omega arith in
-    line-written (args' .t .now) some (pre' .0 some) (find' .result) (find' .ensures .0) (now (args' .out)) (pre' .1) (put-context' .last .0) (put-context' .result) (put-context' .ensures) (name' .result .now) (name' .ensures) (put-string' .last .0) (put-string' .result) (put-string' .ensures) (target' .result .now) (target' .ensures) (put-string2' .last .0) (put-string2' .result) (put-string2' .ensures)
+    line-written (args' .t .now) some (pre' .0 some) (find' .result) (find' .ensures .0) (now (args' .out)) (pre' .1) (put-context' .last .0) (put-context' .result) (put-context' .ensures) (name-in' .result .now) (name-in' .ensures) (put-string' .last .0) (put-string' .result) (put-string' .ensures) (target-in' .result .now) (target-in' .ensures) (put-string2' .last .0) (put-string2' .result) (put-string2' .ensures)
 
 pub write-line-spec : {M : Type 1} → statement M
-write-line-spec = tie.close (tie.spec returns find-requires slice-aggregate-left find-requires-2 put-context-requires sub-put-string part-put-string-start part-put-string-end name-requires put-string-requires add-b add-second sub-put-string-2 part-put-string-start-2 part-put-string-end-2 sub-target part-target-start part-target-end target-requires put-string-requires-2 add-result same-length returns-2)
+write-line-spec = tie.close (tie.spec returns find-requires slice-aggregate-left find-requires-2 put-context-requires sub-put-string part-put-string-start part-put-string-end name-in-requires put-string-requires add-b add-second sub-put-string-2 part-put-string-start-2 part-put-string-end-2 sub-target-in part-target-in-start part-target-in-end target-in-requires put-string-requires-2 add-result same-length returns-2)
