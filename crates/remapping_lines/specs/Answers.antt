@@ -1,11 +1,11 @@
 -- What both passes come to: the answer and the buffer. Assumes nothing.
-use Prim.Native.Nat.{ℕ, suc, _+_, _≤_, _<_}
+use Prim.Native.Nat.{ℕ, _+_, _≤_, _<_}
 use native.Mathlib.Omega.{arith}
 use mathlib.Core.Bool.{true, false}
 use mathlib.Core.Path.{_≡_, refl, sym, ap, _∙_}
 use mathlib.Core.List.{List, [], _∷_, _++_}
 use lib.Dec.{leb}
-use lib.ListN.{length, set}
+use lib.ListN.{length, set, length-map}
 use borrow.Author.Tests.{le-leb, lt-leb}
 use Rattle.bundle.specs.Bundle.{Text}
 use Rattle.bundle.specs.Limits.{remapping-limit}
@@ -15,7 +15,7 @@ use Rattle.bundle.specs.declared.Checked.the-variants.{Ok}
 use Rattle.bundle.specs.declared.Checked.the-variants.{Refused as Fault}
 use Rattle.encoder.specs.Started.{started}
 use Rattle.encoder.specs.Parts.{Front, put-first}
-use Rattle.remapping_lines.specs.Lines.{Line, linesOf, linesVerdict, verdict, remappingsOf, section, linesAnswer, linesBuffer}
+use Rattle.remapping_lines.specs.Lines.{Line, linesOf, remappingOf, linesVerdict, verdict, remappingsOf, section, linesAnswer, linesBuffer}
 use Rattle.remapping_lines.specs.declared.Lines.the-variants.{Section, Refused}
 use Rattle.remapping_lines.specs.declared.Tested.the-variants.{Counted, Bad}
 use Rattle.remapping_lines.specs.Testing.{bad-counted, bad-number, bad-place, counted-count, counted-size, lineBytes, lines-pass, passed, tally, tally-is}
@@ -24,8 +24,7 @@ use Rattle.remapping_lines.specs.Writing.{Accepted, AllPass, listBytes}
 -- THE ANSWER
 pub meant-length : (ls : List Line) → length (remappingsOf ls) ≡ length ls
 unfolding remappingsOf
-meant-length [] = refl
-meant-length (l ∷ ls) = ap suc (meant-length ls)
+meant-length ls = length-map ls (λ l. remappingOf (l .text))
 
 pub section-is : (s : Text) → section s ≡ length (linesOf s) ∷ listBytes s
 unfolding section listBytes counted

@@ -231,10 +231,9 @@ pub record Lengths (t : Text) : Type 0 where
   pub context : length (contextIn (left t)) < capacity Byte
   pub name : length (nameIn (left t)) < capacity Byte
   pub target : length (targetIn (right t)) < capacity Byte
-  pub all : length (remappingBytes t) ≡ length (string (contextIn (left t))) + (length (string (nameIn (left t))) + length (string (targetIn (right t))))
 
 pub part-lengths : (t : Text) → FormedRemapping (remappingOf t) → Lengths t
-unfolding remappingOf remapping
+unfolding remappingOf
 part-lengths t f =
     let c = path-form (contextIn (left t)) (f .0) .short in
     let g = path-form (targetIn (right t)) (f .1 .1) .short in
@@ -242,7 +241,6 @@ part-lengths t f =
       context = omega arith;
       name = f .1 .0;
       target = omega arith;
-      all = omega (arith, length-append (string (contextIn (left t))) (string (nameIn (left t)) ++ string (targetIn (right t))), length-append (string (nameIn (left t))) (string (targetIn (right t))));
     }
 
 pub record Within (m z : ℕ) : Type 0 where

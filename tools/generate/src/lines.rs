@@ -2,6 +2,7 @@
 
 use bundle_format::limits;
 
+use crate::families::OFFICE;
 use crate::project::LIBRARIES;
 use crate::rng::Rng;
 
@@ -32,20 +33,6 @@ const FOLDERS: &[&[u8]] = &[
     b"/node_modules/@openzeppelin",
     b"/...",
     b"/!/~",
-];
-
-/// The folders of the family `packages`.
-const OFFICE: &[&[u8]] = &[
-    b"/",
-    b"/src",
-    b"/src/pay",
-    b"/src/payroll",
-    b"/src/pay/lib",
-    b"/lib",
-    b"/lib/limits",
-    b"/lib/limits/math",
-    b"/lib/old",
-    b"/lib/old/limits",
 ];
 
 /// Folders that only a target can name.
@@ -243,14 +230,22 @@ fn good(rng: &mut Rng) -> Vec<u8> {
     joined(rng, &lines)
 }
 
+/// `/`, or a folder of the family `packages`.
+fn office_folder(rng: &mut Rng) -> Vec<u8> {
+    match rng.below(OFFICE.len() + 1) {
+        0 => b"/".to_vec(),
+        folder => OFFICE[folder - 1].to_vec(),
+    }
+}
+
 /// A few lines with folders and names of the family `packages`.
 fn office(rng: &mut Rng) -> Vec<u8> {
     let mut lines = Vec::new();
     for _ in 0..rng.between(1, 5) {
         let mut line = Line {
-            context: rng.chance(80).then(|| rng.word(OFFICE).to_vec()),
+            context: rng.chance(80).then(|| office_folder(rng)),
             prefix: rng.word(LIBRARIES).to_vec(),
-            target: rng.word(OFFICE).to_vec(),
+            target: office_folder(rng),
         };
         if rng.chance(30) {
             line.prefix.push(b'/');

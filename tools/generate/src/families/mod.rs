@@ -6,6 +6,8 @@ mod faults;
 mod limits;
 mod valid;
 
+pub(crate) use valid::OFFICE;
+
 use bundle_format::{Bundle, Item};
 
 use crate::rng::Rng;

@@ -137,19 +137,21 @@ of_shape! {
     large LARGE
 }
 
+/// The folders of `packages`.
+pub const OFFICE: [&[u8]; 9] = [
+    b"/src",
+    b"/src/pay",
+    b"/src/payroll",
+    b"/src/pay/lib",
+    b"/lib",
+    b"/lib/limits",
+    b"/lib/limits/math",
+    b"/lib/old",
+    b"/lib/old/limits",
+];
+
 /// Parts of one office's bundle: nested contexts with equal names, libraries inside packages.
 pub fn packages(rng: &mut Rng) -> Vec<u8> {
-    const FOLDERS: [&[u8]; 9] = [
-        b"/src",
-        b"/src/pay",
-        b"/src/payroll",
-        b"/src/pay/lib",
-        b"/lib",
-        b"/lib/limits",
-        b"/lib/limits/math",
-        b"/lib/old",
-        b"/lib/old/limits",
-    ];
     const REMAPPINGS: [(&[u8], &[u8], &[u8]); 11] = [
         (b"/", b"math", b"/lib/limits/math"),
         (b"/src", b"limits", b"/lib/limits"),
@@ -179,7 +181,7 @@ pub fn packages(rng: &mut Rng) -> Vec<u8> {
     ];
     let mut bundle = Bundle {
         root: rng.word(&[b"/src", b"/src", b"/src", b"/"]).to_vec(),
-        folders: FOLDERS.iter().map(|folder| folder.to_vec()).collect(),
+        folders: OFFICE.iter().map(|folder| folder.to_vec()).collect(),
         ..Bundle::default()
     };
     for (context, name, target) in REMAPPINGS {

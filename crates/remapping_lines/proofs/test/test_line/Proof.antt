@@ -3,12 +3,12 @@ use borrow.Author.Needs.{needs}
 use native.Mathlib.Omega.{arith}
 use Rattle.remapping_lines.proofs.test.test_line.Statement.{statement}
 use Rattle.remapping_lines.proofs.test.test_line.Tie as tie
-use Prim.Native.Nat.{_≤_, _<_}
+use Prim.Native.Nat.{_+_, _*_, _≤_, _<_}
 use mathlib.Core.Path.{sym}
 use lib.ListN.{length}
 use lib.Seq.{length-take-le}
 use borrow.Author.Tests.{not-true, not-false}
-use Rattle.bundle.specs.Limits.{remapping-limit}
+use Rattle.bundle.specs.Limits.{remapping-limit, remapping-size}
 use Rattle.remapping_lines.specs.Lines.{name-size}
 use Rattle.remapping_lines.specs.Testing.{test-empty, test-many, test-unsplit, test-context, test-target, test-name, test-good, added-few}
 
@@ -140,8 +140,11 @@ context-len-requires c κs =
     let find2' = c .before .before .before .before .before .before .before .before .before .before .find2 in
     find2' .ensures .0
 
-add-t23 : tie.Need-add-t23
-add-t23 c =
+-- what a line that passes adds is little, and so is what was there
+added : (c : tie.After-context-len)
+    → (3 + c .context-len .result + length (c .before .before .name-in .result .now) + length (c .before .before .before .before .before .target-in .result .now) ≤ remapping-size)
+    × (c .before .before .before .before .before .before .before .before .before .before .before .before .before .before .before .before .args .size ≤ 1 + remapping-size * remapping-limit)
+added c =
     let args' = c .before .before .before .before .before .before .before .before .before .before .before .before .before .before .before .before .args in
     let if1' = c .before .before .before .before .before .before .before .before .before .before .before .before .before .before .if1 in
     let find' = c .before .before .before .before .before .before .before .before .before .before .before .before .before .find in
@@ -157,71 +160,31 @@ add-t23 c =
     let few : args' .n < remapping-limit = omega arith in
     let inside : (find' .result) < length (args' .t .now) = omega arith in
     let short : length (name-in' .result .now) ≤ name-size = omega arith in
-    let k = added-few (args' .at) (args' .n) (args' .size) (args' .t .now) some few (find' .result) (find' .ensures .0) inside (is-context' .result) (is-context' .ensures) (not-false _ (if4' .left)) (target-in' .result .now) (target-in' .ensures) (is-path' .result) (is-path' .ensures) (not-false _ (if5' .left)) (name-in' .result .now) (name-in' .ensures) (context-len' .result) (context-len' .ensures) short in
     let w = pre' .1 in
+    (added-few (args' .at) (args' .n) (args' .size) (args' .t .now) some few (find' .result) (find' .ensures .0) inside (is-context' .result) (is-context' .ensures) (not-false _ (if4' .left)) (target-in' .result .now) (target-in' .ensures) (is-path' .result) (is-path' .ensures) (not-false _ (if5' .left)) (name-in' .result .now) (name-in' .ensures) (context-len' .result) (context-len' .ensures) short, omega arith)
+
+add-t23 : tie.Need-add-t23
+add-t23 c =
+    let k = added c .0 in
+    let w = added c .1 in
     omega arith
 
 add-t25 : tie.Need-add-t25
 add-t25 c =
-    let args' = c .before .before .before .before .before .before .before .before .before .before .before .before .before .before .before .before .args in
-    let if1' = c .before .before .before .before .before .before .before .before .before .before .before .before .before .before .if1 in
-    let find' = c .before .before .before .before .before .before .before .before .before .before .before .before .before .find in
-    let name-in' = c .before .before .name-in in
-    let is-context' = c .before .before .before .before .before .before .before .before .before .before .is-context in
-    let if4' = c .before .before .before .before .before .before .before .if4 in
-    let target-in' = c .before .before .before .before .before .target-in in
-    let is-path' = c .before .before .before .before .is-path in
-    let if5' = c .before .before .before .if5 in
-    let context-len' = c .context-len in
-    let pre' = c .before .before .before .before .before .before .before .before .before .before .before .before .before .before .before .before .pre in
-    let some : 0 < length (args' .t .now) = let f = if1' .left in omega arith in
-    let few : args' .n < remapping-limit = omega arith in
-    let inside : (find' .result) < length (args' .t .now) = omega arith in
-    let short : length (name-in' .result .now) ≤ name-size = omega arith in
-    let k = added-few (args' .at) (args' .n) (args' .size) (args' .t .now) some few (find' .result) (find' .ensures .0) inside (is-context' .result) (is-context' .ensures) (not-false _ (if4' .left)) (target-in' .result .now) (target-in' .ensures) (is-path' .result) (is-path' .ensures) (not-false _ (if5' .left)) (name-in' .result .now) (name-in' .ensures) (context-len' .result) (context-len' .ensures) short in
-    let w = pre' .1 in
+    let k = added c .0 in
+    let w = added c .1 in
     omega arith
 
 add-t27 : tie.Need-add-t27
 add-t27 c =
-    let args' = c .before .before .before .before .before .before .before .before .before .before .before .before .before .before .before .before .args in
-    let if1' = c .before .before .before .before .before .before .before .before .before .before .before .before .before .before .if1 in
-    let find' = c .before .before .before .before .before .before .before .before .before .before .before .before .before .find in
-    let name-in' = c .before .before .name-in in
-    let is-context' = c .before .before .before .before .before .before .before .before .before .before .is-context in
-    let if4' = c .before .before .before .before .before .before .before .if4 in
-    let target-in' = c .before .before .before .before .before .target-in in
-    let is-path' = c .before .before .before .before .is-path in
-    let if5' = c .before .before .before .if5 in
-    let context-len' = c .context-len in
-    let pre' = c .before .before .before .before .before .before .before .before .before .before .before .before .before .before .before .before .pre in
-    let some : 0 < length (args' .t .now) = let f = if1' .left in omega arith in
-    let few : args' .n < remapping-limit = omega arith in
-    let inside : (find' .result) < length (args' .t .now) = omega arith in
-    let short : length (name-in' .result .now) ≤ name-size = omega arith in
-    let k = added-few (args' .at) (args' .n) (args' .size) (args' .t .now) some few (find' .result) (find' .ensures .0) inside (is-context' .result) (is-context' .ensures) (not-false _ (if4' .left)) (target-in' .result .now) (target-in' .ensures) (is-path' .result) (is-path' .ensures) (not-false _ (if5' .left)) (name-in' .result .now) (name-in' .ensures) (context-len' .result) (context-len' .ensures) short in
-    let w = pre' .1 in
+    let k = added c .0 in
+    let w = added c .1 in
     omega arith
 
 add-t28 : tie.Need-add-t28
 add-t28 c =
-    let args' = c .before .before .before .before .before .before .before .before .before .before .before .before .before .before .before .before .args in
-    let if1' = c .before .before .before .before .before .before .before .before .before .before .before .before .before .before .if1 in
-    let find' = c .before .before .before .before .before .before .before .before .before .before .before .before .before .find in
-    let name-in' = c .before .before .name-in in
-    let is-context' = c .before .before .before .before .before .before .before .before .before .before .is-context in
-    let if4' = c .before .before .before .before .before .before .before .if4 in
-    let target-in' = c .before .before .before .before .before .target-in in
-    let is-path' = c .before .before .before .before .is-path in
-    let if5' = c .before .before .before .if5 in
-    let context-len' = c .context-len in
-    let pre' = c .before .before .before .before .before .before .before .before .before .before .before .before .before .before .before .before .pre in
-    let some : 0 < length (args' .t .now) = let f = if1' .left in omega arith in
-    let few : args' .n < remapping-limit = omega arith in
-    let inside : (find' .result) < length (args' .t .now) = omega arith in
-    let short : length (name-in' .result .now) ≤ name-size = omega arith in
-    let k = added-few (args' .at) (args' .n) (args' .size) (args' .t .now) some few (find' .result) (find' .ensures .0) inside (is-context' .result) (is-context' .ensures) (not-false _ (if4' .left)) (target-in' .result .now) (target-in' .ensures) (is-path' .result) (is-path' .ensures) (not-false _ (if5' .left)) (name-in' .result .now) (name-in' .ensures) (context-len' .result) (context-len' .ensures) short in
-    let w = pre' .1 in
+    let k = added c .0 in
+    let w = added c .1 in
     omega arith
 
 returns-7 : tie.Need-returns-7

@@ -3,11 +3,12 @@ use borrow.Author.Needs.{needs}
 use native.Mathlib.Omega.{arith}
 use Rattle.remapping_lines.proofs.write.write_line.Statement.{statement}
 use Rattle.remapping_lines.proofs.write.write_line.Tie as tie
-use Prim.Native.Nat.{_<_}
+use Prim.Native.Nat.{_+_, _-_, _≤_, _<_}
 use mathlib.Core.Path.{sym}
 use lib.ListN.{length}
 use lib.Seq.{length-take-le}
 use denote.Ref.{now}
+use borrow.Rule.Slice.PartMut.{putMid}
 use Rattle.encoder.specs.Parts.{front-start, none-filled}
 use Rattle.remapping_lines.specs.Writing.{pieceBytes, bytes-empty, inside, context-asked, before-name, name-asked, name-fits, before-target, target-asked, line-few, line-written}
 
@@ -37,38 +38,25 @@ put-context-requires c κs =
     let some : 0 < length (args' .t .now) = let f = if1' .left in omega arith in
     ((c .before .find2) .ensures .0, context-asked (args' .t .now) some (pre' .0 some) (find' .result) (find' .ensures .0) (now (args' .out)) (pre' .1))
 
-sub-put-string : tie.Need-sub-put-string
-sub-put-string c =
+-- the name starts within the buffer
+name-start : (c : tie.After-slice-known2) → c .before .before .put-context .result ≤ length (c .before .before .put-context .last .0)
+name-start c =
     let args' = c .before .before .before .before .before .before .before .before .before .before .args in
     let if1' = c .before .before .before .before .before .before .before .if1 in
     let pre' = c .before .before .before .before .before .before .before .before .before .before .pre in
     let find' = c .before .before .before .before .before .before .find in
     let put-context' = c .before .before .put-context in
     let some : 0 < length (args' .t .now) = let f = if1' .left in omega arith in
-    let k = front-start (before-name (args' .t .now) some (pre' .0 some) (find' .result) (find' .ensures .0) (now (args' .out)) (pre' .1) (put-context' .last .0) (put-context' .result) (put-context' .ensures)) in
-    search needs
+    front-start (before-name (args' .t .now) some (pre' .0 some) (find' .result) (find' .ensures .0) (now (args' .out)) (pre' .1) (put-context' .last .0) (put-context' .result) (put-context' .ensures))
+
+sub-put-string : tie.Need-sub-put-string
+sub-put-string c = let k = name-start c in search needs
 
 part-put-string-start : tie.Need-part-put-string-start
-part-put-string-start c =
-    let args' = c .before .before .before .before .before .before .before .before .before .before .args in
-    let if1' = c .before .before .before .before .before .before .before .if1 in
-    let pre' = c .before .before .before .before .before .before .before .before .before .before .pre in
-    let find' = c .before .before .before .before .before .before .find in
-    let put-context' = c .before .before .put-context in
-    let some : 0 < length (args' .t .now) = let f = if1' .left in omega arith in
-    let k = front-start (before-name (args' .t .now) some (pre' .0 some) (find' .result) (find' .ensures .0) (now (args' .out)) (pre' .1) (put-context' .last .0) (put-context' .result) (put-context' .ensures)) in
-    search needs
+part-put-string-start c = let k = name-start c in search needs
 
 part-put-string-end : tie.Need-part-put-string-end
-part-put-string-end c =
-    let args' = c .before .before .before .before .before .before .before .before .before .before .args in
-    let if1' = c .before .before .before .before .before .before .before .if1 in
-    let pre' = c .before .before .before .before .before .before .before .before .before .before .pre in
-    let find' = c .before .before .before .before .before .before .find in
-    let put-context' = c .before .before .put-context in
-    let some : 0 < length (args' .t .now) = let f = if1' .left in omega arith in
-    let k = front-start (before-name (args' .t .now) some (pre' .0 some) (find' .result) (find' .ensures .0) (now (args' .out)) (pre' .1) (put-context' .last .0) (put-context' .result) (put-context' .ensures)) in
-    search needs
+part-put-string-end c = let k = name-start c in search needs
 
 name-in-requires : tie.Need-name-in-requires
 name-in-requires c κs = search needs
@@ -97,84 +85,49 @@ add-b c =
     let k = name-fits (args' .t .now) some (pre' .0 some) (find' .result) (find' .ensures .0) (now (args' .out)) (pre' .1) (put-context' .last .0) (put-context' .result) (put-context' .ensures) (name-in' .result .now) (name-in' .ensures) (put-string' .last .0) (put-string' .result) (put-string' .ensures) in
     omega arith
 
-add-second : tie.Need-add-second
-add-second c =
+-- the `=` stands within the line
+in-line : (c : tie.After-slice-known3) → c .before .before .before .before .before .before .before .before .before .before .before .find .result < length (c .before .before .before .before .before .before .before .before .before .before .before .before .before .before .before .args .t .now)
+in-line c =
     let args' = c .before .before .before .before .before .before .before .before .before .before .before .before .before .before .before .args in
     let if1' = c .before .before .before .before .before .before .before .before .before .before .before .before .if1 in
     let pre' = c .before .before .before .before .before .before .before .before .before .before .before .before .before .before .before .pre in
     let find' = c .before .before .before .before .before .before .before .before .before .before .before .find in
     let some : 0 < length (args' .t .now) = let f = if1' .left in omega arith in
-    let k = inside (args' .t .now) some (pre' .0 some) (find' .result) (find' .ensures .0) (now (args' .out)) (pre' .1) in
-    search needs
+    inside (args' .t .now) some (pre' .0 some) (find' .result) (find' .ensures .0) (now (args' .out)) (pre' .1)
+
+add-second : tie.Need-add-second
+add-second c = let k = in-line c in search needs
+
+-- and so does the target
+target-start : (c : tie.After-slice-known3) → c .before .before .before .before .before .before .before .put-context .result + c .before .before .put-string .result ≤ length (putMid (c .before .before .before .before .before .before .before .put-context .result) (length (c .before .before .before .before .before .before .before .put-context .last .0) - c .before .before .before .before .before .before .before .put-context .result) (c .before .before .before .before .before .before .before .put-context .last .0) (c .before .before .put-string .last .0))
+target-start c =
+    let args' = c .before .before .before .before .before .before .before .before .before .before .before .before .before .before .before .args in
+    let if1' = c .before .before .before .before .before .before .before .before .before .before .before .before .if1 in
+    let pre' = c .before .before .before .before .before .before .before .before .before .before .before .before .before .before .before .pre in
+    let find' = c .before .before .before .before .before .before .before .before .before .before .before .find in
+    let put-context' = c .before .before .before .before .before .before .before .put-context in
+    let name-in' = c .before .before .before .name-in in
+    let put-string' = c .before .before .put-string in
+    let some : 0 < length (args' .t .now) = let f = if1' .left in omega arith in
+    front-start (before-target (args' .t .now) some (pre' .0 some) (find' .result) (find' .ensures .0) (now (args' .out)) (pre' .1) (put-context' .last .0) (put-context' .result) (put-context' .ensures) (name-in' .result .now) (name-in' .ensures) (put-string' .last .0) (put-string' .result) (put-string' .ensures))
 
 sub-put-string-2 : tie.Need-sub-put-string-2
-sub-put-string-2 c =
-    let args' = c .before .before .before .before .before .before .before .before .before .before .before .before .before .before .before .args in
-    let if1' = c .before .before .before .before .before .before .before .before .before .before .before .before .if1 in
-    let pre' = c .before .before .before .before .before .before .before .before .before .before .before .before .before .before .before .pre in
-    let find' = c .before .before .before .before .before .before .before .before .before .before .before .find in
-    let put-context' = c .before .before .before .before .before .before .before .put-context in
-    let name-in' = c .before .before .before .name-in in
-    let put-string' = c .before .before .put-string in
-    let some : 0 < length (args' .t .now) = let f = if1' .left in omega arith in
-    let k = front-start (before-target (args' .t .now) some (pre' .0 some) (find' .result) (find' .ensures .0) (now (args' .out)) (pre' .1) (put-context' .last .0) (put-context' .result) (put-context' .ensures) (name-in' .result .now) (name-in' .ensures) (put-string' .last .0) (put-string' .result) (put-string' .ensures)) in
-    search needs
+sub-put-string-2 c = let k = target-start c in search needs
 
 part-put-string-start-2 : tie.Need-part-put-string-start-2
-part-put-string-start-2 c =
-    let args' = c .before .before .before .before .before .before .before .before .before .before .before .before .before .before .before .args in
-    let if1' = c .before .before .before .before .before .before .before .before .before .before .before .before .if1 in
-    let pre' = c .before .before .before .before .before .before .before .before .before .before .before .before .before .before .before .pre in
-    let find' = c .before .before .before .before .before .before .before .before .before .before .before .find in
-    let put-context' = c .before .before .before .before .before .before .before .put-context in
-    let name-in' = c .before .before .before .name-in in
-    let put-string' = c .before .before .put-string in
-    let some : 0 < length (args' .t .now) = let f = if1' .left in omega arith in
-    let k = front-start (before-target (args' .t .now) some (pre' .0 some) (find' .result) (find' .ensures .0) (now (args' .out)) (pre' .1) (put-context' .last .0) (put-context' .result) (put-context' .ensures) (name-in' .result .now) (name-in' .ensures) (put-string' .last .0) (put-string' .result) (put-string' .ensures)) in
-    search needs
+part-put-string-start-2 c = let k = target-start c in search needs
 
 part-put-string-end-2 : tie.Need-part-put-string-end-2
-part-put-string-end-2 c =
-    let args' = c .before .before .before .before .before .before .before .before .before .before .before .before .before .before .before .args in
-    let if1' = c .before .before .before .before .before .before .before .before .before .before .before .before .if1 in
-    let pre' = c .before .before .before .before .before .before .before .before .before .before .before .before .before .before .before .pre in
-    let find' = c .before .before .before .before .before .before .before .before .before .before .before .find in
-    let put-context' = c .before .before .before .before .before .before .before .put-context in
-    let name-in' = c .before .before .before .name-in in
-    let put-string' = c .before .before .put-string in
-    let some : 0 < length (args' .t .now) = let f = if1' .left in omega arith in
-    let k = front-start (before-target (args' .t .now) some (pre' .0 some) (find' .result) (find' .ensures .0) (now (args' .out)) (pre' .1) (put-context' .last .0) (put-context' .result) (put-context' .ensures) (name-in' .result .now) (name-in' .ensures) (put-string' .last .0) (put-string' .result) (put-string' .ensures)) in
-    search needs
+part-put-string-end-2 c = let k = target-start c in search needs
 
 sub-target-in : tie.Need-sub-target-in
-sub-target-in c =
-    let args' = c .before .before .before .before .before .before .before .before .before .before .before .before .before .before .before .before .args in
-    let if1' = c .before .before .before .before .before .before .before .before .before .before .before .before .before .if1 in
-    let pre' = c .before .before .before .before .before .before .before .before .before .before .before .before .before .before .before .before .pre in
-    let find' = c .before .before .before .before .before .before .before .before .before .before .before .before .find in
-    let some : 0 < length (args' .t .now) = let f = if1' .left in omega arith in
-    let k = inside (args' .t .now) some (pre' .0 some) (find' .result) (find' .ensures .0) (now (args' .out)) (pre' .1) in
-    search needs
+sub-target-in c = let k = in-line (c .before) in search needs
 
 part-target-in-start : tie.Need-part-target-in-start
-part-target-in-start c =
-    let args' = c .before .before .before .before .before .before .before .before .before .before .before .before .before .before .before .before .args in
-    let if1' = c .before .before .before .before .before .before .before .before .before .before .before .before .before .if1 in
-    let pre' = c .before .before .before .before .before .before .before .before .before .before .before .before .before .before .before .before .pre in
-    let find' = c .before .before .before .before .before .before .before .before .before .before .before .before .find in
-    let some : 0 < length (args' .t .now) = let f = if1' .left in omega arith in
-    let k = inside (args' .t .now) some (pre' .0 some) (find' .result) (find' .ensures .0) (now (args' .out)) (pre' .1) in
-    search needs
+part-target-in-start c = let k = in-line (c .before) in search needs
 
 part-target-in-end : tie.Need-part-target-in-end
-part-target-in-end c =
-    let args' = c .before .before .before .before .before .before .before .before .before .before .before .before .before .before .before .before .args in
-    let if1' = c .before .before .before .before .before .before .before .before .before .before .before .before .before .if1 in
-    let pre' = c .before .before .before .before .before .before .before .before .before .before .before .before .before .before .before .before .pre in
-    let find' = c .before .before .before .before .before .before .before .before .before .before .before .before .find in
-    let some : 0 < length (args' .t .now) = let f = if1' .left in omega arith in
-    let k = inside (args' .t .now) some (pre' .0 some) (find' .result) (find' .ensures .0) (now (args' .out)) (pre' .1) in
-    search needs
+part-target-in-end c = let k = in-line (c .before) in search needs
 
 target-in-requires : tie.Need-target-in-requires
 target-in-requires c κs = search needs
