@@ -1,6 +1,8 @@
 // Replays stored bundles: standard input has each led by its length in 4 bytes, big-endian. For each is written what steps 1 to
 // 5 and the image come to: `no NUMBER PLACE` for a refusal or for each fault, `ring` and its ids after `no 26 0`; or `ok` and
 // the number of units, and the image in hexadecimal.
+#![tactic(auto)]
+
 const SIZE: usize = 65538;
 
 fn tell(s: &[u8]) {

@@ -1,4 +1,6 @@
 // A bundle: what it is, and access to its parts by position. Crate form tells 1 to 6 of any bytes, crate card 7 to 13.
+#![tactic(auto)]
+
 mod access;
 mod bytes;
 pub mod limits;

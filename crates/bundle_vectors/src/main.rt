@@ -1,5 +1,7 @@
 // Replays stored bundles: standard input has each led by its length in 4 bytes, big-endian. For each a line is written: `ok`,
 // or `no` with the number and the place of the refusal.
+#![tactic(auto)]
+
 use bundle::Checked;
 
 fn tell(s: &[u8]) {

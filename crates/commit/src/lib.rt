@@ -1,4 +1,6 @@
 // The one writer of a tree: the entries that a call comes to, written at the end of the nine arrays that the caller lends.
+#![tactic(auto)]
+
 ghost use Rattle.std.specs.Prelude.{◌≡◌, true, get_or, ◌+◌, ◌<◌, ◌≤◌};
 ghost use Rattle.scope_tree.specs.Trees.{packed_in};
 ghost use Rattle.scope_tree.specs.Pack.{added, cells_of, doors_added};

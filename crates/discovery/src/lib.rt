@@ -1,4 +1,6 @@
 // The uses of a file, and the table of what each resolves to. Crate driver makes the graph with them; what is discovered is defined here.
+#![tactic(auto)]
+
 mod imports;
 pub mod known;
 mod search;

@@ -1,4 +1,6 @@
 // The driver of discovery: which files an entry reaches, and what each of them imports. The functions have the names of driver/mod.rs.
+#![tactic(auto)]
+
 mod lookups;
 mod readings;
 mod turns;

@@ -1,4 +1,6 @@
 // The bytes of an image at the start of a lent part: numbers, strings, segments, starts of items. What follows them is as it was.
+#![tactic(auto)]
+
 mod bytes;
 mod heads;
 mod segments;

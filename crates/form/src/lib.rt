@@ -1,4 +1,6 @@
 // The form of a bundle: any bytes pass, or are refused by a number from 1 to 6 and a place.
+#![tactic(auto)]
+
 mod fields;
 mod items;
 mod lists;

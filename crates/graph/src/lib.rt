@@ -1,4 +1,6 @@
 // The import graph of the units and its linked order: the ported parts of driver/mod.rs and driver/linearization.rs.
+#![tactic(auto)]
+
 mod linearization;
 
 pub use linearization::linearize_given;

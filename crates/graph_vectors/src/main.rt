@@ -1,5 +1,7 @@
 // Answers graphs given directly, one to a line, as the oracle's mode `--graph` does (docs/ORACLE.md): start and length of
 // each unit's list, a space, and the ids. The stored graphs are in stdin and the oracle's answers in stdout.
+#![tactic(auto)]
+
 ghost use Rattle.std.specs.Prelude.{◌≤◌, ◌<◌, length};
 
 use graph::{Graph, IDS, UNITS};

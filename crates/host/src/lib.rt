@@ -1,5 +1,7 @@
 // Operations as functions for programs in other languages: numbers and byte slices alone, each with the contract of the
 // operation that it calls.
+#![tactic(auto)]
+
 ghost use Rattle.std.specs.Prelude.{◌≡◌, length as list_n_length};
 ghost use Rattle.bundle.specs.Read.{number_of, verdict};
 ghost use Rattle.host.specs.ResolveTold.{place_told, kind_of, index_told, left_told, fault_told};

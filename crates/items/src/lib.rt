@@ -1,4 +1,6 @@
 // The items of a program, each use with its path rewritten: their length, and their bytes in a lent buffer.
+#![tactic(auto)]
+
 mod lengths;
 mod writing;
 

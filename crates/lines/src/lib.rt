@@ -1,5 +1,7 @@
 // Lines and words of a text, parts led by their length, and what is written of a refusal and of a report, for the programs that
 // replay stored answers.
+#![tactic(auto)]
+
 mod report;
 
 ghost use Rattle.std.specs.Prelude.{◌+◌, ◌<◌, ◌≤◌, ◌^◌, length};

@@ -4,6 +4,8 @@
 // bytes are enough: the first 65,539 decide what is told of a file (specs/ReadTheorems.antt: verdict-enough, read-enough). TEXT bytes
 // are enough: no text is longer (specs/LengthTheorems.antt: printed-fits). Trusted, not proved: that the bytes read are the file's
 // first, and that bytes handed to the C library reach the screen in order.
+#![tactic(auto)]
+
 use printing::TEXT;
 
 const READ: usize = 66048;

@@ -1,5 +1,7 @@
 // Links stored bundles: standard input has each led by its length in 4 bytes, big-endian. For each the lines of the printing program
 // are written, the image in hexadecimal where there is one, and a line `--`.
+#![tactic(auto)]
+
 ghost use Rattle.std.specs.Prelude.{◌<◌, ◌^◌};
 
 use printing::{IMAGE, REPORT, TEXT};

@@ -1,4 +1,6 @@
 // From a bundle to one linked program: steps 1 to 6 and the image as one operation.
+#![tactic(auto)]
+
 mod answers;
 mod units;
 

@@ -1,5 +1,7 @@
 // Paths and names: the ported parts of lexer.rs, source.rs and str.rs. Every public function takes any bytes, has no
 // `requires`, and answers what its definition in specs/ says.
+#![tactic(auto)]
+
 mod bytes;
 mod identifier;
 mod keyword;

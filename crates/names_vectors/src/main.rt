@@ -1,6 +1,8 @@
 // Answers questions on paths and names, one to a line, as the oracle's mode `--names` does (docs/ORACLE.md): a word, then
 // operands in hexadecimal (of `unit` a number in decimal). The stored questions are in stdin and the oracle's answers in
 // stdout.
+#![tactic(auto)]
+
 ghost use Rattle.std.specs.Prelude.{◌≤◌, ◌<◌};
 
 use libc::{STDIN_FILENO, STDOUT_FILENO};

@@ -1,4 +1,6 @@
 // From a bundle to the linked order of its units, or a report: steps 3 and 4.
+#![tactic(auto)]
+
 mod report;
 mod steps;
 

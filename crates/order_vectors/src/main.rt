@@ -1,5 +1,7 @@
 // Replays stored bundles as the oracle's mode `--discover` does (docs/ORACLE.md): standard input has each led by its length in 4
 // bytes, big-endian. For each the units with their lists and the linked order or the ring are written, or a line for each fault.
+#![tactic(auto)]
+
 ghost use Rattle.std.specs.Prelude.{◌≡◌};
 ghost use Rattle.bundle.specs.Read.{verdict};
 ghost use Rattle.bundle.specs.declared.Checked.TheVariants.{Ok};

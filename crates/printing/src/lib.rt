@@ -1,4 +1,6 @@
 // The specification's printed lines: what the linker answers to a bundle, written into a lent buffer.
+#![tactic(auto)]
+
 ghost use Rattle.bundle.specs.Read.{read};
 ghost use Rattle.printing.specs.Lines.{reading_lines};
 ghost use Rattle.printing.specs.Answers.{Shows};

@@ -1,4 +1,6 @@
 // The image of an assembled program; and from bytes to an image, steps 1 to 5 as one operation, without step 6.
+#![tactic(auto)]
+
 mod answers;
 mod image;
 

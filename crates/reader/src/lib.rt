@@ -1,4 +1,6 @@
 // The reader: whether bytes are a bundle, 1 to 13, and the card of one that is.
+#![tactic(auto)]
+
 mod fill;
 mod make;
 mod maps;

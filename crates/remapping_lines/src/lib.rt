@@ -1,5 +1,7 @@
 // Remapping lists of Solidity projects, `context:prefix=target` one to a line: any bytes are read into a version 1
 // remapping section at the start of a lent buffer, or refused by a number and a place with the buffer as it was.
+#![tactic(auto)]
+
 mod bytes;
 mod halves;
 mod test;

@@ -1,6 +1,8 @@
 // Replays stored remapping lists: standard input has each led by its length in 4 bytes, big-endian, and behind it, likewise, the
 // buffer as it is lent. For each are written `ok` and the section's length, or `no` with the number and the place of the
 // refusal, and on a line of its own the buffer afterwards in hexadecimal.
+#![tactic(auto)]
+
 ghost use Rattle.std.specs.Prelude.{◌≤◌, length};
 
 use remapping_lines::Lines;

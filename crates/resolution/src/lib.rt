@@ -1,4 +1,6 @@
 // Resolution: what a use of a file resolves to, over the card of a bundle. The functions have the names of resolution.rs.
+#![tactic(auto)]
+
 mod listing;
 mod package;
 mod segments;

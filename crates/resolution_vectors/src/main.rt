@@ -1,5 +1,7 @@
 // Resolves uses, one to a line, as the oracle's mode `--resolve` does (docs/ORACLE.md): a line `bundle HEX` lends a bundle to
 // the lines `use IMPORTER SEGMENT::..` that follow. The stored questions are in stdin and the oracle's answers in stdout.
+#![tactic(auto)]
+
 ghost use Rattle.std.specs.Prelude.{◌≤◌, ◌<◌};
 
 use bundle::Checked;

@@ -1,4 +1,6 @@
 // A tree's entries as rows of numbers, for programs in other languages: how a module tree is told outside.
+#![tactic(auto)]
+
 ghost use Rattle.std.specs.Prelude.{◌≡◌, ◌+◌, ◌<◌, ◌≤◌, cond, [], ◌∷◌, length, get_or};
 ghost use Rattle.scope_tree.specs.Trees.{packed_in, flat_of};
 ghost use Rattle.scope_tree.specs.Rows.{is_own, row};

@@ -1,5 +1,7 @@
 // The module tree of ast/scope/modules.rs as a record, lookups in it and the bytes of a use. Nothing here changes a tree: the calls are
 // in the crate scopes, and what each comes to in the crate decision.
+#![tactic(auto)]
+
 pub mod form;
 pub mod look;
 

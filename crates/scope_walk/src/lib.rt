@@ -1,4 +1,6 @@
 // Step 6, the scope walk: the tree calls of a linked program, made on a tree that the caller lends.
+#![tactic(auto)]
+
 mod cursor;
 mod walk;
 

@@ -1,6 +1,8 @@
 // Lists of tree calls as bytes, for programs in other languages. A call is one byte: 1 enter, 2 exit, 3 type alias, 4 enum, 5 function,
 // 6 use, 7 get_alias, 8 get_function, any other an empty tree; after a name's length and bytes come (but for 7, 8) its visibility and
 // a 2-byte mark; after 6 a 2-byte length, the use's bytes and its visibility. What is missing counts as 0.
+#![tactic(auto)]
+
 ghost use Rattle.std.specs.Prelude.{◌≡◌, ◌+◌, ◌*◌, ◌<◌, ◌≤◌, length, get_or};
 ghost use Rattle.scope_tree.specs.Views.{told};
 ghost use Rattle.scope_tree.specs.Trees.{packed_in};

@@ -1,4 +1,6 @@
 // Replays the call lists of standard input (the form is that of scopes_c) and writes each answer on a line.
+#![tactic(auto)]
+
 use libc::{STDIN_FILENO, STDOUT_FILENO};
 
 fn told(code: u8, value: u16) {

@@ -1,5 +1,7 @@
 // The steps one by one, for the differential run: numbers and byte slices alone, each with the contract of the operation that it calls.
 // What is told stands in a lent array, as far as there is room, by the places named here. Also how the library tells numbers (`tell`).
+#![tactic(auto)]
+
 ghost use Rattle.std.specs.Prelude.{◌≡◌, ◌+◌, ◌<◌, ◌^◌, set, take, length};
 ghost use Rattle.bundle.specs.Read.{number_of, verdict};
 ghost use Rattle.steps_c.specs.Steps.{bit_of, GraphTold, assemble_told};

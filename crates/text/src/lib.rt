@@ -1,5 +1,7 @@
 // Text written into a lent buffer, as much of it as there is room for. Each function writes on from `at` and answers where its text
 // ends; what the buffer then holds is the definition's (specs/Writing.antt).
+#![tactic(auto)]
+
 pub mod read;
 
 ghost use Rattle.names.specs.Decimal.{decimal};

@@ -1,4 +1,6 @@
 // The lines `has` of a tree, written into a lent buffer.
+#![tactic(auto)]
+
 ghost use Rattle.std.specs.Prelude.{◌≡◌, List, [], ◌∷◌, ℕ, suc, ◌<◌, get_or};
 ghost use Rattle.names.specs.Decimal.{decimal};
 ghost use Rattle.text.specs.Words.{line, lines, spelled};
