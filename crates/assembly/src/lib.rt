@@ -12,14 +12,14 @@ pub use targets::target_of;
 pub use units::unit_items;
 
 // What a use's path becomes: `crate`, the name of a unit, and the last so many segments; or no segment, where it fails.
-#[derive(Drop)]
+#[derive(Clone, Copy)]
 pub enum Target {
     Unit(usize, usize),
     Nothing,
 }
 
 // What becomes of an image that is written to a lent buffer.
-#[derive(Drop)]
+#[derive(Clone, Copy)]
 pub enum Imaged {
     // How many bytes at the start of the buffer are the image.
     Image(usize),

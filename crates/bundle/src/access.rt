@@ -13,14 +13,14 @@ use crate::limits::{HEADER, file_width, folder_width, width_bytes};
 use crate::steps::{after_files, after_remappings, after_strings};
 
 // A counted list: the position of its first value, and how many there are.
-#[derive(Drop)]
+#[derive(Clone, Copy)]
 pub struct Listed {
     pub first: usize,
     pub count: usize,
 }
 
 // Items: the position of the first, and of their end.
-#[derive(Drop)]
+#[derive(Clone, Copy)]
 pub struct Range {
     pub at: usize,
     pub end: usize,

@@ -17,35 +17,35 @@ pub use bytes::{byte_at, count_at, text_at, version_of, word_at};
 pub use steps::{next_path, next_remapping};
 
 // What the check of a bundle answers: a refusal has the specification's number, 1 to 13, and the place.
-#[derive(Drop)]
+#[derive(Clone, Copy)]
 pub enum Checked {
     Ok,
     Refused(u8, usize),
 }
 
 // Where the next field starts, or a number and a place.
-#[derive(Drop)]
+#[derive(Clone, Copy)]
 pub enum Scan {
     Next(usize),
     Bad(u8, usize),
 }
 
 // Where the next item starts, with the number of items and of uses so far; or a number and a place.
-#[derive(Drop)]
+#[derive(Clone, Copy)]
 pub enum Walk {
     Past(usize, usize, usize),
     Fault(u8, usize),
 }
 
 // How wide a count is written: a byte, or two.
-#[derive(Drop)]
+#[derive(Clone, Copy)]
 pub enum Width {
     Byte,
     Word,
 }
 
 // The fields that stand in counted lists.
-#[derive(Drop)]
+#[derive(Clone, Copy)]
 pub enum Field {
     Path,
     Name,

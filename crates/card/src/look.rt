@@ -49,7 +49,7 @@ pub fn is_below(card: &[u32; CARD], f: usize, d: usize) -> bool
     true
 }
 
-#[derive(Drop)]
+#[derive(Clone, Copy)]
 pub enum Near {
     At(usize),
     Nothing,

@@ -14,7 +14,7 @@ use scope_tree::look::Spot;
 use scope_tree::{Answer, Batch, CELLS, COUNT, DEPTH, ENTRIES, OPEN, OPENED, form, look};
 
 // What a declaration comes to: number 0 with the scope and the name of the entry, or a number.
-#[derive(Drop)]
+#[derive(Clone, Copy)]
 pub struct Plan {
     pub number: u8,
     pub scope: u16,
@@ -130,7 +130,7 @@ pub fn get<'a>(
 }
 
 // What a use begins with: how many entries and open modules there are, how many segments, and where the second stands; or a number.
-#[derive(Drop)]
+#[derive(Clone, Copy)]
 pub struct Start {
     pub number: u8,
     pub total: usize,

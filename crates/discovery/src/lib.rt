@@ -17,7 +17,7 @@ pub const IDS: usize = bundle::limits::USES;
 pub const FOLDERS: usize = bundle::limits::FOLDERS;
 
 // The marks of uses, in item order.
-#[derive(Drop)]
+#[derive(Clone, Copy)]
 pub struct Uses {
     pub marks: [usize; IDS],
     pub count: usize,

@@ -11,7 +11,7 @@ pub use turns::{discover, discover_dependencies};
 // The graph: unit u, below `units`, is the file files[u] of the bundle and lists the ids from start[u] on, len[u] of them, among
 // the first `count` of ids. The faults stand in the order of their pushes. The first `unread` of folders are those that could
 // not be read. The imports of the unit that is handled: a file of the bundle, or UNITS and a folder, and the mark of the use.
-#[derive(Drop)]
+#[derive(Clone, Copy)]
 pub struct Graph {
     pub files: [usize; UNITS],
     pub start: [u16; UNITS],
@@ -30,7 +30,7 @@ pub struct Graph {
 }
 
 // What a reading comes to: nothing new, a known unit for the list, a new unit with its id, or a folder to be told.
-#[derive(Drop)]
+#[derive(Clone, Copy)]
 pub enum Reading {
     Nothing,
     Listed(u16),

@@ -11,7 +11,7 @@ pub const UNITS: usize = 64;
 pub const IDS: usize = 256;
 
 // A graph: unit u, below `units`, lists the ids from start[u] on, len[u] of them, among the first `count` of ids.
-#[derive(Drop)]
+#[derive(Clone, Copy)]
 pub struct Graph {
     pub start: [u16; UNITS],
     pub len: [u16; UNITS],
@@ -22,7 +22,7 @@ pub struct Graph {
 
 // What linearization answers: 0 and the linked order, 26 and a ring, or the number that refuses the graph and no id.
 // The ids stand at the start, `count` of them; the others are 0. The place of every number is 0.
-#[derive(Drop)]
+#[derive(Clone, Copy)]
 pub struct Linearized {
     pub number: u8,
     pub ids: [u16; UNITS],

@@ -19,7 +19,7 @@ const UNKNOWN_UNIT: u8 = 29;
 // The state of the walk: `visited` says which units are done, the first `depth` of `visiting` are those being visited,
 // oldest first, and the first `count` of `order` those that are done. Where a ring was met `ok` is false, and the ring is
 // `visiting` from `ring` on.
-#[derive(Drop)]
+#[derive(Clone, Copy)]
 pub struct Search {
     pub visited: [bool; UNITS],
     pub visiting: [u16; UNITS],

@@ -25,7 +25,7 @@ fn capped(v: usize) -> usize
 }
 
 // A number that was read, and where the next one starts.
-#[derive(Drop)]
+#[derive(Clone, Copy)]
 struct Number {
     value: u16,
     next: usize,
@@ -55,7 +55,7 @@ fn read_number(s: &[u8], at: usize) -> Number
 }
 
 // Start and length of a list, and where the next one starts.
-#[derive(Drop)]
+#[derive(Clone, Copy)]
 struct Place {
     start: u16,
     len: u16,

@@ -83,7 +83,7 @@ pub fn unhex(s: &[u8], out: &mut [u8]) -> usize
 }
 
 // A part that is led by its length: where it starts and ends.
-#[derive(Drop)]
+#[derive(Clone, Copy)]
 pub struct Framed {
     pub at: usize,
     pub end: usize,

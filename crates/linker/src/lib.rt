@@ -16,14 +16,14 @@ use order::Answer;
 use scopes::Tree;
 
 // What is answered, and the tree: that of the program where it is linked, and otherwise the one that was given, or an empty one.
-#[derive(Drop)]
+#[derive(Clone, Copy)]
 pub struct Linked {
     pub answer: Answer,
     pub tree: Tree,
 }
 
 // The same where the tree is told as rows: how many entries it has.
-#[derive(Drop)]
+#[derive(Clone, Copy)]
 pub struct Told {
     pub answer: Answer,
     pub entries: usize,

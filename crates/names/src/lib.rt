@@ -17,7 +17,7 @@ pub use path::{is_child, is_child_file, is_directly_in, is_path, parent_len, sta
 pub use unit::unit_name;
 
 // A name as a value: at most 32 bytes in four words, big-endian, zero past the end.
-#[derive(Drop)]
+#[derive(Clone, Copy)]
 pub struct Name {
     pub w0: u64,
     pub w1: u64,
@@ -26,7 +26,7 @@ pub struct Name {
 }
 
 // A unit's name: its bytes stand at the start, len of them. Five letters and at most twenty digits fit.
-#[derive(Drop)]
+#[derive(Clone, Copy)]
 pub struct UnitName {
     pub bytes: [u8; 25],
     pub len: usize,

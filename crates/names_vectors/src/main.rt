@@ -12,7 +12,7 @@ fn wide(x: u8) -> u64 {
 }
 
 // What was read into a buffer, and where the next word starts.
-#[derive(Drop)]
+#[derive(Clone, Copy)]
 struct Operand {
     len: usize,
     next: usize,

@@ -18,7 +18,7 @@ pub use steps::{refuse, report_told, tells};
 pub const UNITS: usize = bundle::limits::FILES;
 
 // What becomes of a report that is written to a lent buffer.
-#[derive(Drop)]
+#[derive(Clone, Copy)]
 pub enum Reported {
     // How many bytes at the start of the buffer are the report.
     Report(usize),
@@ -29,7 +29,7 @@ pub enum Reported {
 // What a run of the steps answers: a refusal's number and its place; or how many bytes at the start of the report buffer are the
 // report; or, where there is neither, the units, and after step 5 how many bytes at the start of the image buffer are the image. Unit
 // u, below `units`, is the file files[u] of the bundle, and the first `units` of ids are the linked order. What is not told is 0.
-#[derive(Drop)]
+#[derive(Clone, Copy)]
 pub struct Answer {
     pub number: u8,
     pub place: usize,

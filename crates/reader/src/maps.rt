@@ -12,7 +12,7 @@ use card::layout::{CARD, CONTEXTS, MARKS, PLACES, TARGETS};
 use card::look::{Near, find_path, folder_of};
 
 // Where a root, context or target is: the index of a folder, or 9 or 10.
-#[derive(Drop)]
+#[derive(Clone, Copy)]
 pub enum Place {
     At(usize),
     Bad(u8),
@@ -83,7 +83,7 @@ fn repeats(s: &[u8], at: usize, n: usize, r: usize) -> bool
 }
 
 // The folders of a remapping's context and target, or 9 to 13.
-#[derive(Drop)]
+#[derive(Clone, Copy)]
 pub enum Mapped {
     To(usize, usize),
     Not(u8, usize),

@@ -11,14 +11,14 @@ ghost use Rattle.std.specs.Prelude.{◌≡◌, length};
 ghost use Rattle.remapping_lines.specs.Lines.{lines_answer, lines_buffer};
 
 // What a list is answered: the section's length, or a number, 3, 4, 12, 14 or 52, and a place in the list.
-#[derive(Drop)]
+#[derive(Clone, Copy)]
 pub enum Lines {
     Section(usize),
     Refused(u8, usize),
 }
 
 // What the test of lines answers: how many have content and how many bytes their section takes; or a number and a place.
-#[derive(Drop)]
+#[derive(Clone, Copy)]
 pub enum Tested {
     Counted(usize, usize),
     Bad(u8, usize),

@@ -13,7 +13,7 @@ use card::CARD;
 pub use uses::resolve_path_internal;
 
 // What a use resolves to.
-#[derive(Drop)]
+#[derive(Clone, Copy)]
 pub enum Resolution {
     // Which file of the bundle, counted from 0, and how many of the use's last segments are left as module path.
     File(usize, usize),
@@ -24,14 +24,14 @@ pub enum Resolution {
 }
 
 // What a lookup finds: the index of a file or a folder, and how many segments are left; or nothing.
-#[derive(Drop)]
+#[derive(Clone, Copy)]
 pub enum Lookup {
     At(usize, usize),
     Nothing,
 }
 
 // Which remapping a name takes; or none.
-#[derive(Drop)]
+#[derive(Clone, Copy)]
 pub enum Choice {
     At(usize),
     Nothing,

@@ -7,7 +7,7 @@ use Rattle.std.proofs.Math.Bool.{true, false, cond}
 use mathlib.Core.List.{List, [], ◌∷◌, ◌++◌, append_assoc, append-nil}
 use Rattle.std.proofs.lemmas.List.{take-append-le, drop-append-le}
 use Rattle.scope_tree.specs.Register.{Scope, end, node, append}
-use Rattle.scope_tree.specs.Flat.{own, copy, Entry, build, within, view, past_of, pasts_from, pasts, write}
+use Rattle.scope_tree.specs.Flat.{Body, own, copy, Entry, build, within, view, past_of, pasts_from, pasts, write}
 
 pub append-end : (f : Scope) → append f end ≡ f
 unfolding append
@@ -133,7 +133,8 @@ unfolding build
 write-shut l e ys s le q b a =
     let gone : All (λ y. y.scope ≡ s → ⊥) ys = all_map _ _ (λ y h r. omega arith) ys a in
     write-append l (e ∷ ys) s le (λ s' c d r. omega arith, all_map _ _ (λ y h s' c d r. omega arith) ys a)
-    ∙ rw (eq-eqb e.scope s q, build_gone (pasts (l ++ (e ∷ ys))) ys (suc (length l)) s gone, behind l e ys, b)
+    ∙ rw (eq-eqb e.scope s q, build_gone (pasts (l ++ (e ∷ ys))) ys (suc (length l)) s gone, behind l e ys)
+        (ap (λ (x : Body). append (write l s) (node (length l) e.shows (within x (build (pasts (l ++ (e ∷ ys))) (suc (length l)) ys (suc (length l))) (pasts (l ++ (e ∷ ys)) (length l))) end)) b)
   where
     behind : (l : List Entry) (e : Entry) (ys : List Entry) → drop (suc (length l)) (l ++ (e ∷ ys)) ≡ ys
     behind [] e ys = refl

@@ -67,8 +67,10 @@ zip-here (in_module d z) = d.holds
 zip-names : {l : List Entry} {ss : List ℕ} {c : Scope} {os : List Opened} → Zip l ss c os → (ys : List Entry) → stack_names (l ++ ys) ss ≡ names os
 unfolding stack_names names
 zip-names (at_root q) ys = refl
-zip-names (in_module {l} {front} {back} {e} {ss} {o} {os} d z) ys =
-    rw (d.split, append_assoc, d.number, zip-names z (e ∷ (back ++ ys)), get_or_at front e (back ++ ys) none (length front) refl, d.shows)
+zip-names (in_module {l} {front} {back} {e} {s} {ss} {o} {os} d z) ys =
+    let q : l ++ ys ≡ front ++ (e ∷ (back ++ ys)) = rw (d.split, append_assoc) in
+    ap (λ (x : List Entry). stack_names x (s ∷ ss)) q
+    ∙ rw (d.number, zip-names z (e ∷ (back ++ ys)), get_or_at front e (back ++ ys) none (length front) refl, d.shows)
 
 -- a module's contents with the entry e more, the next after l
 abbrev pushed : List Entry → Entry → Scope → Scope

@@ -101,7 +101,7 @@ fn string_form(s: &[u8], at: usize, optional: bool) -> u8
 }
 
 // A fault, or 0 and the place after what was looked at.
-#[derive(Drop)]
+#[derive(Clone, Copy)]
 pub struct Forms {
     pub number: u8,
     pub next: usize,

@@ -36,7 +36,7 @@ pub const INDEX: usize = 4 * ENTRIES;
 pub const SLOTS: usize = 3 * ENTRIES;
 
 // 1,024 entries in the order made, and the open modules. The root is scope 0, the module at entry i is scope i + 1.
-#[derive(Drop)]
+#[derive(Clone, Copy)]
 pub struct Tree {
     // the scopes of the open modules, outermost first, in nine places; then how many entries and how many open modules there are
     pub opened: [u16; OPENED],
@@ -56,7 +56,7 @@ pub struct Tree {
 }
 
 // An entry to add.
-#[derive(Drop)]
+#[derive(Clone, Copy)]
 pub struct Entry {
     pub kind: u16,
     pub visible: u8,
@@ -70,7 +70,7 @@ pub struct Entry {
     pub opens: bool,
 }
 
-#[derive(Drop)]
+#[derive(Clone, Copy)]
 pub enum Answer {
     Done,
     // get_alias and get_function: the mark of the entry
@@ -88,7 +88,7 @@ pub const STAGED_NAMES: usize = 4 * STAGED;
 
 // Entries that a use adds, at most STAGED, all in one scope and of one visibility; or a number. The cells are kinds, marks, origins, targets
 // and times, the names their four words, each a part of STAGED.
-#[derive(Drop)]
+#[derive(Clone, Copy)]
 pub struct Batch {
     pub number: u8,
     pub count: usize,
@@ -97,7 +97,7 @@ pub struct Batch {
 }
 
 // What an item of a use copies: number 0 and the entry's mark, its number plus one, and what is inside it; or a number.
-#[derive(Drop)]
+#[derive(Clone, Copy)]
 pub struct Choice {
     pub number: u8,
     pub mark: u16,

@@ -10,7 +10,7 @@ use crate::form::{name_at, next};
 use crate::{CELLS, ENTRIES, INDEX, KINDS, OPENED, ORIGINS, TARGETS, TIMES};
 use names::{Name, same_name};
 
-#[derive(Drop)]
+#[derive(Clone, Copy)]
 pub enum Spot {
     At(usize),
     Nothing,
@@ -257,7 +257,7 @@ pub fn is_held<'a>(
 }
 
 // What is inside an entry: a scope among the first `time` entries.
-#[derive(Drop)]
+#[derive(Clone, Copy)]
 pub struct Place {
     pub scope: u16,
     pub time: usize,
@@ -370,7 +370,7 @@ fn leads<'a>(
 }
 
 // Where a path leads: number 0 and the place, or the number. `next` is the place in the bytes after the path.
-#[derive(Drop)]
+#[derive(Clone, Copy)]
 pub struct Way {
     pub number: u8,
     pub scope: u16,

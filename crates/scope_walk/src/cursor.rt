@@ -13,7 +13,7 @@ pub const OPEN: usize = 10;
 
 // Where a walk stands. `unit` units of the order were entered; the last is `id`. `depth` are open, the unit first; of the innermost the
 // items from `at` to `end` are left. For each that is open: its mark, 0 for the unit, and the end of what it stands in.
-#[derive(Drop)]
+#[derive(Clone, Copy)]
 pub struct Cursor {
     pub unit: usize,
     pub id: usize,
@@ -25,7 +25,7 @@ pub struct Cursor {
 }
 
 // A call of the walk, by the kind and the place of its item; a unit, which is entered as a module is, has the kind UNIT and the place 0.
-#[derive(Drop)]
+#[derive(Clone, Copy)]
 pub enum Step {
     Call(usize, usize),
     Exit(usize),
@@ -33,7 +33,7 @@ pub enum Step {
 }
 
 // A call, and where the walk stands after it.
-#[derive(Drop)]
+#[derive(Clone, Copy)]
 pub struct Stepped {
     pub step: Step,
     pub cursor: Cursor,

@@ -107,7 +107,7 @@ fn call_bytes<'a>(s: &'a [u8], put: &'a [u8], n: usize, kind: usize, place: usiz
 }
 
 // Where step 6 ended: a number and the place of the call that is refused; 0 and any place where none is.
-#[derive(Drop)]
+#[derive(Clone, Copy)]
 pub struct Ended {
     pub number: u8,
     pub place: usize,

@@ -144,7 +144,7 @@ fn resolve_use(
 const OPENING: usize = OPEN - 1;
 
 // What a call declares: a kind, or 0 for none; the number of a held name; how many modules may be open; whether it opens one.
-#[derive(Drop)]
+#[derive(Clone, Copy)]
 pub struct Kind {
     pub kind: u16,
     pub twice: u8,

@@ -57,7 +57,7 @@ fn part<'a>(s: &'a [u8], at: usize, n: usize) -> &'a [u8]
 }
 
 // An answer: code 0 done, 1 with a mark, 2 with a number; the tree; the place of the next call.
-#[derive(Drop)]
+#[derive(Clone, Copy)]
 pub struct Step {
     pub code: u8,
     pub value: u16,
@@ -158,7 +158,7 @@ fn packed(code: u8, value: u16) -> u32
 }
 
 // How many calls there were, and the tree that they left.
-#[derive(Drop)]
+#[derive(Clone, Copy)]
 struct Replay {
     count: usize,
     tree: Tree,

@@ -1,0 +1,24 @@
+-- `bundle::steps::after_remappings` meets its contract, way by way. Assumes nothing.
+use native.Mathlib.Omega.{arith}
+use mathlib.Core.Path.{◌≡◌, refl, sym, ◌∙◌}
+use Prim.Native.Nat.{◌+◌, ◌-◌, ◌*◌, ◌≤◌}
+use Rattle.bundle.specs.Limits.{remapping_size}
+use Rattle.bundle.specs.Decode.{far, after_remapping}
+use Rattle.bundle.specs.ListLaws.{far-more}
+use Rattle.bundle.proofs.steps.after_remappings.Goals as goal
+
+pub loop-i-init : goal.loop-i-init
+unfolding far
+loop-i-init c = (omega arith, refl)
+
+pub next_remapping-a-requires : goal.next_remapping-a-requires
+next_remapping-a-requires c =
+    omega (arith, c.requires)
+
+pub loop-i-preserved : goal.loop-i-preserved
+loop-i-preserved c =
+    (omega arith, c.next_remapping-a.ensures.0 ∙ rw c.loop-i.invariant.1 (sym (far-more (after_remapping c.args.s.now) c.loop-i.i c.args.at)))
+
+pub returns : goal.returns
+returns c =
+    let z : c.loop-i.i ≡ c.args.n = omega arith in (c.loop-i.invariant.1 ∙ rw z, omega arith)
