@@ -1,0 +1,15 @@
+use native.Mathlib.Omega.{arith}
+use Prim.Native.Nat.{◌-◌, ◌≤◌}
+use mathlib.Core.Bool.{false}
+use native.Mathlib.Nat.{lt_of_lt_of_le}
+use mathlib.Core.Path.{◌≡◌, refl, sym, ◌∙◌}
+use Rattle.scope_tree.specs.Staging.{any_to, name_test, any_next}
+use Rattle.scope_tree.specs.Batches.{slot}
+use Rattle.scope_tree.specs.BatchLaws.{named-read}
+use Rattle.decision.proofs.stage.first_named.Given as goal
+
+abbrev pub invariant-loop-i : goal.invariant-loop-i
+invariant-loop-i l = (l.i ≤ l.count) × (any_to (name_test (slot 0 l.words) (slot 96 l.words) (slot 192 l.words) (slot 288 l.words) l.name) l.i ≡ false)
+
+abbrev pub decreases-loop-i : goal.decreases-loop-i
+decreases-loop-i l = l.count - l.i
