@@ -43,6 +43,7 @@ module_of u = along register u.path (tree_of (was u))
 -- WHAT THE TREE HOLDS STAYS
 in_left : {i : ℕ} {h : Head} (a b : Scope) → In i h a → In i h (append a b)
 unfolding append
+in_left {i = i} {h = h} end b m = elim m [ ]
 in_left (node j g d f) b here = here
 in_left (node j g d f) b (inside m) = inside m
 in_left (node j g d f) b (later m) = later (in_left f b m)

@@ -49,7 +49,7 @@ overflow_add-a c =
 pub loop-i-preserved : goal.loop-i-preserved
 loop-i-preserved c =
     let e = ap (λ (t : List ℕ). string t) c.string.ensures in
-    let q = strings_step c.args.s.now c.args.n c.loop-i.i c.loop-i.at c.loop-i-test.true ∙ ap (λ (c.next_string-at.ensures.1 : ℕ). string (text c.args.s.now c.loop-i.at) ++ string_bytes c.args.s.now (c.args.n - (c.loop-i.i + 1)) c.next_string-at.ensures.1) (sym c.next_string-at.ensures.0) in
+    let q = strings_step c.args.s.now c.args.n c.loop-i.i c.loop-i.at c.loop-i-test.true ∙ ap (λ (k' : ℕ). string (text c.args.s.now c.loop-i.at) ++ string_bytes c.args.s.now (c.args.n - (c.loop-i.i + 1)) k') (sym c.next_string-at.ensures.0) in
     (omega arith, (omega arith, (filled_more _ _ _ _ _ c.loop-i.invariant.1.1.0 c.loop-i.invariant.1.1.1 (string (text c.args.s.now c.loop-i.at)) (string_bytes c.args.s.now (c.args.n - (c.loop-i.i + 1)) c.next_string-at.result) c.put_string-k.new.out c.put_string-k.result q (c.put_string-k.ensures.1 ∙ ap (λ (l : List ℕ). started l (mid_of c.loop-i.a (length c.loop-i.out - c.loop-i.a) c.loop-i.out)) e) (c.put_string-k.ensures.0 ∙ ap length e), c.loop-i.invariant.1.1.1)))
 
 pub shape_of-out : goal.shape_of-out

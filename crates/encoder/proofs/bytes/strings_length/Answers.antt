@@ -16,7 +16,7 @@ loop-i-init c = (omega arith, (omega arith, (omega arith, let z : c.args.n - 0 �
 pub loop-i-preserved : goal.loop-i-preserved
 loop-i-preserved c =
     let e = ap length (strings_step c.args.s.now c.args.n c.loop-i.i c.loop-i.at c.loop-i-test.true) in
-    let q = ap (λ (c.next_string-at.ensures.1 : ℕ). length (string_bytes c.args.s.now (c.args.n - (c.loop-i.i + 1)) c.next_string-at.ensures.1)) c.next_string-at.ensures.0 in
+    let q = ap (λ (k' : ℕ). length (string_bytes c.args.s.now (c.args.n - (c.loop-i.i + 1)) k')) c.next_string-at.ensures.0 in
     let t = ap length c.string.ensures in
     let short = text-short c.args.s.now (λ i. omega (arith, c.type_inv.s i)) c.loop-i.at in
     (omega arith, (omega arith, (omega arith, omega (arith, length-append (string (text c.args.s.now c.loop-i.at)) (string_bytes c.args.s.now (c.args.n - (c.loop-i.i + 1)) (after c.args.s.now c.loop-i.at)), string-length (text c.args.s.now c.loop-i.at)))))

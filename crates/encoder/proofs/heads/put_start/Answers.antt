@@ -10,23 +10,15 @@ use Rattle.encoder.specs.Parts.{Front, front-room, front-done, start_four, put-k
 use Rattle.encoder.specs.Strings.{string-length}
 use Rattle.encoder.proofs.heads.put_start.Goals as goal
 
-long : (p : tie.After-put2) → 4 ≤ length p.before.before.before.before.before.before.before.before.args.out.now
-long p = let r = p.before.before.before.before.before.before.before.before.requires.1.1 in omega arith
-
--- kind and visibility stand behind the place of the length
-front : (p : tie.After-put2) → Front (take 2 p.before.before.before.before.before.before.before.before.args.out.now ++ (p.before.before.before.before.before.before.before.before.args.kind ∷ p.before.before.before.before.before.before.before.before.args.visibility ∷ [])) (string p.before.before.before.before.before.before.before.before.args.name.now) p.before.before.before.before.before.before.before.before.args.out.now p.put2.new.0 4
-front p =
-    let n = start_four p.before.before.before.before.before.before.before.before.args.out.now p.before.before.before.before.before.before.before.before.args.kind p.before.before.before.before.before.before.before.before.args.visibility (long p) in
-    record {
-      starts = put-kind p.before.before.before.before.before.before.before.before.args.out.now p.before.before.before.before.put.new.0 p.put2.new.0 p.before.before.before.before.before.before.before.before.args.kind p.before.before.before.before.before.before.before.before.args.visibility (long p) p.before.before.before.before.put.ensures p.put2.ensures;
-      is = n;
-      room = let r = p.before.before.before.before.before.before.before.before.requires.1.1 in omega (arith, length-append (take 2 p.before.before.before.before.before.before.before.before.args.out.now ++ (p.before.before.before.before.before.before.before.before.args.kind ∷ p.before.before.before.before.before.before.before.before.args.visibility ∷ [])) (string p.before.before.before.before.before.before.before.before.args.name.now));
-    }
-
 pub put_string-requires : goal.put_string-requires
-put_string-requires c = let r = front-room (front c.before.before.before) in let l = string-length c.args.name.now in (c.requires.1.0, omega arith)
+put_string-requires c =
+    let long : 4 ≤ length c.args.out.now = let r = c.requires.1.1 in omega arith in
+    let front : Front (take 2 c.args.out.now ++ (c.args.kind ∷ c.args.visibility ∷ [])) (string c.args.name.now) c.args.out.now c.put-2.new.out 4 = let n = start_four c.args.out.now c.args.kind c.args.visibility long in record { starts = put-kind c.args.out.now c.put.new.out c.put-2.new.out c.args.kind c.args.visibility long c.put.ensures c.put-2.ensures; is = n; room = let r = c.requires.1.1 in omega (arith, length-append (take 2 c.args.out.now ++ (c.args.kind ∷ c.args.visibility ∷ [])) (string c.args.name.now)); } in
+    let r = front-room front in let l = string-length c.args.name.now in (c.requires.1.0, omega arith)
 
 pub returns : goal.returns
 returns c =
-    let f = front-done (front c.before.before.before.before.before.before) c.put_string.new.out c.put_string.result c.put_string.ensures in
+    let long : 4 ≤ length c.args.out.now = let r = c.requires.1.1 in omega arith in
+    let front : Front (take 2 c.args.out.now ++ (c.args.kind ∷ c.args.visibility ∷ [])) (string c.args.name.now) c.args.out.now c.put-2.new.out 4 = let n = start_four c.args.out.now c.args.kind c.args.visibility long in record { starts = put-kind c.args.out.now c.put.new.out c.put-2.new.out c.args.kind c.args.visibility long c.put.ensures c.put-2.ensures; is = n; room = let r = c.requires.1.1 in omega (arith, length-append (take 2 c.args.out.now ++ (c.args.kind ∷ c.args.visibility ∷ [])) (string c.args.name.now)); } in
+    let f = front-done front c.put_string.new.out c.put_string.result c.put_string.ensures in
     (ap (λ (n : ℕ). 4 + n) c.put_string.ensures.0, f.1 ∙ ap (λ (l : List ℕ). started l c.args.out.now) (append_assoc (take 2 c.args.out.now) (c.args.kind ∷ c.args.visibility ∷ []) (string c.args.name.now)))
