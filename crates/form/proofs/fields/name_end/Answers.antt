@@ -8,7 +8,7 @@ use Rattle.form.proofs.fields.name_end.Goals as goal
 pub text_at-requires : goal.text_at-requires
 text_at-requires c =
     let b = string-next c.args.s.now c.args.end c.args.at (sym c.string_end-string.ensures ∙ c.in-Next.is) in
-    omega (arith, c.well-formed.0)
+    omega (arith, c.well_formed.0)
 
 pub returns-in-Bad : goal.returns-in-Bad
 unfolding scan_formed

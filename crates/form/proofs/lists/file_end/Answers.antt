@@ -17,7 +17,7 @@ overflow_add-a c =
     let n = formed-next c.args.s.now c.args.end c.args.at is_path 4 (sym c.path_end-path.ensures ∙ c.in-Next.is) in
     let b = string-next c.args.s.now c.args.end c.args.at n.0 in
     let l = length-next c.args.s.now c.args.end c.in-Next.a (sym c.length_end-size.ensures ∙ c.in-Next-size.is) in
-    omega (arith, c.requires.0, c.well-formed.0)
+    omega (arith, c.requires.0, c.well_formed.0)
 
 pub items-requires : goal.items-requires
 items-requires c =
