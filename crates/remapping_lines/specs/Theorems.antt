@@ -248,7 +248,7 @@ no_room-only s room p h = go (verdict s) (leb (length (section s)) room) refl re
         let x = refused-only s w r e in
         absurd (never x.refused k)
       where
-        never : {n w p : ℕ} {l : Line} → Refusal n l w p → w ≡ 14 → ⊥
+        never : {n : ℕ} {l : Line} {w p : ℕ} → Refusal n l w p → w ≡ 14 → ⊥
         never (too_many _) k = omega (arith, k)
         never (unsplit _ _) k = omega (arith, k)
         never (bad_context _ _ _) k = omega (arith, k)

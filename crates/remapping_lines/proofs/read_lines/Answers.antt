@@ -12,7 +12,8 @@ pub returns-then-out-size : goal.returns-then-out-size
 returns-then-out-size c =
     let g : Ready c.args.s.now c.in-Counted.n c.in-Counted.size = tested-good c.args.s.now c.in-Counted.n c.in-Counted.size (sym c.in-Counted.is ∙ c.test_lines-tested.ensures) in
     let short : length c.args.out.now < c.in-Counted.size = omega arith in
-    no_room c.args.s.now c.in-Counted.n c.in-Counted.size g c.args.out.now short
+    let told = no_room c.args.s.now c.in-Counted.n c.in-Counted.size g c.args.out.now short in
+    record { value = told.0; out_after = told.1 }
 
 pub put-requires : goal.put-requires
 put-requires c =
@@ -56,11 +57,11 @@ write_lines-requires c =
 pub returns-in-Bad : goal.returns-in-Bad
 returns-in-Bad c =
     let b = tested-bad c.args.s.now _ _ (sym c.in-Bad.is ∙ c.test_lines-tested.ensures) in
-    (b.answers (length c.args.out.now), b.keeps c.args.out.now)
+    record { value = b.answers (length c.args.out.now); out_after = b.keeps c.args.out.now }
 
 pub returns-else-out-size : goal.returns-else-out-size
 returns-else-out-size c =
     let g : Ready c.args.s.now c.in-Counted.n c.in-Counted.size = tested-good c.args.s.now c.in-Counted.n c.in-Counted.size (sym c.in-Counted.is ∙ c.test_lines-tested.ensures) in
     let room : c.in-Counted.size ≤ length c.args.out.now = omega arith in
     let f = section-front c.args.s.now c.in-Counted.n c.in-Counted.size g c.args.out.now room c.put.new.out c.put.ensures in
-    (section-told c.args.s.now c.in-Counted.n c.in-Counted.size g c.args.out.now room, section-whole c.args.s.now c.in-Counted.n c.in-Counted.size g c.args.out.now room _ (front-all f c.write_lines.new.out c.write_lines.ensures))
+    record { value = section-told c.args.s.now c.in-Counted.n c.in-Counted.size g c.args.out.now room; out_after = section-whole c.args.s.now c.in-Counted.n c.in-Counted.size g c.args.out.now room _ (front-all f c.write_lines.new.out c.write_lines.ensures) }

@@ -1,10 +1,8 @@
 -- `linearization::all_below` goes up to the first id that is not below n. The invariant: what is left of the test is the test of what is left of the list. Assumes nothing.
 use native.Mathlib.Omega.{arith}
-use mathlib.Core.Path.{◌≡◌, refl, sym, ◌∙◌}
-use Prim.Native.Nat.{◌≤◌, ◌<◌, ◌-◌, ◌+◌}
-use lib.ListN.{take, drop, get_or}
-use lib.Dec.{ltb}
-use Rattle.graph.specs.Given.{all}
+use mathlib.Core.Path.{refl, sym, ◌∙◌}
+use Prim.Native.Nat.{◌≤◌, ◌<◌, ◌+◌}
+use lib.ListN.{get_or}
 use Rattle.graph.specs.GivenFacts.{list-more, list-fails, list-end}
 use Rattle.graph.proofs.linearization.all_below.Goals as goal
 

@@ -1,9 +1,7 @@
 -- `linearization::answer` copies the ids one by one. The invariant: the first i are copied, and the places after them are clear. Assumes nothing.
 use native.Mathlib.Omega.{arith}
-use mathlib.Core.Path.{◌≡◌, refl}
-use Prim.Native.Nat.{◌≤◌, ◌-◌, ◌+◌}
-use lib.ListN.{take, drop}
-use Rattle.graph.specs.GivenFacts.{copied, copy_more, copy-all}
+use mathlib.Core.Path.{refl}
+use Rattle.graph.specs.GivenFacts.{copy_more, copy-all}
 use Rattle.graph.proofs.linearization.answer.Goals as goal
 
 pub loop-i-init : goal.loop-i-init

@@ -1,9 +1,8 @@
 -- `linearization::answer` copies the ids one by one. The invariant: the first i are copied, and the places after them are clear. Assumes nothing.
-use native.Mathlib.Omega.{arith}
-use mathlib.Core.Path.{◌≡◌, refl}
+use mathlib.Core.Path.{◌≡◌}
 use Prim.Native.Nat.{◌≤◌, ◌-◌, ◌+◌}
 use lib.ListN.{take, drop}
-use Rattle.graph.specs.GivenFacts.{copied, copy_more, copy-all}
+use Rattle.graph.specs.GivenFacts.{copied}
 use Rattle.graph.proofs.linearization.answer.Given as goal
 
 abbrev pub invariant-loop-i : goal.invariant-loop-i

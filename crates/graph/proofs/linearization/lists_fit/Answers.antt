@@ -1,9 +1,6 @@
 -- `linearization::lists_fit` goes up to the first list that does not fit. The invariant: those before u fit. Assumes nothing.
 use native.Mathlib.Omega.{arith}
-use mathlib.Core.Path.{◌≡◌, sym}
-use mathlib.Core.Bool.{true}
-use Prim.Native.Nat.{◌≤◌, ◌-◌}
-use Rattle.graph.specs.Given.{below, fits}
+use mathlib.Core.Path.{sym}
 use Rattle.graph.specs.GivenFacts.{below_none, fits_more, fits_not, fits_all}
 use Rattle.graph.proofs.linearization.lists_fit.Goals as goal
 

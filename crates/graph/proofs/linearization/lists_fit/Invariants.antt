@@ -1,10 +1,8 @@
 -- `linearization::lists_fit` goes up to the first list that does not fit. The invariant: those before u fit. Assumes nothing.
-use native.Mathlib.Omega.{arith}
-use mathlib.Core.Path.{◌≡◌, sym}
+use mathlib.Core.Path.{◌≡◌}
 use mathlib.Core.Bool.{true}
 use Prim.Native.Nat.{◌≤◌, ◌-◌}
 use Rattle.graph.specs.Given.{below, fits}
-use Rattle.graph.specs.GivenFacts.{below_none, fits_more, fits_not, fits_all}
 use Rattle.graph.proofs.linearization.lists_fit.Given as goal
 
 abbrev pub invariant-loop-u : goal.invariant-loop-u

@@ -1,10 +1,7 @@
 -- `linearization::position` goes up to the first place. The invariant: what is left of the search is a search in what is left of the list.
-use native.Mathlib.Omega.{arith}
 use mathlib.Core.Path.{◌≡◌}
-use Prim.Native.Nat.{◌≤◌, ◌<◌, ◌-◌, ◌+◌}
-use lib.ListN.{take, drop, length-take}
-use lib.Seq.{get_or-take}
-use Rattle.graph.specs.Arrays.{index-hit, index_miss, index-end}
+use Prim.Native.Nat.{◌≤◌, ◌-◌, ◌+◌}
+use lib.ListN.{take, drop}
 use Rattle.graph.specs.State.{index}
 use Rattle.graph.proofs.linearization.position.Given as goal
 

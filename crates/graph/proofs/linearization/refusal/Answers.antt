@@ -1,5 +1,4 @@
 -- `linearization::refusal` makes the tests in the definition's order. Assumes nothing.
-use borrow.Author.Tests.{not-true, not-false}
 use native.Mathlib.Omega.{arith}
 use mathlib.Core.Path.{sym, ◌∙◌}
 use Rattle.graph.specs.GivenFacts.{no_unit, many-units, many-ids, is-counted, is_cut, is_unknown, is-accepted}
