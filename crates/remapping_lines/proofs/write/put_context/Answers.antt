@@ -24,10 +24,6 @@ pub returns-then-c-left : goal.returns-then-c-left
 returns-then-c-left c =
     same-filled (string (context_in c.args.left.now)) (string root) _ _ _ (ap string (context-whole c.args.left.now c.args.c c.requires.0 (omega arith))) c.put_string.ensures
 
--- LOST slice-aggregate-put-string-2
-slice-aggregate-put-string-2 c =
-    sym (length-take-le c.args.c c.args.left.now (omega arith))
-
 pub put_string-requires-2 : goal.put_string-requires-2
 put_string-requires-2 c =
     let w = context-part c.args.left.now c.args.c c.requires.0 (omega arith) in

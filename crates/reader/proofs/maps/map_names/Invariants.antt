@@ -1,0 +1,11 @@
+-- `map_names` meets its contract. Assumes nothing.
+use native.Mathlib.Omega.{arith}
+use Prim.Native.Nat.{◌-◌}
+use Rattle.reader.specs.Mapping.{Mapping, mapping_start, mapping_index, mapping_end, mapping_low, mapping_room, mapping_refused, mapping_context, mapping_target, mapping_more}
+use Rattle.reader.proofs.maps.map_names.Given as goal
+
+abbrev pub invariant-loop-j : goal.invariant-loop-j
+invariant-loop-j l = Mapping l.s l.initial.card l.card l.folders l.first l.n l.a l.j
+
+abbrev pub decreases-loop-j : goal.decreases-loop-j
+decreases-loop-j l = l.n - l.j
