@@ -26,7 +26,7 @@ uses_stand (module_of mark v name inner rest) m =
 uses_stand (ignored mark v rest) m = after_ignored (uses_stand rest m)
 
 -- and what stands among them, in inline modules too, is a use of the file
-pub standing_used : {x : Items} {u : Use} → Stands u x → Memᴰ u (uses x)
+pub standing_used : {u : Use} {x : Items} → Stands u x → Memᴰ u (uses x)
 unfolding uses
 standing_used (here e) = Memᴰ.head e
 standing_used (inside s) = Memᴰ.append_left _ (standing_used s)

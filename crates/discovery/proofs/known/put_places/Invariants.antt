@@ -1,0 +1,13 @@
+-- `put_places` meets its contract. Assumes nothing.
+use native.Mathlib.Omega.{arith}
+use Prim.Native.Nat.{ℕ, ◌+◌, ◌-◌}
+use mathlib.Core.Path.{ap, ◌∙◌}
+use Rattle.card.specs.Layout.{start_at}
+use Rattle.discovery.specs.Places.{StartsTo, starts_none, starts-one, starts-all}
+use Rattle.discovery.proofs.known.put_places.Given as goal
+
+abbrev pub invariant-loop-i : goal.invariant-loop-i
+invariant-loop-i l = StartsTo l.card l.initial.t l.t l.i
+
+abbrev pub decreases-loop-i : goal.decreases-loop-i
+decreases-loop-i l = l.n - l.i
