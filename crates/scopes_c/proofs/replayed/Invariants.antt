@@ -1,0 +1,9 @@
+use Prim.Native.Nat.{◌-◌}
+use Rattle.scopes_c.specs.Lists.{Walking, walking_begin, walking_turn, walking_past, walking_far, walking_end, said_as}
+use Rattle.scopes_c.proofs.replayed.Given as goal
+
+abbrev pub invariant-loop-i : goal.invariant-loop-i
+invariant-loop-i l = Walking l.s l.initial.out l.out l.t l.p l.i
+
+abbrev pub decreases-loop-i : goal.decreases-loop-i
+decreases-loop-i l = 16000000 - l.i
