@@ -1,0 +1,59 @@
+-- `resolve_imports` meets its contract. Assumes nothing.
+use Rattle.std.proofs.Common.{rules}
+use native.Mathlib.Omega.{arith}
+use Prim.Native.Nat.{◌≤◌, ◌-◌}
+use mathlib.Core.Logic.{⊎_elim}
+use mathlib.Core.Path.{◌≡◌, sym, subst, ◌∙◌}
+use lib.ListN.{length, get_or}
+use Rattle.bundle.specs.Limits.{use_limit}
+use Rattle.resolution.specs.Resolution.{resolve_path_internal}
+use Rattle.resolution.specs.Indices.{lists_in, path_in}
+use Rattle.resolution.specs.CardLaws.{total}
+use Rattle.discovery.specs.Walk.{use_at, use_list, use_list-length, use_at-place, mark-at-place, named-at-place}
+use Rattle.discovery.specs.Facts.{get_d_any}
+use Rattle.discovery.specs.Known.{no_use, Fills, fills_none, fills_one}
+use Rattle.driver.specs.Record.{LookedTo, no_imports, lookup-is, looked-none, looked-one, looked-done, folder-small}
+use Rattle.driver.proofs.lookups.resolve_imports.Goals as goal
+use Rattle.driver.proofs.lookups.resolve_imports.Goals.{in-Refused, in-File, in-Folder}
+
+pub loop-i-init : goal.loop-i-init
+loop-i-init c = (omega arith, looked-none (lists_in c.args.s.now) (path_in c.args.s.now c.args.f) (use_list c.args.s.now c.args.u) (no_imports c.args.g), fills_none _ _ _ _ _)
+
+pub resolve_single-found-requires : goal.resolve_single-found-requires
+resolve_single-found-requires c =
+    let z : length c.args.u.marks ≡ use_limit = search (rules, c.well_formed) in
+    let fits : c.args.u.count ≤ length c.args.u.marks = omega arith in
+    (c.requires.0, c.requires.1, (mark-at-place c.args.s.now c.args.u fits c.loop-i.i c.loop-i-test.true c.requires.2.0, named-at-place c.args.s.now c.args.u fits c.requires.2.1.0 c.loop-i.i c.loop-i-test.true))
+
+pub keep-requires : goal.keep-requires
+keep-requires c = (c.loop-i.invariant.2.wide ∙ c.requires.3.0, (omega (arith, c.loop-i-test.true)))
+
+pub overflow_add-w-in-Folder : goal.overflow_add-w-in-Folder
+overflow_add-w-in-Folder c =
+    let small = folder-small (lists_in c.args.s.now) (resolve_path_internal (lists_in c.args.s.now) (path_in c.args.s.now c.args.f) (use_at c.args.s.now (get_or c.args.u.marks c.loop-i.i 0)).segments) c.in-Folder.f _ (sym c.resolve_single-found.ensures ∙ c.in-Folder.is) in
+    let n = total c.requires.0.card in
+    search rules
+
+pub loop-i-preserved : goal.loop-i-preserved
+loop-i-preserved c =
+    let z : length c.args.u.marks ≡ use_limit = search (rules, c.well_formed) in
+    let fits : c.args.u.count ≤ length c.args.u.marks = omega arith in
+    let n = use_list-length c.args.s.now c.args.u fits in (
+      omega (arith, c.loop-i-test.true),
+      looked-one (lists_in c.args.s.now) (path_in c.args.s.now c.args.f) (use_list c.args.s.now c.args.u) (no_imports c.args.g) c.loop-i.w c.match-found.w c.loop-i.i (use_at c.args.s.now (get_or c.args.u.marks c.loop-i.i 0)) c.loop-i.invariant.1 (omega (arith, c.loop-i-test.true))
+          (use_at-place c.args.s.now c.args.u fits c.loop-i.i c.loop-i-test.true)
+          (elim c.match-found.branch [
+            in-Refused w ↦ lookup-is (lists_in c.args.s.now) (path_in c.args.s.now c.args.f) (use_at c.args.s.now (get_or c.args.u.marks c.loop-i.i 0)) c.loop-i.w c.match-found.w _ _ c.resolve_single-found.ensures w.in-Refused.is w.w-is
+            | in-File w ↦ lookup-is (lists_in c.args.s.now) (path_in c.args.s.now c.args.f) (use_at c.args.s.now (get_or c.args.u.marks c.loop-i.i 0)) c.loop-i.w c.match-found.w _ _ c.resolve_single-found.ensures w.in-File.is w.w-is
+            | in-Folder w ↦ lookup-is (lists_in c.args.s.now) (path_in c.args.s.now c.args.f) (use_at c.args.s.now (get_or c.args.u.marks c.loop-i.i 0)) c.loop-i.w c.match-found.w _ _ c.resolve_single-found.ensures w.in-Folder.is w.w-is ]),
+      fills_one _ _ _ _ _ _ _ _ (use_at c.args.s.now (get_or c.args.u.marks c.loop-i.i 0)) _ (omega (arith, c.loop-i-test.true)) c.loop-i.invariant.2
+          (get_d_any (use_list c.args.s.now c.args.u) c.loop-i.i no_use (use_at c.args.s.now (get_or c.args.u.marks c.loop-i.i 0)) (omega (arith, c.loop-i-test.true)) ∙ use_at-place c.args.s.now c.args.u fits c.loop-i.i c.loop-i-test.true)
+          c.keep.ensures c.resolve_single-found.ensures,
+    )
+
+pub returns : goal.returns
+returns c =
+    let z : length c.args.u.marks ≡ use_limit = search (rules, c.well_formed) in
+    let fits : c.args.u.count ≤ length c.args.u.marks = omega arith in
+    let n = use_list-length c.args.s.now c.args.u fits in
+    record { value = looked-done (lists_in c.args.s.now) (path_in c.args.s.now c.args.f) (use_list c.args.s.now c.args.u) (no_imports c.args.g) c.loop-i.w c.loop-i.i c.loop-i.invariant.1 (omega (arith, c.loop-i-test.false)); fills = subst (Fills _ _ _ _ _ _) (omega (arith, c.loop-i-test.false, c.loop-i.invariant.0)) c.loop-i.invariant.2 }

@@ -1,0 +1,16 @@
+-- `discover_dependencies` meets its contract. Assumes nothing.
+use Prim.Native.Nat.{ℕ}
+use mathlib.Core.Path.{◌∙◌}
+use lib.ListN.{length-replicate}
+use Rattle.card.specs.Layout.{card_size}
+use Rattle.discovery.specs.Places.{fresh}
+use Rattle.driver.proofs.turns.discover_dependencies.Goals as goal
+
+pub read-checked-requires : goal.read-checked-requires
+read-checked-requires c = length-replicate {A = ℕ} card_size 0
+
+pub discover-requires : goal.discover-requires
+discover-requires c = (c.requires, c.read-checked.ensures.1 (c.read-checked.ensures.0 ∙ c.requires), fresh)
+
+pub returns : goal.returns
+returns c = c.discover.ensures.discovers
