@@ -1,0 +1,15 @@
+-- `order::steps::linked` meets its contract. Assumes nothing.
+use Prim.Native.Nat.{◌-◌}
+use Rattle.order.specs.Steps.{CopiedTo, copied_none, copied-one, copied_all}
+use Rattle.order.proofs.steps.linked.Goals as goal
+
+pub loop-i-init : goal.loop-i-init
+loop-i-init c = copied_none c.args.files.now c.args.units c.requires.1 c.requires.0
+
+pub loop-i-preserved : goal.loop-i-preserved
+loop-i-preserved c =
+    copied-one c.args.files.now c.args.units c.requires.1 c.requires.0 c.loop-i.found c.loop-i.i c.loop-i-test.true c.loop-i.invariant
+
+pub returns : goal.returns
+returns c =
+    copied_all c.args.files.now c.args.units c.requires.1 c.requires.0 c.loop-i.found c.args.ids c.loop-i.i c.loop-i-test.false c.loop-i.invariant

@@ -1,0 +1,10 @@
+-- `order::steps::linked` meets its contract. Assumes nothing.
+use Prim.Native.Nat.{◌-◌}
+use Rattle.order.specs.Steps.{CopiedTo, copied_none, copied-one, copied_all}
+use Rattle.order.proofs.steps.linked.Given as goal
+
+abbrev pub invariant-loop-i : goal.invariant-loop-i
+invariant-loop-i l = CopiedTo l.files l.found l.units l.i
+
+abbrev pub decreases-loop-i : goal.decreases-loop-i
+decreases-loop-i l = l.units - l.i
