@@ -1,5 +1,5 @@
 -- The tests 7 to 13 find nothing just where the value has no conflict. Assumes nothing.
-use Rattle.std.specs.Prelude.{ℕ, zero, suc, ◌+◌, Bool, true, false, cond, ◌&&◌, not, ◌≡◌, refl, List, [], ◌∷◌, ◌++◌, map}
+use Rattle.std.specs.Prelude.{ℕ, zero, suc, Bool, true, false, cond, ◌&&◌, not, ◌≡◌, refl, List, [], ◌∷◌, ◌++◌, map}
 use Rattle.std.proofs.Common.{arith, sym, ap, ◌∙◌}
 use Rattle.names.specs.Bytes.{member}
 use Rattle.names.specs.Path.{root}
@@ -9,7 +9,7 @@ use Rattle.names.specs.Keywords.{is_crate, is_keyword}
 use Rattle.bundle.specs.Bundle.{Text, Remapping, File, with_slash}
 use Rattle.bundle.specs.Scan.{text}
 use Rattle.bundle.specs.Decode.{each, after, after_remapping, after_file, remapping_at, file_at, decode, folder_count, folder_first, remapping_count, remapping_first, file_count, file_first}
-use Rattle.bundle.specs.Conflicts.{Placed, PlacedRemapping, placed_at, placed_remapping_at, texts, or_else, any, listed, located, same_remapping, remapped, conflicts, remappings}
+use Rattle.bundle.specs.Conflicts.{Placed, PlacedRemapping, placed_at, placed_remapping_at, texts, or_else, any, listed, located, same_remapping, remapped, conflicts}
 use Rattle.bundle.specs.Conflicts.{named as nameTold}
 use Rattle.bundle.specs.ListLaws.{texts-each}
 use Rattle.bundle.specs.Steps.{both}

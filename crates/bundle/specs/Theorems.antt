@@ -15,7 +15,7 @@ use Rattle.bundle.specs.SoundBundle.{form-sound, both-pass}
 use Rattle.bundle.specs.CompleteBundle.{form-complete}
 use Rattle.bundle.specs.Free.{conflicts-free, free-conflicts}
 use Rattle.bundle.specs.Marks.{file_marks, rising-less, files-rising, FoundFiles, files-found, behind-length}
-use Rattle.bundle.specs.Read.{form, verdict, value, refused, read}
+use Rattle.bundle.specs.Read.{verdict, value, refused, read}
 use Rattle.bundle.specs.declared.Width.{Width}
 use Rattle.bundle.specs.declared.Checked.TheVariants.{Ok, Refused}
 

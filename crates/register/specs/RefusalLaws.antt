@@ -12,7 +12,7 @@ use Rattle.std.proofs.Math.ListN.{length, length-append}
 use Rattle.std.proofs.lemmas.Bool.{eqb-false}
 use Rattle.names.specs.declared.Name.{Name}
 use Rattle.names.specs.Packed.{same_name, names_same}
-use Rattle.scope_tree.specs.Step.{copy_of, declared, Head, Elem, Call, enter, exit, alias, enum, function, use', get_alias, get_function, bad, Answer, ok, refused, Found, missing, got, Model, Tried, done, fail, is_got, told_mark, shared, any_main, number, after, first_told, head, bind, same_refl, held, full, deep, nav, import, attempt, judge, element, stage, use_of, fresh, settle, close, step}
+use Rattle.scope_tree.specs.Step.{copy_of, declared, Head, Elem, Call, enter, exit, alias, enum, function, use', get_alias, get_function, bad, Answer, ok, refused, Found, missing, got, Model, Tried, done, fail, is_got, told_mark, shared, any_main, after, first_told, head, bind, same_refl, held, full, deep, nav, import, attempt, judge, element, stage, use_of, fresh, settle, close, step}
 use Rattle.scope_tree.specs.Note.{inner, along, bring_all, noted, element-bring, use_bring, fresh-done}
 use Rattle.register.specs.Refusals.{Leads, NoMain, NoCrate, no_crate, Adds, adds_module, adds_alias, adds_enum, adds_function, adds_items, Argument, argument, Formed, pick, at, so_far, Passes, AllPass, NoSegment, PrivateSegment, Says, says_43, says_44, says_45, Takes, Taken, as_type, as_function, as_module, Fails, by_type, by_function, by_module, AllTaken, FirstFails, ItemFails, Holds, NoModule, no_module, PrivateModule, private_module, NoItem, no_item, no_alias, no_function, PrivateItem, private_item, Clash, clash, AliasMain, alias_main, ModuleTwice, module_twice, TypeTwice, alias_twice, enum_twice, FunctionTwice, function_twice, NotInside, not_inside, Fault, Past, TreeFull, Refused}
 

@@ -10,7 +10,7 @@ use Rattle.bundle.specs.Limits.{remapping_limit}
 use Rattle.bundle.specs.Encode.{remapping}
 use Rattle.bundle.specs.Encode.{counted as byte-list}
 use Rattle.bundle.specs.Form.{Every, FormedRemapping}
-use Rattle.remapping_lines.specs.Lines.{line_feed, equals, colon, has, pieces, dropped, placed, content, lines_of, left, right, context_in, prefix_in, name_in, target_in, remapping_of, remappings_of, section}
+use Rattle.remapping_lines.specs.Lines.{line_feed, equals, colon, has, pieces, dropped, placed, content, lines_of, context_in, prefix_in, name_in, target_in, remapping_of, remappings_of, section}
 use Rattle.remapping_lines.specs.SplitTheorems.{split-only, glued, Without, pieces-only, slash-dropped}
 use Rattle.remapping_lines.specs.Testing.{Passes}
 use Rattle.remapping_lines.specs.Writing.{AllPass, Accepted}

@@ -134,7 +134,7 @@ write-shut l e ys s le q b a =
     let gone : All (λ y. y.scope ≡ s → ⊥) ys = all_map _ _ (λ y h r. omega arith) ys a in
     write-append l (e ∷ ys) s le (λ s' c d r. omega arith, all_map _ _ (λ y h s' c d r. omega arith) ys a)
     ∙ rw (eq-eqb e.scope s q, build_gone (pasts (l ++ (e ∷ ys))) ys (suc (length l)) s gone, behind l e ys)
-        (ap (λ (x : Body). append (write l s) (node (length l) e.shows (within x (build (pasts (l ++ (e ∷ ys))) (suc (length l)) ys (suc (length l))) (pasts (l ++ (e ∷ ys)) (length l))) end)) b)
+    (ap (λ (x : Body). append (write l s) (node (length l) e.shows (within x (build (pasts (l ++ (e ∷ ys))) (suc (length l)) ys (suc (length l))) (pasts (l ++ (e ∷ ys)) (length l))) end)) b)
   where
     behind : (l : List Entry) (e : Entry) (ys : List Entry) → drop (suc (length l)) (l ++ (e ∷ ys)) ≡ ys
     behind [] e ys = refl

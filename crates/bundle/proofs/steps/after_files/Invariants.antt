@@ -1,10 +1,8 @@
 -- `bundle::steps::after_files` meets its contract, way by way. Assumes nothing.
-use mathlib.Core.Path.{◌≡◌, refl, sym, ◌∙◌}
-use native.Mathlib.Omega.{arith}
+use mathlib.Core.Path.{◌≡◌}
 use Prim.Native.Nat.{◌+◌, ◌-◌, ◌*◌, ◌≤◌}
 use Rattle.bundle.specs.Limits.{file_size}
 use Rattle.bundle.specs.Decode.{far, after_file}
-use Rattle.bundle.specs.ListLaws.{far-more}
 use Rattle.bundle.proofs.steps.after_files.Given as goal
 
 abbrev pub invariant-loop-i : goal.invariant-loop-i

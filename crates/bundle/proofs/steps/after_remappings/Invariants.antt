@@ -1,10 +1,8 @@
 -- `bundle::steps::after_remappings` meets its contract, way by way. Assumes nothing.
-use native.Mathlib.Omega.{arith}
-use mathlib.Core.Path.{◌≡◌, refl, sym, ◌∙◌}
+use mathlib.Core.Path.{◌≡◌}
 use Prim.Native.Nat.{◌+◌, ◌-◌, ◌*◌, ◌≤◌}
 use Rattle.bundle.specs.Limits.{remapping_size}
 use Rattle.bundle.specs.Decode.{far, after_remapping}
-use Rattle.bundle.specs.ListLaws.{far-more}
 use Rattle.bundle.proofs.steps.after_remappings.Given as goal
 
 abbrev pub invariant-loop-i : goal.invariant-loop-i

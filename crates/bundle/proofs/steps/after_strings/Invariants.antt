@@ -1,10 +1,8 @@
 -- `bundle::steps::after_strings` meets its contract, way by way. Assumes nothing.
-use mathlib.Core.Path.{◌≡◌, refl, sym, ◌∙◌}
-use native.Mathlib.Omega.{arith}
+use mathlib.Core.Path.{◌≡◌}
 use Prim.Native.Nat.{◌+◌, ◌-◌, ◌*◌, ◌≤◌}
 use Rattle.bundle.specs.Limits.{string_size}
 use Rattle.bundle.specs.Decode.{far, after}
-use Rattle.bundle.specs.ListLaws.{far-more}
 use Rattle.bundle.proofs.steps.after_strings.Given as goal
 
 abbrev pub invariant-loop-i : goal.invariant-loop-i

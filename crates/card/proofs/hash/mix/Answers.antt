@@ -1,10 +1,7 @@
 -- `mix` meets its contract. Assumes nothing.
 use native.Mathlib.Omega.{arith}
-use Prim.Native.Nat.{◌-◌, ◌≤◌, ◌<◌}
-use mathlib.Core.Path.{◌≡◌, refl, sym, ◌∙◌}
-use lib.ListN.{length, drop}
-use Rattle.card.specs.Layout.{key_limit}
-use Rattle.card.specs.Index.{hashed, hash-more, hash-end, product, fold_small}
+use mathlib.Core.Path.{refl, sym, ◌∙◌}
+use Rattle.card.specs.Index.{hash-more, hash-end, product, fold_small}
 use Rattle.card.proofs.hash.mix.Goals as goal
 
 pub loop-i-init : goal.loop-i-init

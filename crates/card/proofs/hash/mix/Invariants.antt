@@ -1,10 +1,9 @@
 -- `mix` meets its contract. Assumes nothing.
-use native.Mathlib.Omega.{arith}
 use Prim.Native.Nat.{◌-◌, ◌≤◌, ◌<◌}
-use mathlib.Core.Path.{◌≡◌, refl, sym, ◌∙◌}
+use mathlib.Core.Path.{◌≡◌}
 use lib.ListN.{length, drop}
 use Rattle.card.specs.Layout.{key_limit}
-use Rattle.card.specs.Index.{hashed, hash-more, hash-end, product, fold_small}
+use Rattle.card.specs.Index.{hashed}
 use Rattle.card.proofs.hash.mix.Given as goal
 
 abbrev pub invariant-loop-i : goal.invariant-loop-i

@@ -1,9 +1,5 @@
 -- `cut_of` meets its contract. Assumes nothing.
 use Rattle.card.specs.Card.{cut-root, cut_below}
-use Rattle.card.proofs.look.cut_of.Reads as reads
-use Rattle.card.proofs.look.cut_of.Lts as lts
-use Rattle.bundle.proofs.string.Reads as string-reads
-use Rattle.card.proofs.look.far.Reads as far-reads
 use Rattle.card.proofs.look.cut_of.Goals as goal
 
 -- src/look.rt:63:9

@@ -1,11 +1,6 @@
 -- `find_child` meets its contract. Assumes nothing.
 use native.Mathlib.Omega.{arith}
-use lib.ListN.{length}
-use mathlib.Core.List.{◌++◌}
-use Rattle.card.specs.Card.{nodes_in, sought, bucket_at, hash_steps, find-start, find-end, find-found, find-on}
-use Rattle.card.specs.Index.{Walking}
-use Rattle.card.specs.Layout.{bucket_limit}
-use Prim.Native.Nat.{◌%◌, ◌/◌}
+use Rattle.card.specs.Card.{hash_steps, find-start, find-end, find-found, find-on}
 use Rattle.card.proofs.look.find_child.Goals as goal
 
 pub bounds-card-772 : goal.bounds-card-772

@@ -1,8 +1,7 @@
 -- `find_child` meets its contract. Assumes nothing.
-use native.Mathlib.Omega.{arith}
 use lib.ListN.{length}
 use mathlib.Core.List.{◌++◌}
-use Rattle.card.specs.Card.{nodes_in, sought, bucket_at, hash_steps, find-start, find-end, find-found, find-on}
+use Rattle.card.specs.Card.{nodes_in, sought, bucket_at}
 use Rattle.card.specs.Index.{Walking}
 use Rattle.card.specs.Layout.{bucket_limit}
 use Prim.Native.Nat.{◌%◌, ◌/◌}

@@ -1,9 +1,8 @@
 -- `is_below` meets its contract. Assumes nothing.
-use native.Mathlib.Omega.{arith}
 use Prim.Native.Nat.{◌-◌, ◌<◌, ◌≤◌}
-use mathlib.Core.Path.{◌≡◌, refl, sym, ◌∙◌}
+use mathlib.Core.Path.{◌≡◌}
 use Rattle.card.specs.Layout.{node_limit, parent_at}
-use Rattle.card.specs.Tree.{ascends, up_here, up_top, up_out, up_more}
+use Rattle.card.specs.Tree.{ascends}
 use Rattle.names.specs.Path.{component_limit}
 use Rattle.card.proofs.look.is_below.Given as goal
 

@@ -1,11 +1,9 @@
 -- `nearest_marked` meets its contract. Assumes nothing.
-use native.Mathlib.Omega.{arith}
 use Prim.Native.Nat.{◌-◌, ◌<◌, ◌≤◌}
-use mathlib.Core.Path.{◌≡◌, refl, sym, ◌∙◌}
+use mathlib.Core.Path.{◌≡◌}
 use lib.Dec.{eqb}
-use borrow.Author.Tests.{eq-eqb, ne_eqb}
 use Rattle.card.specs.Layout.{node_limit, parent_at, mark_at}
-use Rattle.card.specs.Laws.{nearest, near-here, near-top, near-out, near-more}
+use Rattle.card.specs.Laws.{nearest}
 use Rattle.names.specs.Path.{component_limit}
 use Rattle.card.proofs.look.nearest_marked.Given as goal
 

@@ -1,9 +1,6 @@
 -- `walk` meets its contract. Assumes nothing.
 use native.Mathlib.Omega.{arith}
-use Prim.Native.Nat.{suc, ◌%◌, ◌/◌}
-use Rattle.card.specs.Card.{nodes_in, is_up_to, bucket_at, path-start, path-within, path-end, path-found, path-on}
-use Rattle.card.specs.Index.{Walking}
-use Rattle.card.specs.Layout.{bucket_limit}
+use Rattle.card.specs.Card.{path-start, path-within, path-end, path-found, path-on}
 use Rattle.card.proofs.look.walk.Goals as goal
 
 pub loop-i-init : goal.loop-i-init

@@ -1,7 +1,6 @@
 -- `walk` meets its contract. Assumes nothing.
-use native.Mathlib.Omega.{arith}
 use Prim.Native.Nat.{suc, ◌%◌, ◌/◌}
-use Rattle.card.specs.Card.{nodes_in, is_up_to, bucket_at, path-start, path-within, path-end, path-found, path-on}
+use Rattle.card.specs.Card.{nodes_in, is_up_to, bucket_at}
 use Rattle.card.specs.Index.{Walking}
 use Rattle.card.specs.Layout.{bucket_limit}
 use Rattle.card.proofs.look.walk.Given as goal

@@ -1,7 +1,5 @@
 -- `put_string` meets its contract. Assumes nothing.
-use Prim.Native.Nat.{◌-◌}
-use lib.ListN.{length}
-use Rattle.encoder.specs.Strings.{CopiedTo, copied_none, copied-one, copied_all}
+use Rattle.encoder.specs.Strings.{copied_none, copied-one, copied_all}
 use Rattle.encoder.proofs.bytes.put_string.Goals as goal
 
 pub loop-i-init : goal.loop-i-init

@@ -1,7 +1,7 @@
 -- `put_string` meets its contract. Assumes nothing.
 use Prim.Native.Nat.{◌-◌}
 use lib.ListN.{length}
-use Rattle.encoder.specs.Strings.{CopiedTo, copied_none, copied-one, copied_all}
+use Rattle.encoder.specs.Strings.{CopiedTo}
 use Rattle.encoder.proofs.bytes.put_string.Given as goal
 
 abbrev pub invariant-loop-i : goal.invariant-loop-i

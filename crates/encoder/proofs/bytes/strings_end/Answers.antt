@@ -1,11 +1,10 @@
 -- `strings_end` meets its contract. Assumes nothing.
-use Prim.Native.Nat.{ℕ, ◌+◌, ◌-◌, ◌*◌, ◌≤◌}
+use Prim.Native.Nat.{ℕ}
 use native.Mathlib.Omega.{arith}
 use mathlib.Core.Path.{◌≡◌, refl, sym, ap, ◌∙◌}
 use mathlib.Core.List.{List}
 use Rattle.bundle.specs.Decode.{after, far}
 use Rattle.bundle.specs.ListLaws.{far-more}
-use Rattle.bundle.specs.Limits.{string_size}
 use Rattle.encoder.proofs.bytes.strings_end.Goals as goal
 
 from_start : (s : List ℕ) (first : ℕ) → first ≡ far (after s) 0 first

@@ -1,10 +1,7 @@
 -- `strings_end` meets its contract. Assumes nothing.
-use Prim.Native.Nat.{ℕ, ◌+◌, ◌-◌, ◌*◌, ◌≤◌}
-use native.Mathlib.Omega.{arith}
-use mathlib.Core.Path.{◌≡◌, refl, sym, ap, ◌∙◌}
-use mathlib.Core.List.{List}
+use Prim.Native.Nat.{◌+◌, ◌-◌, ◌*◌, ◌≤◌}
+use mathlib.Core.Path.{◌≡◌}
 use Rattle.bundle.specs.Decode.{after, far}
-use Rattle.bundle.specs.ListLaws.{far-more}
 use Rattle.bundle.specs.Limits.{string_size}
 use Rattle.encoder.proofs.bytes.strings_end.Given as goal
 

@@ -1,5 +1,5 @@
 -- `strings_length` meets its contract. Assumes nothing.
-use Prim.Native.Nat.{ℕ, ◌+◌, ◌-◌, ◌*◌, ◌≤◌}
+use Prim.Native.Nat.{ℕ, ◌+◌, ◌-◌}
 use native.Mathlib.Omega.{arith}
 use mathlib.Core.Path.{◌≡◌, ap}
 use lib.ListN.{length-append, length}
@@ -7,7 +7,6 @@ use Rattle.bundle.specs.Decode.{after}
 use Rattle.bundle.specs.Scan.{text}
 use Rattle.bundle.specs.Encode.{string}
 use Rattle.encoder.specs.Strings.{string_bytes, strings_step, strings_done, string-length, text-short}
-use Rattle.bundle.specs.Limits.{string_size}
 use Rattle.encoder.proofs.bytes.strings_length.Goals as goal
 
 pub loop-i-init : goal.loop-i-init

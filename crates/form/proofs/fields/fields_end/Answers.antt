@@ -2,7 +2,7 @@
 use mathlib.Core.Path.{◌≡◌, sym, ◌∙◌}
 use native.Mathlib.Omega.{arith}
 use Prim.Native.Nat.{◌-◌}
-use Rattle.bundle.specs.Scan.{scan_field, times}
+use Rattle.bundle.specs.Scan.{scan_field}
 use Rattle.bundle.specs.Steps.{times-next, times-bad, times-done}
 use Rattle.form.proofs.fields.fields_end.Goals as goal
 

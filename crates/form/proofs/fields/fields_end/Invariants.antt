@@ -1,9 +1,7 @@
 -- `form::fields::fields_end` meets its contract, way by way. Assumes nothing.
-use mathlib.Core.Path.{◌≡◌, sym, ◌∙◌}
-use native.Mathlib.Omega.{arith}
+use mathlib.Core.Path.{◌≡◌}
 use Prim.Native.Nat.{◌-◌}
 use Rattle.bundle.specs.Scan.{scan_field, times}
-use Rattle.bundle.specs.Steps.{times-next, times-bad, times-done}
 use Rattle.form.proofs.fields.fields_end.Given as goal
 
 abbrev pub invariant-loop-i : goal.invariant-loop-i

@@ -1,10 +1,8 @@
 -- `form::lists::files_end` meets its contract, way by way. Assumes nothing.
 use mathlib.Core.Path.{◌≡◌, sym, ◌∙◌}
 use native.Mathlib.Omega.{arith}
-use Prim.Native.Nat.{◌-◌, ◌≤◌}
-use Rattle.bundle.specs.Limits.{item_limit, use_limit}
+use Prim.Native.Nat.{◌-◌}
 use Rattle.bundle.specs.Walks.{file_goes, files-next, files-fault, files-done}
-use Rattle.bundle.specs.Scan.{scan_files}
 use Rattle.form.proofs.lists.files_end.Goals as goal
 
 pub loop-i-init : goal.loop-i-init

@@ -1,9 +1,7 @@
 -- `form::lists::files_end` meets its contract, way by way. Assumes nothing.
-use mathlib.Core.Path.{◌≡◌, sym, ◌∙◌}
-use native.Mathlib.Omega.{arith}
+use mathlib.Core.Path.{◌≡◌}
 use Prim.Native.Nat.{◌-◌, ◌≤◌}
 use Rattle.bundle.specs.Limits.{item_limit, use_limit}
-use Rattle.bundle.specs.Walks.{file_goes, files-next, files-fault, files-done}
 use Rattle.bundle.specs.Scan.{scan_files}
 use Rattle.form.proofs.lists.files_end.Given as goal
 

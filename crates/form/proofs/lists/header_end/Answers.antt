@@ -1,6 +1,5 @@
 -- `form::lists::header_end` meets its contract, way by way. Assumes nothing.
 use borrow.Author.Tests.{lt-ltb, le-ltb}
-use borrow.Author.Tests.{not-true, not-false}
 use Rattle.bundle.specs.Scan.{scan_header}
 use Rattle.form.proofs.lists.header_end.Goals as goal
 

@@ -1,8 +1,7 @@
 -- `find` meets its contract: no byte passed is c. Assumes nothing.
 use native.Mathlib.Omega.{arith}
-use Prim.Native.Nat.{ℕ, ◌≤◌, ◌<◌, ◌-◌}
 use mathlib.Core.Path.{◌≡◌, sym, ◌∙◌}
-use lib.ListN.{length, get_or}
+use lib.ListN.{length}
 use borrow.Author.Count.{below_more}
 use Rattle.remapping_lines.specs.Splitting.{first_found, first-none}
 use Rattle.remapping_lines.proofs.bytes.find.Goals as goal

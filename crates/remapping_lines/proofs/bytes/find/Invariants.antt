@@ -1,10 +1,7 @@
 -- `find` meets its contract: no byte passed is c. Assumes nothing.
-use native.Mathlib.Omega.{arith}
 use Prim.Native.Nat.{ℕ, ◌≤◌, ◌<◌, ◌-◌}
-use mathlib.Core.Path.{◌≡◌, sym, ◌∙◌}
+use mathlib.Core.Path.{◌≡◌}
 use lib.ListN.{length, get_or}
-use borrow.Author.Count.{below_more}
-use Rattle.remapping_lines.specs.Splitting.{first_found, first-none}
 use Rattle.remapping_lines.proofs.bytes.find.Given as goal
 
 abbrev pub invariant-loop-i : goal.invariant-loop-i

@@ -4,7 +4,6 @@ use Prim.Native.Nat.{◌+◌, ◌*◌, ◌≤◌, ◌<◌}
 use mathlib.Core.Path.{sym}
 use lib.ListN.{length}
 use lib.Seq.{length-take-le}
-use borrow.Author.Tests.{not-true, not-false}
 use Rattle.bundle.specs.Limits.{remapping_limit, remapping_size}
 use Rattle.remapping_lines.specs.Lines.{name_size}
 use Rattle.remapping_lines.specs.Testing.{test-empty, test-many, test-unsplit, test-context, test-target, test-name, test_good, added-few}

@@ -1,13 +1,13 @@
 -- `test_lines` meets its contract: the lines passed are tested and counted. Assumes nothing.
 use native.Mathlib.Omega.{arith}
 use Prim.Native.Nat.{◌-◌}
-use mathlib.Core.Path.{◌≡◌, refl, sym, ◌∙◌}
+use mathlib.Core.Path.{refl, sym, ◌∙◌}
 use lib.ListN.{length, take, drop}
 use lib.Seq.{length-take-le}
 use Rattle.names.specs.Bytes.{rest-is, length_rest}
-use Rattle.remapping_lines.specs.Lines.{lines_of, lines_from}
+use Rattle.remapping_lines.specs.Lines.{lines_from}
 use Rattle.remapping_lines.specs.Splitting.{lines_end}
-use Rattle.remapping_lines.specs.Testing.{tally, Within, piece-within, tally-none, turn-bad, turn-counted}
+use Rattle.remapping_lines.specs.Testing.{piece-within, tally-none, turn-bad, turn-counted}
 use Rattle.remapping_lines.proofs.test.test_lines.Goals as goal
 
 pub loop-at-init : goal.loop-at-init

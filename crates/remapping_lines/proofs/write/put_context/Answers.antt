@@ -4,7 +4,6 @@ use Prim.Native.Nat.{ℕ}
 use mathlib.Core.Path.{◌≡◌, sym, ap}
 use mathlib.Core.List.{List}
 use lib.ListN.{length}
-use lib.Seq.{length-take-le}
 use Rattle.encoder.specs.Parts.{same-filled}
 use Rattle.encoder.specs.Strings.{string-length}
 use Rattle.bundle.specs.Encode.{string}

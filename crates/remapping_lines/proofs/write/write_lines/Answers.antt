@@ -6,11 +6,11 @@ use mathlib.Core.Path.{sym}
 use lib.ListN.{length, take, drop}
 use lib.Seq.{length-take-le}
 use Rattle.names.specs.Bytes.{rest-is}
-use Rattle.encoder.specs.Parts.{Filled, lent_length, filled-start, filled-length, filled-room, filled_more, filled-all}
+use Rattle.encoder.specs.Parts.{lent_length, filled-start, filled-length, filled-room, filled_more, filled-all}
 use Rattle.remapping_lines.specs.Lines.{lines_from}
 use Rattle.remapping_lines.specs.Splitting.{lines_end}
 use Rattle.remapping_lines.specs.Testing.{line_bytes}
-use Rattle.remapping_lines.specs.Writing.{AllPass, list_bytes, piece_bytes, accepted-pass, list_all, turn-bytes, turn-pass, no_bytes}
+use Rattle.remapping_lines.specs.Writing.{list_bytes, piece_bytes, accepted-pass, list_all, turn-bytes, turn-pass, no_bytes}
 use Rattle.remapping_lines.proofs.write.write_lines.Goals as goal
 
 pub loop-at-init : goal.loop-at-init

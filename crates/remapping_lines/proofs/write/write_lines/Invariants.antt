@@ -1,16 +1,10 @@
 -- `write_lines` meets its contract: the lines passed stand at the start. Assumes nothing.
-use Rattle.std.proofs.Common.{rules}
-use native.Mathlib.Omega.{arith}
-use Prim.Native.Nat.{◌+◌, ◌-◌, ◌≤◌}
-use mathlib.Core.Path.{sym}
-use lib.ListN.{length, take, drop}
-use lib.Seq.{length-take-le}
-use Rattle.names.specs.Bytes.{rest-is}
-use Rattle.encoder.specs.Parts.{Filled, lent_length, filled-start, filled-length, filled-room, filled_more, filled-all}
+use Prim.Native.Nat.{◌-◌, ◌≤◌}
+use lib.ListN.{length, drop}
+use Rattle.encoder.specs.Parts.{Filled}
 use Rattle.remapping_lines.specs.Lines.{lines_from}
-use Rattle.remapping_lines.specs.Splitting.{lines_end}
 use Rattle.remapping_lines.specs.Testing.{line_bytes}
-use Rattle.remapping_lines.specs.Writing.{AllPass, list_bytes, piece_bytes, accepted-pass, list_all, turn-bytes, turn-pass, no_bytes}
+use Rattle.remapping_lines.specs.Writing.{AllPass, list_bytes}
 use Rattle.remapping_lines.proofs.write.write_lines.Given as goal
 
 abbrev pub invariant-loop-at : goal.invariant-loop-at

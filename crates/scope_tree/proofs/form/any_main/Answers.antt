@@ -1,6 +1,5 @@
 use native.Mathlib.Omega.{arith}
-use Prim.Native.Nat.{◌-◌}
-use Rattle.scope_tree.specs.FormLaws.{From_element, from_start, from-turn, from-stop, from_end}
+use Rattle.scope_tree.specs.FormLaws.{from_start, from-turn, from-stop, from_end}
 use Rattle.scope_tree.proofs.form.any_main.Goals as goal
 
 pub loop-i-init : goal.loop-i-init

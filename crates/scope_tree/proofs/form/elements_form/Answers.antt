@@ -1,6 +1,5 @@
 use native.Mathlib.Omega.{arith}
-use Prim.Native.Nat.{◌-◌}
-use Rattle.scope_tree.specs.FormLaws.{At_element, element-start, element-turn, element-stop, element-stop_2, element-end}
+use Rattle.scope_tree.specs.FormLaws.{element-start, element-turn, element-stop, element-stop_2, element-end}
 use Rattle.scope_tree.proofs.form.elements_form.Goals as goal
 
 pub loop-i-init : goal.loop-i-init

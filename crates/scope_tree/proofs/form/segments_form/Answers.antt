@@ -1,6 +1,5 @@
 use native.Mathlib.Omega.{arith}
-use Prim.Native.Nat.{◌-◌}
-use Rattle.scope_tree.specs.FormLaws.{At_name, name-start, name-turn, name-stop, name-end}
+use Rattle.scope_tree.specs.FormLaws.{name-start, name-turn, name-stop, name-end}
 use Rattle.scope_tree.proofs.form.segments_form.Goals as goal
 
 pub loop-i-init : goal.loop-i-init

@@ -1,6 +1,5 @@
-use native.Mathlib.Omega.{arith}
 use Prim.Native.Nat.{◌-◌}
-use Rattle.scope_tree.specs.FormLaws.{At_name, name-start, name-turn, name-stop, name-end}
+use Rattle.scope_tree.specs.FormLaws.{At_name}
 use Rattle.scope_tree.proofs.form.segments_form.Given as goal
 
 abbrev pub invariant-loop-i : goal.invariant-loop-i

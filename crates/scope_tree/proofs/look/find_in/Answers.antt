@@ -1,7 +1,5 @@
 use native.Mathlib.Omega.{arith}
-use Prim.Native.Nat.{◌-◌}
-use Rattle.scope_tree.specs.Index.{Seeking, seeking_start, seeking_none, seeking_found, seeking_on, seeking_end}
-use Rattle.scope_tree.specs.Trees.{part, index_of}
+use Rattle.scope_tree.specs.Index.{seeking_start, seeking_none, seeking_found, seeking_on, seeking_end}
 use Rattle.scope_tree.proofs.look.find_in.Goals as goal
 
 pub loop-depth-init : goal.loop-depth-init

@@ -1,7 +1,5 @@
 use native.Mathlib.Omega.{arith}
-use Prim.Native.Nat.{◌-◌}
-use Rattle.scope_tree.specs.Index.{Reaching, reaching_start, reaching_free, reaching_on, reaching_end}
-use Rattle.scope_tree.specs.Trees.{index_of}
+use Rattle.scope_tree.specs.Index.{reaching_start, reaching_free, reaching_on, reaching_end}
 use Rattle.scope_tree.proofs.look.free_slot.Goals as goal
 
 pub loop-depth-init : goal.loop-depth-init

@@ -1,6 +1,5 @@
-use native.Mathlib.Omega.{arith}
 use Prim.Native.Nat.{◌-◌}
-use Rattle.scope_tree.specs.Index.{Reaching, reaching_start, reaching_free, reaching_on, reaching_end}
+use Rattle.scope_tree.specs.Index.{Reaching}
 use Rattle.scope_tree.specs.Trees.{index_of}
 use Rattle.scope_tree.proofs.look.free_slot.Given as goal
 

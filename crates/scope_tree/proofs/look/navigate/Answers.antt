@@ -1,8 +1,6 @@
 use native.Mathlib.Omega.{arith}
-use Prim.Native.Nat.{◌-◌}
-use Rattle.scope_tree.specs.Trees.{part, index_of, doors_of}
 use mathlib.Core.Path.{sym, ◌∙◌}
-use Rattle.scope_tree.specs.Nav.{Walking, walking_start, walking_missing, walking_private, walking_turn, walking_end}
+use Rattle.scope_tree.specs.Nav.{walking_start, walking_missing, walking_private, walking_turn, walking_end}
 use Rattle.scope_tree.specs.Index.{spot_found}
 use Rattle.scope_tree.proofs.look.navigate.Goals as goal
 
