@@ -188,8 +188,7 @@ fn replayed(s: &[u8], out: &mut [u32]) -> Replay
 
 // Replays the calls by value: for each its answer, code times 65,536 plus value, in `out`, as far as there is place. Gives how many
 // there were. Ruled out: an answer of a tree that a refused call changed; a count that leaves the last call out.
-#[unsafe(no_mangle)]
-pub extern "C" fn scopes_replay(s: &[u8], out: &mut [u32]) -> usize
+pub fn scopes_replay(s: &[u8], out: &mut [u32]) -> usize
     ensures { Walked s.now out.old result out.new }
 {
     let r = replayed(s, out);
@@ -323,8 +322,7 @@ fn call_in(
 
 // As `scopes_replay`, over arrays that are lent from call to call: no record is copied. Ruled out: an answer that a refused call's
 // leavings changed; a count that leaves the last call out.
-#[unsafe(no_mangle)]
-pub extern "C" fn scopes_walk(s: &[u8], out: &mut [u32]) -> usize
+pub fn scopes_walk(s: &[u8], out: &mut [u32]) -> usize
     ensures { Walked s.now out.old result out.new }
 {
     let mut opened = [0u16; OPENED];
@@ -366,8 +364,7 @@ pub extern "C" fn scopes_walk(s: &[u8], out: &mut [u32]) -> usize
 }
 
 // The tree that the calls leave, as `put_rows` writes it. Ruled out: an entry of a refused call.
-#[unsafe(no_mangle)]
-pub extern "C" fn scopes_rows(s: &[u8], out: &mut [u64]) -> usize
+pub fn scopes_rows(s: &[u8], out: &mut [u64]) -> usize
     ensures { Listed (left_tree s.now).entries out.old result out.new }
 {
     let mut none = [0u32; 1];

@@ -32,16 +32,14 @@ fn bit(b: bool) -> u8
 
 // 1 where the path f lies at or below the path p, else 0. Ruled out: 1 for `/r/payroll` below `/r/pay`; 0 for a path below
 // itself.
-#[unsafe(no_mangle)]
-pub extern "C" fn steps_starts_with(f: &[u8], p: &[u8]) -> u8
+pub fn steps_starts_with(f: &[u8], p: &[u8]) -> u8
     ensures { result ≡ bit_of (starts_with f.now p.now) }
 {
     bit(names::starts_with(f, p))
 }
 
 // 1 where the bytes are a reserved word, else 0. Ruled out: 1 for `pu`; 0 for `simc`.
-#[unsafe(no_mangle)]
-pub extern "C" fn steps_is_keyword(s: &[u8]) -> u8
+pub fn steps_is_keyword(s: &[u8]) -> u8
     ensures { result ≡ bit_of (is_keyword s.now) }
 {
     bit(names::is_keyword(s))
@@ -101,8 +99,7 @@ pub fn tell_ids(out: &mut [usize], at: usize, l: &[u16], n: usize)
 // Steps 1 to 5 and the image: a number from 1 to 15, with its place in out[0]; or 0 with the report's length in out[0], the number
 // of units in out[1], the image's length in out[2], the units' files' indices from ASSEMBLED_FILES on and the linked order from
 // ASSEMBLED_IDS on. Ruled out: an image with a report; a byte of the image buffer changed where there is no image.
-#[unsafe(no_mangle)]
-pub extern "C" fn steps_assemble(
+pub fn steps_assemble(
     s: &[u8],
     report: &mut [u8],
     image: &mut [u8],
@@ -129,8 +126,7 @@ pub extern "C" fn steps_assemble(
 // The graph of a bundle: a number from 1 to 13, with its place in out[0]; or 0 with the number of units in out[0], their files'
 // indices from GRAPH_FILES on, where their lists start among the ids from GRAPH_STARTS on, how long they are from GRAPH_LENGTHS on, and
 // the ids from GRAPH_IDS on. Ruled out: a list with an id twice; a unit that nothing reached imports.
-#[unsafe(no_mangle)]
-pub extern "C" fn steps_discover(s: &[u8], out: &mut [usize]) -> u8
+pub fn steps_discover(s: &[u8], out: &mut [usize]) -> u8
     ensures value { result ≡ number_of (verdict s.now) }
     ensures graph_told { GraphTold s.now out.old out.new }
 {
