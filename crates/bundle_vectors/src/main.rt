@@ -3,32 +3,32 @@
 #![tactic(auto)]
 
 use bundle::Checked;
+use std::io;
+use std::io::{BufWriter, Write};
 
-fn tell(s: &[u8]) {
+fn tell<W: Write>(out: &mut W, s: &[u8]) -> io::Result<()> {
     let told = reader::check(s);
     match told {
-        Checked::Ok => {
-            io::write_all(1, b"ok\n");
-        }
-        Checked::Refused(n, p) => {
-            lines::tell_refusal(n, p);
-        }
+        Checked::Ok => out.write_all(b"ok\n"),
+        Checked::Refused(n, p) => lines::tell_refusal(out, n, p),
     }
 }
 
-fn replay(s: &[u8]) {
+fn replay<W: Write>(out: &mut W, s: &[u8]) -> io::Result<()> {
     let mut at = 0;
     while at < s.len() {
         let f = lines::frame_at(s, at);
         if f.whole {
-            tell(lines::part(s, f.at, f.end));
+            tell(out, lines::part(s, f.at, f.end))?;
         }
         at = f.end;
     }
+    Ok(())
 }
 
-fn main() {
-    let mut buffer = io::large_buffer();
-    let n = io::read_full(0, &mut buffer);
-    replay(&buffer[..n]);
+fn main(rt: HostRuntime) -> io::Result<()> {
+    let input = lines::input(&rt)?;
+    let mut out = BufWriter::new(rt.alloc(), io::writer(&rt))?;
+    replay(&mut out, &input)?;
+    out.flush()
 }

@@ -5,7 +5,8 @@
 ghost use Rattle.std.specs.Prelude.{◌≤◌, ◌<◌, length};
 
 use graph::{Graph, IDS, UNITS};
-use libc::{STDIN_FILENO, STDOUT_FILENO};
+use std::io;
+use std::io::{BufWriter, Write};
 
 fn wide(x: u16) -> u64 {
     x as u64
@@ -126,24 +127,19 @@ fn is_none(s: &[u8]) -> bool {
 }
 
 // Writes the ids of an answer.
-fn tell_ids(ids: [u16; UNITS], count: usize) {
-    let mut i = 0;
-    while i < UNITS {
-        if i < count {
-            io::write_all(STDOUT_FILENO, b" ");
-            io::print_decimal(STDOUT_FILENO, wide(ids[i]));
-        }
-        i += 1;
+fn tell_ids<W: Write>(out: &mut W, ids: [u16; UNITS], count: usize) -> io::Result<()> {
+    for id in ids.iter().take(count) {
+        write!(out, " {}", wide(*id))?;
     }
-    io::write_all(STDOUT_FILENO, b"\n");
+    out.write_all(b"\n")
 }
 
 // Answers one line.
-fn line(s: &[u8]) {
+fn line<W: Write>(out: &mut W, s: &[u8]) -> io::Result<()> {
     let e = lines::end_of(s, 0, 32);
     let lists = lines::part(s, 0, e);
     if s.len() <= e {
-        return;
+        return Ok(());
     }
     let ids = lines::part(s, e + 1, s.len());
     let none = [0u16; UNITS];
@@ -166,28 +162,29 @@ fn line(s: &[u8]) {
     let told = r.ids;
     let count = r.count;
     if number == 0 {
-        io::write_all(STDOUT_FILENO, b"ok");
+        out.write_all(b"ok")?;
     } else {
-        io::write_all(STDOUT_FILENO, b"no ");
-        io::print_decimal(STDOUT_FILENO, number as u64);
+        write!(out, "no {number}")?;
     }
-    tell_ids(told, count);
+    tell_ids(out, told, count)
 }
 
-fn answer_all(s: &[u8]) {
+fn answer_all<W: Write>(out: &mut W, s: &[u8]) -> io::Result<()> {
     let mut at = 0;
     while at < s.len() {
         let e = lines::end_of(s, at, 10);
-        line(lines::part(s, at, e));
+        line(out, lines::part(s, at, e))?;
         if s.len() <= e {
-            return;
+            return Ok(());
         }
         at = e + 1;
     }
+    Ok(())
 }
 
-fn main() {
-    let mut input = io::large_buffer();
-    let n = io::read_full(STDIN_FILENO, &mut input);
-    answer_all(&input[..n]);
+fn main(rt: HostRuntime) -> io::Result<()> {
+    let input = lines::input(&rt)?;
+    let mut out = BufWriter::new(rt.alloc(), io::writer(&rt))?;
+    answer_all(&mut out, &input)?;
+    out.flush()
 }

@@ -1,5 +1,9 @@
 // Lines and words of a text, parts led by their length, and what is written of a refusal and of a report, for the programs that
 // replay stored answers.
+//
+// These programs have one shape. `main` reads standard input to its end (`input`), and puts a buffer in front of standard output
+// that it flushes at the end. What writes an answer takes any writer, `out`, first. A read or a write that fails ends the program
+// with that error.
 #![tactic(auto)]
 
 mod report;
@@ -7,9 +11,18 @@ mod report;
 ghost use Rattle.std.specs.Prelude.{◌+◌, ◌<◌, ◌≤◌, ◌^◌, length};
 
 pub use report::{is_ring, tell_faults, tell_hex, tell_refusal, tell_ring};
+use std::io;
+use std::io::Read;
 
 // The number of a report that has a ring.
 pub const RING: u8 = 26;
+
+// All of standard input.
+pub fn input(rt: &(impl Input + AllocGlobal)) -> io::Result<Vec<u8>> {
+    let mut bytes = Vec::new(rt.alloc());
+    rt.reader().read_to_end(&mut bytes)?;
+    Ok(bytes)
+}
 
 // Where the first byte `stop` from `at` on is, or the end.
 pub fn end_of(s: &[u8], at: usize, stop: u8) -> usize

@@ -1,5 +1,7 @@
 // What the programs write of a refusal, of a report and of bytes.
 use crate::{RING, hex_digit, wide};
+use std::io;
+use std::io::Write;
 
 // The byte at `at`; 0 where there is none.
 fn byte(s: &[u8], at: usize) -> u8 {
@@ -9,24 +11,22 @@ fn byte(s: &[u8], at: usize) -> u8 {
     0
 }
 
-pub fn tell_refusal(n: u8, p: usize) {
-    io::write_all(1, b"no ");
-    io::print_decimal(1, n as u64);
-    io::write_all(1, b" ");
-    io::print_decimal(1, p as u64);
-    io::write_all(1, b"\n");
+pub fn tell_refusal<W: Write>(out: &mut W, n: u8, p: usize) -> io::Result<()> {
+    writeln!(out, "no {n} {p}")
 }
 
 // A report of faults.
-pub fn tell_faults(report: &[u8]) {
+pub fn tell_faults<W: Write>(out: &mut W, report: &[u8]) -> io::Result<()> {
     let mut at = 0;
     while at < report.len() {
         tell_refusal(
+            out,
             byte(report, at),
             wide(byte(report, at + 1)) * 256 + wide(byte(report, at + 2)),
-        );
+        )?;
         at += 3;
     }
+    Ok(())
 }
 
 pub fn is_ring(report: &[u8]) -> bool {
@@ -34,27 +34,23 @@ pub fn is_ring(report: &[u8]) -> bool {
 }
 
 // The ids of a ring, in its record.
-pub fn tell_ring(report: &[u8]) {
-    io::write_all(1, b"ring");
-    let mut at = 4;
-    while at < report.len() {
-        io::write_all(1, b" ");
-        io::print_decimal(1, wide(byte(report, at)) as u64);
-        at += 1;
+pub fn tell_ring<W: Write>(out: &mut W, report: &[u8]) -> io::Result<()> {
+    out.write_all(b"ring")?;
+    for id in report.iter().skip(4) {
+        write!(out, " {id}")?;
     }
-    io::write_all(1, b"\n");
+    out.write_all(b"\n")
 }
 
-fn tell_byte(b: u8) {
+fn tell_byte<W: Write>(out: &mut W, b: u8) -> io::Result<()> {
     let pair = [hex_digit(b / 16), hex_digit(b % 16)];
-    io::write_all(1, &pair);
+    out.write_all(&pair)
 }
 
 // Bytes in hexadecimal.
-pub fn tell_hex(s: &[u8]) {
-    let mut at = 0;
-    while at < s.len() {
-        tell_byte(s[at]);
-        at += 1;
+pub fn tell_hex<W: Write>(out: &mut W, s: &[u8]) -> io::Result<()> {
+    for b in s {
+        tell_byte(out, *b)?;
     }
+    Ok(())
 }

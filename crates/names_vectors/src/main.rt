@@ -5,7 +5,8 @@
 
 ghost use Rattle.std.specs.Prelude.{◌≤◌, ◌<◌};
 
-use libc::{STDIN_FILENO, STDOUT_FILENO};
+use std::io;
+use std::io::{BufWriter, Write};
 
 fn wide(x: u8) -> u64 {
     x as u64
@@ -37,31 +38,28 @@ fn read_operand(s: &[u8], at: usize, out: &mut [u8; 512]) -> Operand
     Operand { len: n, next: e }
 }
 
-fn tell(truth: bool) {
+fn tell<W: Write>(out: &mut W, truth: bool) -> io::Result<()> {
     if truth {
-        io::write_all(STDOUT_FILENO, b"1\n");
+        out.write_all(b"1\n")
     } else {
-        io::write_all(STDOUT_FILENO, b"0\n");
+        out.write_all(b"0\n")
     }
 }
 
-fn tell_hex(s: &[u8]) {
-    let mut i = 0;
-    while i < s.len() {
-        io::print_hex(STDOUT_FILENO, wide(s[i]), 2);
-        i += 1;
+fn tell_hex<W: Write>(out: &mut W, s: &[u8]) -> io::Result<()> {
+    for b in s {
+        write!(out, "{b:02x}")?;
     }
-    io::write_all(STDOUT_FILENO, b"\n");
+    out.write_all(b"\n")
 }
 
 // The parent's bytes; `-` of `/`.
-fn tell_parent(s: &[u8]) {
+fn tell_parent<W: Write>(out: &mut W, s: &[u8]) -> io::Result<()> {
     let n = names::parent_len(s);
     if s.len() <= n {
-        io::write_all(STDOUT_FILENO, b"-\n");
-        return;
+        return out.write_all(b"-\n");
     }
-    tell_hex(&s[..n]);
+    tell_hex(out, &s[..n])
 }
 
 // The number that a word spells in decimal, and 0 where it is too large.
@@ -81,51 +79,53 @@ fn number(s: &[u8]) -> u64 {
     v
 }
 
-fn tell_unit(id: u64) {
+fn tell_unit<W: Write>(out: &mut W, id: u64) -> io::Result<()> {
     let u = names::unit_name(id);
     let n = u.len;
     let bytes = u.bytes;
-    io::write_all(STDOUT_FILENO, &bytes[..n]);
-    io::write_all(STDOUT_FILENO, b"\n");
+    out.write_all(&bytes[..n])?;
+    out.write_all(b"\n")
 }
 
 // Answers the questions with one operand.
-fn ask(word: &[u8], a: &[u8]) {
+fn ask<W: Write>(out: &mut W, word: &[u8], a: &[u8]) -> io::Result<()> {
     if names::same_bytes(word, b"keyword") {
-        tell(names::is_keyword(a));
+        tell(out, names::is_keyword(a))?;
     }
     if names::same_bytes(word, b"identifier") {
-        tell(names::is_identifier(a));
+        tell(out, names::is_identifier(a))?;
     }
     if names::same_bytes(word, b"path") {
-        tell(names::is_path(a));
+        tell(out, names::is_path(a))?;
     }
     if names::same_bytes(word, b"parent") {
-        tell_parent(a);
+        tell_parent(out, a)?;
     }
+    Ok(())
 }
 
 // Answers the questions with two operands, or three.
-fn compare(word: &[u8], a: &[u8], b: &[u8], c: &[u8]) {
+fn compare<W: Write>(out: &mut W, word: &[u8], a: &[u8], b: &[u8], c: &[u8]) -> io::Result<()> {
     if names::same_bytes(word, b"prefix") {
-        tell(names::starts_with(a, b));
+        tell(out, names::starts_with(a, b))?;
     }
     if names::same_bytes(word, b"in") {
-        tell(names::is_directly_in(a, b));
+        tell(out, names::is_directly_in(a, b))?;
     }
     if names::same_bytes(word, b"child") {
-        tell(names::is_child(a, b, c));
+        tell(out, names::is_child(a, b, c))?;
     }
     if names::same_bytes(word, b"simf") {
-        tell(names::is_child_file(a, b, c));
+        tell(out, names::is_child_file(a, b, c))?;
     }
     if names::same_bytes(word, b"same") {
-        tell(names::same_name(names::name_of(a), names::name_of(b)));
+        tell(out, names::same_name(names::name_of(a), names::name_of(b)))?;
     }
+    Ok(())
 }
 
 // Answers the line at `at`, which ends at `end`.
-fn line(s: &[u8], at: usize, end: usize) {
+fn line<W: Write>(out: &mut W, s: &[u8], at: usize, end: usize) -> io::Result<()> {
     let text = lines::part(s, at, end);
     let e = lines::end_of(text, 0, 32);
     let word = lines::part(text, 0, e);
@@ -133,38 +133,40 @@ fn line(s: &[u8], at: usize, end: usize) {
     let mut second = [0u8; 512];
     let mut third = [0u8; 512];
     if text.len() <= e {
-        return;
+        return Ok(());
     }
     if names::same_bytes(word, b"unit") {
-        tell_unit(number(lines::part(text, e + 1, text.len())));
-        return;
+        return tell_unit(out, number(lines::part(text, e + 1, text.len())));
     }
     let a = read_operand(text, e + 1, &mut first);
     let b = read_operand(text, a.next, &mut second);
     let c = read_operand(text, b.next, &mut third);
-    ask(word, head(&first, a.len));
+    ask(out, word, head(&first, a.len))?;
     compare(
+        out,
         word,
         head(&first, a.len),
         head(&second, b.len),
         head(&third, c.len),
-    );
+    )
 }
 
-fn answer_all(s: &[u8]) {
+fn answer_all<W: Write>(out: &mut W, s: &[u8]) -> io::Result<()> {
     let mut at = 0;
     while at < s.len() {
         let e = lines::end_of(s, at, 10);
-        line(s, at, e);
+        line(out, s, at, e)?;
         if s.len() <= e {
-            return;
+            return Ok(());
         }
         at = e + 1;
     }
+    Ok(())
 }
 
-fn main() {
-    let mut input = io::large_buffer();
-    let n = io::read_full(STDIN_FILENO, &mut input);
-    answer_all(&input[..n]);
+fn main(rt: HostRuntime) -> io::Result<()> {
+    let input = lines::input(&rt)?;
+    let mut out = BufWriter::new(rt.alloc(), io::writer(&rt))?;
+    answer_all(&mut out, &input)?;
+    out.flush()
 }

@@ -6,6 +6,8 @@
 ghost use Rattle.std.specs.Prelude.{◌≤◌, length};
 
 use remapping_lines::Lines;
+use std::io;
+use std::io::{BufWriter, Write};
 
 const SIZE: usize = 32768;
 
@@ -25,29 +27,23 @@ fn copy(s: &[u8], out: &mut [u8]) -> usize
 }
 
 // Reads the list into the buffer that is lent.
-fn tell(s: &[u8], out: &mut [u8]) {
-    let told = remapping_lines::read_lines(s, out);
+fn tell<W: Write>(out: &mut W, s: &[u8], lent: &mut [u8]) -> io::Result<()> {
+    let told = remapping_lines::read_lines(s, lent);
     match told {
-        Lines::Section(k) => {
-            io::write_all(1, b"ok ");
-            io::print_decimal(1, k as u64);
-            io::write_all(1, b"\n");
-        }
-        Lines::Refused(w, p) => {
-            lines::tell_refusal(w, p);
-        }
+        Lines::Section(k) => writeln!(out, "ok {k}")?,
+        Lines::Refused(w, p) => lines::tell_refusal(out, w, p)?,
     }
-    lines::tell_hex(out);
-    io::write_all(1, b"\n");
+    lines::tell_hex(out, lent)?;
+    out.write_all(b"\n")
 }
 
-fn tell_with(s: &[u8], lent: &[u8]) {
-    let mut out = [0u8; SIZE];
-    let n = copy(lent, &mut out);
-    tell(s, &mut out[..n]);
+fn tell_with<W: Write>(out: &mut W, s: &[u8], lent: &[u8]) -> io::Result<()> {
+    let mut buffer = [0u8; SIZE];
+    let n = copy(lent, &mut buffer);
+    tell(out, s, &mut buffer[..n])
 }
 
-fn replay(s: &[u8]) {
+fn replay<W: Write>(out: &mut W, s: &[u8]) -> io::Result<()> {
     let mut at = 0;
     while at < s.len() {
         let list = lines::frame_at(s, at);
@@ -56,17 +52,20 @@ fn replay(s: &[u8]) {
             let lent = lines::frame_at(s, at);
             if lent.whole {
                 tell_with(
+                    out,
                     lines::part(s, list.at, list.end),
                     lines::part(s, lent.at, lent.end),
-                );
+                )?;
             }
             at = lent.end;
         }
     }
+    Ok(())
 }
 
-fn main() {
-    let mut buffer = io::large_buffer();
-    let n = io::read_full(0, &mut buffer);
-    replay(&buffer[..n]);
+fn main(rt: HostRuntime) -> io::Result<()> {
+    let input = lines::input(&rt)?;
+    let mut out = BufWriter::new(rt.alloc(), io::writer(&rt))?;
+    replay(&mut out, &input)?;
+    out.flush()
 }
