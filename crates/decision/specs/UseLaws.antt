@@ -14,7 +14,7 @@ use Rattle.names.specs.Packed.{packed}
 use Rattle.scope_tree.specs.declared.look.Spot.{Spot}
 use Rattle.scope_tree.specs.declared.look.Spot.TheVariants.{At, Nothing}
 use Rattle.scope_tree.specs.declared.Choice.{Choice}
-use Rattle.scope_tree.specs.Step.{used, head, Elem, got, Tried, done, fail, is_got, number, after, bind, held, import, attempt, judge, element, stage}
+use Rattle.scope_tree.specs.Step.{used, head, Elem, got, Tried, done, fail, is_got, after, bind, held, import, attempt, judge, element, stage}
 use Rattle.scope_tree.specs.Register.{is}
 use Rattle.scope_tree.specs.Flat.{copy, Entry, Flat, Place, inside, look, flat, top}
 use Rattle.scope_tree.specs.Form.{string, local_name, after_element, element_at, elements_from}

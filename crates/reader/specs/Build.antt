@@ -1,5 +1,5 @@
 -- The index is made: one path more. Assumes nothing.
-use Rattle.std.specs.Prelude.{ℕ, suc, ◌+◌, ◌-◌, ◌*◌, ◌%◌, ◌/◌, ◌≤◌, ◌<◌, Bool, cond, List, [], ◌∷◌, ◌++◌, map, eqb, length, get_or, set}
+use Rattle.std.specs.Prelude.{ℕ, suc, ◌+◌, ◌*◌, ◌%◌, ◌/◌, ◌≤◌, ◌<◌, Bool, cond, List, [], ◌∷◌, ◌++◌, map, eqb, length, get_or, set}
 use native.Mathlib.Omega.{arith}
 use Rattle.std.proofs.Common.{add-one, ap, ◌∙◌, append_assoc, append-nil, length-append, length-set, get_or-set_same, get_or-set_other, get_or-append-add}
 use Rattle.std.proofs.Math.Decide.{dec_lt}

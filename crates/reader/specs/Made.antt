@@ -1,5 +1,5 @@
 -- The pass over the listed paths and the remappings is `conflicts`, and leaves the card. Assumes nothing.
-use Prim.Native.Nat.{ℕ, zero, suc, ◌+◌, ◌-◌, ◌≤◌, ◌<◌}
+use Prim.Native.Nat.{ℕ, zero, suc, ◌+◌, ◌≤◌, ◌<◌}
 use Rattle.std.proofs.Math.Nat.{not-suc-le-zero}
 use Rattle.std.proofs.Common.{le_of_suc-le-suc, ◌∙◌, length-set, get_or-set_same, get_or-set_other, get_or-append-add, eq-eqb, eqb-true}
 use native.Mathlib.Omega.{arith}

@@ -27,8 +27,6 @@ use Rattle.resolution.specs.Resolution.{package_roots, get_package_root, check_l
 use Rattle.resolution.specs.Call.{position, answer}
 use Rattle.resolution.specs.Theorems.{rooted, none-rooted, position-is, position-small}
 use Rattle.resolution.specs.Indices.{lists_in, path_in, mapped, IsFolder, resolved_at, Listed, no_remapping}
-use Rattle.resolution.specs.declared.Choice.TheVariants as choice
-use Rattle.resolution.specs.declared.Lookup.TheVariants as lookup
 use Rattle.resolution.specs.declared.Resolution.TheVariants.{File, Folder}
 
 -- PREFIXES

@@ -1,5 +1,5 @@
 -- A use: its entries are decided, then committed. Assumes nothing.
-use Rattle.std.specs.Prelude.{ℕ, ◌+◌, ◌-◌, ◌≤◌, ◌≡◌, refl, Bool, List, get_or}
+use Rattle.std.specs.Prelude.{ℕ, ◌+◌, ◌≤◌, ◌≡◌, refl, Bool, List, get_or}
 use Rattle.std.proofs.Common.{arith, ap, sym, subst, ◌∙◌}
 use Rattle.scope_tree.specs.declared.Answer.TheVariants.{Done, Refused}
 use Rattle.scope_tree.specs.Staging.{Staged}

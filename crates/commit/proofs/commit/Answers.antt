@@ -1,10 +1,8 @@
 use native.Mathlib.Omega.{arith}
-use Prim.Native.Nat.{ℕ, ◌-◌}
+use Prim.Native.Nat.{ℕ}
 use mathlib.Core.Path.{◌≡◌, ap}
 use Rattle.scope_tree.specs.declared.Entry.{Entry}
-use Rattle.scope_tree.specs.Trees.{packed_in}
-use Rattle.scope_tree.specs.Batches.{staged_of}
-use Rattle.commit.specs.Filled.{Filling, filling_start, filling_turn, filling_end}
+use Rattle.commit.specs.Filled.{filling_start, filling_turn, filling_end}
 use Rattle.commit.proofs.commit.Goals as goal
 
 pub loop-i-init : goal.loop-i-init

@@ -1,10 +1,7 @@
-use native.Mathlib.Omega.{arith}
-use Prim.Native.Nat.{ℕ, ◌-◌}
-use mathlib.Core.Path.{◌≡◌, ap}
-use Rattle.scope_tree.specs.declared.Entry.{Entry}
+use Prim.Native.Nat.{◌-◌}
 use Rattle.scope_tree.specs.Trees.{packed_in}
 use Rattle.scope_tree.specs.Batches.{staged_of}
-use Rattle.commit.specs.Filled.{Filling, filling_start, filling_turn, filling_end}
+use Rattle.commit.specs.Filled.{Filling}
 use Rattle.commit.proofs.commit.Given as goal
 
 abbrev pub invariant-loop-i : goal.invariant-loop-i

@@ -1,7 +1,6 @@
 use Rattle.std.proofs.Common.{rules}
-use Prim.Native.Nat.{◌-◌}
 use native.Mathlib.Omega.{arith}
-use Rattle.rows.specs.TreeRows.{Putting, putting_start, putting_turn, putting_end}
+use Rattle.rows.specs.TreeRows.{putting_start, putting_turn, putting_end}
 use Rattle.rows.proofs.put_all.Goals as goal
 
 pub loop-i-init : goal.loop-i-init

@@ -1,7 +1,5 @@
-use Rattle.std.proofs.Common.{rules}
 use Prim.Native.Nat.{◌-◌}
-use native.Mathlib.Omega.{arith}
-use Rattle.rows.specs.TreeRows.{Putting, putting_start, putting_turn, putting_end}
+use Rattle.rows.specs.TreeRows.{Putting}
 use Rattle.rows.proofs.put_all.Given as goal
 
 abbrev pub invariant-loop-i : goal.invariant-loop-i

@@ -1,7 +1,6 @@
 use native.Mathlib.Omega.{arith}
-use Prim.Native.Nat.{◌-◌}
 use Rattle.scope_tree.specs.Trees.{view, packed_in}
-use Rattle.rows.specs.TreeRows.{row_read, Listing, listing_start, listing_turn, listing_end}
+use Rattle.rows.specs.TreeRows.{row_read, listing_start, listing_turn, listing_end}
 use Rattle.rows.proofs.put_rows.Goals as goal
 
 pub loop-i-init : goal.loop-i-init

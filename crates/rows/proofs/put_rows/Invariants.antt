@@ -1,7 +1,6 @@
-use native.Mathlib.Omega.{arith}
 use Prim.Native.Nat.{◌-◌}
 use Rattle.scope_tree.specs.Trees.{view, packed_in}
-use Rattle.rows.specs.TreeRows.{row_read, Listing, listing_start, listing_turn, listing_end}
+use Rattle.rows.specs.TreeRows.{Listing}
 use Rattle.rows.proofs.put_rows.Given as goal
 
 abbrev pub invariant-loop-i : goal.invariant-loop-i

@@ -1,10 +1,7 @@
 use native.Mathlib.Omega.{arith}
-use Prim.Native.Nat.{◌-◌, ◌≤◌}
-use mathlib.Core.Bool.{false}
 use native.Mathlib.Nat.{lt_of_lt_of_le}
-use mathlib.Core.Path.{◌≡◌, refl, sym, ◌∙◌}
-use Rattle.scope_tree.specs.Staging.{any_to, name_test, any_next}
-use Rattle.scope_tree.specs.Batches.{slot}
+use mathlib.Core.Path.{refl, sym, ◌∙◌}
+use Rattle.scope_tree.specs.Staging.{any_to, any_next}
 use Rattle.scope_tree.specs.BatchLaws.{named-read}
 use Rattle.decision.proofs.stage.first_named.Goals as goal
 

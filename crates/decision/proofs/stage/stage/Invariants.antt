@@ -1,11 +1,7 @@
-use native.Mathlib.Omega.{arith}
-use native.Mathlib.Nat.{le_of_lt}
 use Prim.Native.Nat.{◌-◌}
-use mathlib.Core.Path.{sym, subst}
 use Rattle.scope_tree.specs.Batches.{staged_of}
-use Rattle.scope_tree.specs.BatchLaws.{put_batch}
 use Rattle.scope_tree.specs.Pack.{arrays_in}
-use Rattle.scope_tree.specs.Staging.{Staging, staging_start, staging_turn, staging_stop, staging_end, Fresh, fresh-put, Kinding, kinding_start, kinding_room, kinding_put, kinding_skip, kinding_end, kinding_done}
+use Rattle.scope_tree.specs.Staging.{Staging, Fresh, Kinding}
 use Rattle.decision.proofs.stage.stage.Given as goal
 
 abbrev pub invariant-loop-kind : goal.invariant-loop-kind

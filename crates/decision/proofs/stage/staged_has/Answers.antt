@@ -1,10 +1,7 @@
 use native.Mathlib.Omega.{arith}
-use Prim.Native.Nat.{◌-◌, ◌≤◌}
 use native.Mathlib.Nat.{lt_of_lt_of_le}
-use mathlib.Core.Bool.{false}
 use mathlib.Core.Path.{◌≡◌, sym, ◌∙◌}
-use Rattle.scope_tree.specs.Staging.{any_to, staged_test, any_next, any_hit, none-held}
-use Rattle.scope_tree.specs.Batches.{slot}
+use Rattle.scope_tree.specs.Staging.{any_next, any_hit, none-held}
 use Rattle.scope_tree.specs.BatchLaws.{held-read}
 use Rattle.decision.proofs.stage.staged_has.Goals as goal
 

@@ -1,11 +1,8 @@
-use native.Mathlib.Omega.{arith}
 use Prim.Native.Nat.{◌-◌, ◌≤◌}
-use native.Mathlib.Nat.{lt_of_lt_of_le}
 use mathlib.Core.Bool.{false}
-use mathlib.Core.Path.{◌≡◌, sym, ◌∙◌}
-use Rattle.scope_tree.specs.Staging.{any_to, staged_test, any_next, any_hit, none-held}
+use mathlib.Core.Path.{◌≡◌}
+use Rattle.scope_tree.specs.Staging.{any_to, staged_test}
 use Rattle.scope_tree.specs.Batches.{slot}
-use Rattle.scope_tree.specs.BatchLaws.{held-read}
 use Rattle.decision.proofs.stage.staged_has.Given as goal
 
 abbrev pub invariant-loop-i : goal.invariant-loop-i

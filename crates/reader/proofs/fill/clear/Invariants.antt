@@ -1,10 +1,8 @@
 -- `clear` meets its contract. Assumes nothing.
-use native.Mathlib.Omega.{arith}
 use Prim.Native.Nat.{ℕ, ◌-◌, ◌<◌, ◌≤◌}
 use mathlib.Core.Path.{◌≡◌}
 use lib.ListN.{length, get_or}
 use Rattle.card.specs.Layout.{card_size}
-use Rattle.reader.specs.Build.{clear-more, clear-end}
 use Rattle.reader.proofs.fill.clear.Given as goal
 
 abbrev pub invariant-loop-i : goal.invariant-loop-i

@@ -1,8 +1,6 @@
 -- `fill` meets its contract. Assumes nothing.
 use native.Mathlib.Omega.{arith}
-use Rattle.reader.specs.Build.{Filling, filling_start, filling_more, filling_low, filling_room, filling_end}
-use Rattle.bundle.specs.Lists.{skip}
-use Prim.Native.Nat.{◌-◌}
+use Rattle.reader.specs.Build.{filling_start, filling_more, filling_low, filling_room, filling_end}
 use Rattle.reader.proofs.fill.fill.Goals as goal
 
 pub bounds-card-772 : goal.bounds-card-772

@@ -1,6 +1,5 @@
 -- `fill` meets its contract. Assumes nothing.
-use native.Mathlib.Omega.{arith}
-use Rattle.reader.specs.Build.{Filling, filling_start, filling_more, filling_low, filling_room, filling_end}
+use Rattle.reader.specs.Build.{Filling}
 use Rattle.bundle.specs.Lists.{skip}
 use Prim.Native.Nat.{◌-◌}
 use Rattle.reader.proofs.fill.fill.Given as goal

@@ -1,7 +1,5 @@
 -- `key_of` meets its contract. Assumes nothing.
 use native.Mathlib.Omega.{arith}
-use Prim.Native.Nat.{◌-◌, ◌<◌, ◌≤◌}
-use lib.ListN.{length}
 use Rattle.reader.proofs.fill.key_of.Goals as goal
 
 pub loop-i-init : goal.loop-i-init

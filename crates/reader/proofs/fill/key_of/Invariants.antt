@@ -1,5 +1,4 @@
 -- `key_of` meets its contract. Assumes nothing.
-use native.Mathlib.Omega.{arith}
 use Prim.Native.Nat.{◌-◌, ◌<◌, ◌≤◌}
 use lib.ListN.{length}
 use Rattle.reader.proofs.fill.key_of.Given as goal

@@ -1,7 +1,6 @@
 -- `map_names` meets its contract. Assumes nothing.
 use native.Mathlib.Omega.{arith}
-use Prim.Native.Nat.{◌-◌}
-use Rattle.reader.specs.Mapping.{Mapping, mapping_start, mapping_index, mapping_end, mapping_low, mapping_room, mapping_refused, mapping_context, mapping_target, mapping_more}
+use Rattle.reader.specs.Mapping.{mapping_start, mapping_index, mapping_end, mapping_low, mapping_room, mapping_refused, mapping_context, mapping_target, mapping_more}
 use Rattle.reader.proofs.maps.map_names.Goals as goal
 
 pub loop-j-init : goal.loop-j-init

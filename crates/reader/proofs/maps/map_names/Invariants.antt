@@ -1,7 +1,6 @@
 -- `map_names` meets its contract. Assumes nothing.
-use native.Mathlib.Omega.{arith}
 use Prim.Native.Nat.{◌-◌}
-use Rattle.reader.specs.Mapping.{Mapping, mapping_start, mapping_index, mapping_end, mapping_low, mapping_room, mapping_refused, mapping_context, mapping_target, mapping_more}
+use Rattle.reader.specs.Mapping.{Mapping}
 use Rattle.reader.proofs.maps.map_names.Given as goal
 
 abbrev pub invariant-loop-j : goal.invariant-loop-j

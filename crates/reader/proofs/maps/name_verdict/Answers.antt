@@ -1,5 +1,4 @@
 -- `card::maps::name_verdict` meets its contract, way by way. Assumes nothing.
-use borrow.Author.Tests.{not-true, not-false}
 use Rattle.bundle.specs.Conflicts.{named, placed_at}
 use Rattle.reader.proofs.maps.name_verdict.Goals as goal
 

@@ -1,9 +1,9 @@
 -- `card::maps::repeats` meets its contract, way by way. Assumes nothing.
 use mathlib.Core.Path.{◌≡◌, sym, ◌∙◌}
 use native.Mathlib.Omega.{arith}
-use Prim.Native.Nat.{◌+◌, ◌-◌, ◌*◌, ◌≤◌}
-use Rattle.bundle.specs.Decode.{each, after_remapping}
-use Rattle.bundle.specs.Conflicts.{any, same_remapping, placed_remapping_at}
+use Prim.Native.Nat.{◌-◌}
+use Rattle.bundle.specs.Decode.{after_remapping}
+use Rattle.bundle.specs.Conflicts.{same_remapping, placed_remapping_at}
 use Rattle.reader.specs.Mapping.{search_more, search_found, search_done}
 use Rattle.reader.proofs.maps.repeats.Goals as goal
 

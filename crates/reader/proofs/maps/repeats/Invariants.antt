@@ -1,10 +1,8 @@
 -- `card::maps::repeats` meets its contract, way by way. Assumes nothing.
-use mathlib.Core.Path.{◌≡◌, sym, ◌∙◌}
-use native.Mathlib.Omega.{arith}
+use mathlib.Core.Path.{◌≡◌}
 use Prim.Native.Nat.{◌+◌, ◌-◌, ◌*◌, ◌≤◌}
 use Rattle.bundle.specs.Decode.{each, after_remapping}
 use Rattle.bundle.specs.Conflicts.{any, same_remapping, placed_remapping_at}
-use Rattle.reader.specs.Mapping.{search_more, search_found, search_done}
 use Rattle.reader.proofs.maps.repeats.Given as goal
 
 abbrev pub invariant-loop-i : goal.invariant-loop-i

@@ -1,5 +1,4 @@
 -- `card::maps::same_remapping` meets its contract, way by way. Assumes nothing.
-use borrow.Author.Tests.{not-true, not-false}
 use Rattle.bundle.specs.Conflicts.{same_remapping, placed_at, placed_remapping_at}
 use Rattle.reader.proofs.maps.same_remapping.Goals as goal
 

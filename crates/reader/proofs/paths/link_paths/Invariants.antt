@@ -1,7 +1,6 @@
 -- `link_paths` meets its contract. Assumes nothing.
-use native.Mathlib.Omega.{arith}
 use Prim.Native.Nat.{◌-◌}
-use Rattle.reader.specs.Linking.{Linking, linking-start, link-end, link-index, link-within, link-first, link-room, link-low, link-node, link-path, link-twice, link-orphan, link-small, link-more}
+use Rattle.reader.specs.Linking.{Linking}
 use Rattle.reader.proofs.paths.link_paths.Given as goal
 
 abbrev pub invariant-loop-i : goal.invariant-loop-i

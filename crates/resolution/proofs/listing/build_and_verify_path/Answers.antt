@@ -11,7 +11,7 @@ use lib.ListN.{length}
 use Rattle.names.specs.Prefix.{child_file}
 use Rattle.resolution.specs.Indices.{path_in, located}
 use Rattle.resolution.specs.CardLaws.{folder-listed}
-use Rattle.resolution.specs.LookupLaws.{Down, segment-named, down_start, down_name, down_enters, down_names, down_ends}
+use Rattle.resolution.specs.LookupLaws.{segment-named, down_start, down_name, down_enters, down_names, down_ends}
 use mathlib.Core.Path.{ap}
 use mathlib.Core.Bool.{not}
 use Rattle.resolution.proofs.listing.build_and_verify_path.Goals as goal

@@ -1,8 +1,6 @@
 -- `remapping_for` meets its contract. Assumes nothing.
 use native.Mathlib.Omega.{arith}
-use Prim.Native.Nat.{◌-◌}
-use Rattle.resolution.specs.Indices.{path_in}
-use Rattle.resolution.specs.TakenLaws.{Taking, taking_none, taking_one, taking_all, can-within}
+use Rattle.resolution.specs.TakenLaws.{taking_none, taking_one, taking_all, can-within}
 use Rattle.resolution.proofs.package.remapping_for.Goals as goal
 
 pub remapping_count-n-requires : goal.remapping_count-n-requires

@@ -1,8 +1,7 @@
 -- `remapping_for` meets its contract. Assumes nothing.
-use native.Mathlib.Omega.{arith}
 use Prim.Native.Nat.{◌-◌}
 use Rattle.resolution.specs.Indices.{path_in}
-use Rattle.resolution.specs.TakenLaws.{Taking, taking_none, taking_one, taking_all, can-within}
+use Rattle.resolution.specs.TakenLaws.{Taking}
 use Rattle.resolution.proofs.package.remapping_for.Given as goal
 
 abbrev pub invariant-loop-j : goal.invariant-loop-j
