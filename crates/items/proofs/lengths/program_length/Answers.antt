@@ -1,5 +1,5 @@
 -- `program_length` meets its contract. Assumes nothing.
-use Prim.Native.Nat.{ℕ, ◌+◌, ◌-◌, ◌≤◌, min}
+use Prim.Native.Nat.{ℕ, ◌+◌, min}
 use native.Mathlib.Omega.{arith}
 use mathlib.Core.Path.{ap, ◌∙◌}
 use lib.ListN.{length, get_or, take, drop}
@@ -7,7 +7,7 @@ use Rattle.bundle.specs.Decode.{decode}
 use Rattle.assembly.specs.Image.{length_cap}
 use Rattle.assembly.specs.Given.{program_bytes, unit_bytes}
 use Rattle.assembly.specs.GivenLaws.{below, order-step, order-end}
-use Rattle.encoder.specs.Parts.{Counted, counted_none, counted-more, counted-all}
+use Rattle.encoder.specs.Parts.{counted_none, counted-more, counted-all}
 use Rattle.items.proofs.lengths.program_length.Goals as goal
 
 pub loop-i-init : goal.loop-i-init

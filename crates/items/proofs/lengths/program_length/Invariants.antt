@@ -1,13 +1,10 @@
 -- `program_length` meets its contract. Assumes nothing.
-use Prim.Native.Nat.{ℕ, ◌+◌, ◌-◌, ◌≤◌, min}
-use native.Mathlib.Omega.{arith}
-use mathlib.Core.Path.{ap, ◌∙◌}
-use lib.ListN.{length, get_or, take, drop}
+use Prim.Native.Nat.{◌-◌, ◌≤◌}
+use lib.ListN.{take, drop}
 use Rattle.bundle.specs.Decode.{decode}
 use Rattle.assembly.specs.Image.{length_cap}
-use Rattle.assembly.specs.Given.{program_bytes, unit_bytes}
-use Rattle.assembly.specs.GivenLaws.{below, order-step, order-end}
-use Rattle.encoder.specs.Parts.{Counted, counted_none, counted-more, counted-all}
+use Rattle.assembly.specs.Given.{program_bytes}
+use Rattle.encoder.specs.Parts.{Counted}
 use Rattle.items.proofs.lengths.program_length.Given as goal
 
 abbrev pub invariant-loop-i : goal.invariant-loop-i

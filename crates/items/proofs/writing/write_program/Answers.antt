@@ -10,7 +10,7 @@ use Rattle.encoder.specs.Started.{started}
 use Rattle.assembly.specs.Image.{length_cap}
 use Rattle.assembly.specs.Given.{program_bytes, unit_bytes}
 use Rattle.assembly.specs.GivenLaws.{below, order-step, order-end}
-use Rattle.encoder.specs.Parts.{Filled, lent_length, filled_none, filled-length, filled-start, filled-room, filled-part, filled_more, filled-all}
+use Rattle.encoder.specs.Parts.{lent_length, filled_none, filled-length, filled-start, filled-room, filled-part, filled_more, filled-all}
 use Rattle.items.proofs.writing.write_program.Goals as goal
 
 pub loop-i-init : goal.loop-i-init
