@@ -1,0 +1,21 @@
+-- `steps_discover` meets its contract. Assumes nothing.
+use mathlib.Core.Path.{sym, ◌∙◌}
+use Rattle.steps_c.specs.Steps.{told-ok, told-refused, refused, accepted, graph-told}
+use Rattle.steps_c.proofs.steps_discover.Goals as goal
+
+-- src/lib.rt:165:21
+pub discover_dependencies-g-requires : goal.discover_dependencies-g-requires
+discover_dependencies-g-requires c = sym c.check-checked.ensures ∙ c.in-Ok.is
+
+-- src/lib.rt:153:1
+pub returns-in-Refused : goal.returns-in-Refused
+returns-in-Refused c =
+    let e = sym c.check-checked.ensures ∙ c.in-Refused.is in
+    record { value = told-refused _ _ _ e; graph_told = refused _ _ e c.tell.ensures }
+
+-- src/lib.rt:153:1
+pub returns-in-Ok : goal.returns-in-Ok
+returns-in-Ok c =
+    let e = sym c.check-checked.ensures ∙ c.in-Ok.is in
+    record { value = told-ok _ e; graph_told = accepted c.discover_dependencies-g.result e c.discover_dependencies-g.ensures
+          (graph-told c.discover_dependencies-g.result c.args.out.now _ _ _ _ _ c.tell-in-Ok.ensures c.tell_places.ensures c.tell_ids.ensures c.tell_ids-in-Ok.ensures c.tell_ids-in-Ok-2.ensures) }
