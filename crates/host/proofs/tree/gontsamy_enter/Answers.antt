@@ -1,0 +1,6 @@
+-- `gontsamy_enter` meets its contract. Assumes nothing.
+use Rattle.host.specs.TreeTold.{tree-told}
+use Rattle.host.proofs.tree.gontsamy_enter.Goals as goal
+
+pub returns : goal.returns
+returns c = tree-told c.call.ensures c.number_of.ensures

@@ -1,0 +1,5 @@
+use Rattle.host.specs.TreeTold.{tree-told}
+use Rattle.host.proofs.tree.gontsamy_exit.Goals as goal
+
+pub returns : goal.returns
+returns c = tree-told c.call.ensures c.number_of.ensures

@@ -1,0 +1,6 @@
+-- `gontsamy_insert_alias` meets its contract. Assumes nothing.
+use Rattle.host.specs.TreeTold.{tree-told}
+use Rattle.host.proofs.tree.gontsamy_insert_alias.Goals as goal
+
+pub returns : goal.returns
+returns c = tree-told c.call.ensures c.number_of.ensures
