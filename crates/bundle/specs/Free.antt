@@ -10,7 +10,7 @@ use Rattle.bundle.specs.Bundle.{Text, Remapping, File, with_slash}
 use Rattle.bundle.specs.Scan.{text}
 use Rattle.bundle.specs.Decode.{each, after, after_remapping, after_file, remapping_at, file_at, decode, folder_count, folder_first, remapping_count, remapping_first, file_count, file_first}
 use Rattle.bundle.specs.Conflicts.{Placed, PlacedRemapping, placed_at, placed_remapping_at, texts, or_else, any, listed, located, same_remapping, remapped, conflicts}
-use Rattle.bundle.specs.Conflicts.{named as nameTold}
+use Rattle.bundle.specs.Conflicts.{named as name_told}
 use Rattle.bundle.specs.ListLaws.{texts-each}
 use Rattle.bundle.specs.Steps.{both}
 use Rattle.bundle.specs.Form.{fresh, usable, alike, usable_all, Unconflicted}
@@ -55,8 +55,8 @@ located-ok F G p = go (member p.string F) (member p.string G)
     go false true = refl
     go false false = refl
 
-named_ok : (p : Placed) → ok (nameTold p) ≡ usable p.string
-unfolding ok nameTold usable
+named_ok : (p : Placed) → ok (name_told p) ≡ usable p.string
+unfolding ok name_told usable
 named_ok p = go (is_crate p.string) (is_identifier p.string && not (is_keyword p.string))
   where
     go : (a b : Bool) → ok (cond a (Refused 11 p.place) (cond b Ok (Refused 12 p.place))) ≡ (not a && b)

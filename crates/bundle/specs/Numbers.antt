@@ -15,9 +15,9 @@ use Rattle.bundle.specs.Bundle.{Text}
 use Rattle.bundle.specs.Limits.{defined, header, folder_width, file_width, most_folders, remapping_limit, most_files, item_limit, most_uses, depth_limit, segment_limit, element_limit, use_kind, module_kind, ignored_kind}
 use Rattle.bundle.specs.Scan.{byte, word, text, version_of, count, past_count, and_then, times, scan_string, scan_formed, scan_path, scan_name, scan_alias, scan_field, scan_count, scan_list, scan_use, scan_length, scan_mark, uses_after, scan_head, scan_body, scan_end, walk_on, walk_then, scan_item_with, siblings, scan_module, scan_item, scan_file, scan_files, scan_header}
 use Rattle.bundle.specs.Conflicts.{Placed, PlacedRemapping, or_else, any, listed, located, same_remapping, remapped, conflicts}
-use Rattle.bundle.specs.Conflicts.{named as nameTold}
+use Rattle.bundle.specs.Conflicts.{named as name_told}
 use Rattle.bundle.specs.Read.{after_walk, files, lists, form, verdict}
-use Rattle.bundle.specs.Read.{after as thenOk}
+use Rattle.bundle.specs.Read.{after as then_ok}
 use Rattle.bundle.specs.Steps.{some_bytes, string-next, length-next, mark-next, head-next}
 use Rattle.bundle.specs.Answers.{cond_elim}
 use Rattle.bundle.specs.declared.Width.{Width}
@@ -96,7 +96,7 @@ walk-right : {end : ℕ} (X : Walk) (f : ℕ → ℕ → ℕ → Walk) → Right
 walk-right (Past a c u) f p q = q a c u p
 walk-right (Fault n m) f p q = p
 
-check_right : (s : List ℕ) (X : Scan) (f : ℕ → Checked) → Right (length s) X → ((a : ℕ) → a ≤ length s → RightForm s (f a)) → RightForm s (thenOk X f)
+check_right : (s : List ℕ) (X : Scan) (f : ℕ → Checked) → Right (length s) X → ((a : ℕ) → a ≤ length s → RightForm s (f a)) → RightForm s (then_ok X f)
 check_right s (Next a) f p q = q a p
 check_right s (Bad n m) f p q = told-form s n m p
 
@@ -243,7 +243,7 @@ module _ (s : List ℕ) where
   files-right zero end at c u h = h
   files-right (suc n) end at c u h = walk-right (scan_file s end at c u) _ (file-right end at c u h) (files-right n end)
 
-  header-right : (f : ℕ → Checked) → ((a : ℕ) → a ≤ length s → RightForm s (f a)) → RightForm s (thenOk (scan_header s) f)
+  header-right : (f : ℕ → Checked) → ((a : ℕ) → a ≤ length s → RightForm s (f a)) → RightForm s (then_ok (scan_header s) f)
   unfolding scan_header
   header-right f q =
       cond_elim P (ltb (length s) header) (λ a. told-form s 1 0 (cut (length s) 0 (omega arith))) (λ a.
@@ -254,7 +254,7 @@ module _ (s : List ℕ) where
       (λ b. record { least = omega arith; most = omega arith; within = omega arith; inside = λ g. omega arith; version = λ e. record { headed = l; undefined = b; first = refl } }))
     where
       P : Scan → Type 0
-      P X = RightForm s (thenOk X f)
+      P X = RightForm s (then_ok X f)
 
   pub form-right : RightForm s (form s)
   unfolding form lists files
@@ -291,8 +291,8 @@ located-right : (F G : List Text) (p : Placed) → Late (located F G p)
 unfolding located
 located-right F G p = pick Late (member p.string F) tt (pick Late (member p.string G) (omega arith) (omega arith))
 
-name-told-right : (p : Placed) → Late (nameTold p)
-unfolding nameTold
+name-told-right : (p : Placed) → Late (name_told p)
+unfolding name_told
 name-told-right p = pick Late (is_crate p.string) (omega arith) (pick Late (is_identifier p.string && not (is_keyword p.string)) tt (omega arith))
 
 remapped-right : (F G : List Text) (seen l : List PlacedRemapping) → Late (remapped F G seen l)
@@ -301,7 +301,7 @@ remapped-right F G seen [] = tt
 remapped-right F G seen (r ∷ l) =
     or_right (located F G r.context) _ (located-right F G r.context)
     (or_right (located F G r.target) _ (located-right F G r.target)
-    (or_right (nameTold r.name) _ (name-told-right r.name)
+    (or_right (name_told r.name) _ (name-told-right r.name)
     (pick Late (any (same_remapping r) seen) (omega arith) (remapped-right F G (seen ++ (r ∷ [])) l))))
 
 pub conflicts-right : (s : List ℕ) → Late (conflicts s)

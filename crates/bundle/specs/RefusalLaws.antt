@@ -20,7 +20,7 @@ use Rattle.bundle.specs.Limits.{header}
 use Rattle.bundle.specs.Scan.{byte, text}
 use Rattle.bundle.specs.Decode.{each, far, after, after_file, after_remapping, decode, file_at, remapping_at, folder_count, folder_first, remapping_count, remapping_first, file_count, file_first}
 use Rattle.bundle.specs.Conflicts.{Placed, PlacedRemapping, placed_at, placed_remapping_at, texts, or_else, any, listed, located, same_remapping, remapped, folders, files, remappings, all_folders}
-use Rattle.bundle.specs.Conflicts.{named as nameTold}
+use Rattle.bundle.specs.Conflicts.{named as name_told}
 use Rattle.bundle.specs.ListLaws.{texts-each, each_at, each-length}
 use Rattle.bundle.specs.Form.{InForm, IsPath, FormedFile, FormedRemapping}
 use Rattle.bundle.specs.Free.{texts-append, paths-each}
@@ -60,13 +60,13 @@ unfoldable pub remap_told : List Text → List Text → List PlacedRemapping →
 remap_told F G seen r =
     or_else (located F G r.context)
     (or_else (located F G r.target)
-    (or_else (nameTold r.name) (cond (any (same_remapping r) seen) (Refused 13 r.context.place) Ok)))
+    (or_else (name_told r.name) (cond (any (same_remapping r) seen) (Refused 13 r.context.place) Ok)))
 
 pub remapped-first : (F G : List Text) (l seen : List PlacedRemapping) → remapped F G seen l ≡ first_told (remap_told F G) seen l
 unfolding remapped first_told remap_told
 remapped-first F G [] seen = refl
 remapped-first F G (r ∷ l) seen =
-    go (located F G r.context) (located F G r.target) (nameTold r.name) (any (same_remapping r) seen) _ _ (remapped-first F G l (seen ++ (r ∷ [])))
+    go (located F G r.context) (located F G r.target) (name_told r.name) (any (same_remapping r) seen) _ _ (remapped-first F G l (seen ++ (r ∷ [])))
   where
     go : (a b c : Checked) (x : Bool) (X Y : Checked) → X ≡ Y
         → or_else a (or_else b (or_else c (cond x (Refused 13 r.context.place) X)))
@@ -197,8 +197,8 @@ odd_all : (t : Text) → OddName t → (is_identifier t && not (is_keyword t)) �
 odd_all t o = not_true (is_identifier t && not (is_keyword t)) (λ e. usual-only t e o)
 
 module _ (p : Placed) where
-  pub name-ok : nameTold p ≡ Ok → (Reserved p.string → ⊥) × (OddName p.string → ⊥)
-  unfolding nameTold
+  pub name-ok : name_told p ≡ Ok → (Reserved p.string → ⊥) × (OddName p.string → ⊥)
+  unfolding name_told
   name-ok h = go (is_crate p.string) refl (is_identifier p.string && not (is_keyword p.string)) refl h
     where
       go : (a : Bool) → is_crate p.string ≡ a → (b : Bool) → (is_identifier p.string && not (is_keyword p.string)) ≡ b
@@ -207,12 +207,12 @@ module _ (p : Placed) where
       go false e false f h = absurd (refused-ok h)
       go false e true f h = ((λ r. false_true (sym e ∙ crate_all p.string r)), usual-only p.string f)
 
-  pub name_in : (Reserved p.string → ⊥) → (OddName p.string → ⊥) → nameTold p ≡ Ok
-  unfolding nameTold
+  pub name_in : (Reserved p.string → ⊥) → (OddName p.string → ⊥) → name_told p ≡ Ok
+  unfolding name_told
   name_in r o = rw (not_crate p.string r, usual-all p.string o)
 
-  pub name-only : {n q : ℕ} → nameTold p ≡ Refused n q → (((n ≡ 11) × Reserved p.string) ⊎ ((n ≡ 12) × ((Reserved p.string → ⊥) × OddName p.string))) × (p.place ≡ q)
-  unfolding nameTold
+  pub name-only : {n q : ℕ} → name_told p ≡ Refused n q → (((n ≡ 11) × Reserved p.string) ⊎ ((n ≡ 12) × ((Reserved p.string → ⊥) × OddName p.string))) × (p.place ≡ q)
+  unfolding name_told
   name-only {n} {q} h = go (is_crate p.string) refl (is_identifier p.string && not (is_keyword p.string)) refl h
     where
       go : (a : Bool) → is_crate p.string ≡ a → (b : Bool) → (is_identifier p.string && not (is_keyword p.string)) ≡ b
@@ -222,12 +222,12 @@ module _ (p : Placed) where
       go false e true f h = absurd (refused-ok (sym h))
       go false e false f h = (inr (sym (refused-number h), ((λ r. false_true (sym e ∙ crate_all p.string r)), odd_only p.string f)), refused-place h)
 
-  pub name_11 : Reserved p.string → nameTold p ≡ Refused 11 p.place
-  unfolding nameTold
+  pub name_11 : Reserved p.string → name_told p ≡ Refused 11 p.place
+  unfolding name_told
   name_11 r = rw (crate_all p.string r)
 
-  pub name_12 : (Reserved p.string → ⊥) → OddName p.string → nameTold p ≡ Refused 12 p.place
-  unfolding nameTold
+  pub name_12 : (Reserved p.string → ⊥) → OddName p.string → name_told p ≡ Refused 12 p.place
+  unfolding name_told
   name_12 r o = rw (not_crate p.string r, odd_all p.string o)
 
 -- 13

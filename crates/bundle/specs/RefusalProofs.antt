@@ -12,7 +12,7 @@ use Rattle.bundle.specs.Limits.{header}
 use Rattle.bundle.specs.Scan.{text}
 use Rattle.bundle.specs.Decode.{decode}
 use Rattle.bundle.specs.Conflicts.{PlacedRemapping, placed_at, texts, or_else, any, listed, located, same_remapping, remapped, conflicts, files, remappings, all_folders}
-use Rattle.bundle.specs.Conflicts.{named as nameTold}
+use Rattle.bundle.specs.Conflicts.{named as name_told}
 use Rattle.bundle.specs.Read.{Bytes, form, verdict}
 use Rattle.bundle.specs.Form.{InForm}
 use Rattle.bundle.specs.SoundBundle.{form-sound}
@@ -136,7 +136,7 @@ module _ (s : List ℕ) (i : ℕ) where
       go false f e = absurd (refused-ok (sym e))
 
   -- the tests of remapping i, one after the other
-  pub test-is : remap_test s i ≡ or_else (located (all_folders s) (texts (files s)) r.context) (or_else (located (all_folders s) (texts (files s)) r.target) (or_else (nameTold r.name) repeats))
+  pub test-is : remap_test s i ≡ or_else (located (all_folders s) (texts (files s)) r.context) (or_else (located (all_folders s) (texts (files s)) r.target) (or_else (name_told r.name) repeats))
   unfolding remap_told repeats
   test-is = refl
 
@@ -144,7 +144,7 @@ module _ (s : List ℕ) (i : ℕ) where
   remap-ok-only h e =
       let a = both_ok (located (all_folders s) (texts (files s)) r.context) _ (sym test-is ∙ e) in
       let b = both_ok (located (all_folders s) (texts (files s)) r.target) _ a.1 in
-      let c = both_ok (nameTold r.name) _ b.1 in
+      let c = both_ok (name_told r.name) _ b.1 in
       let n = name-ok r.name c.0 in
       record { context = located-ok s r.context a.0; target = located-ok s r.target b.0; unreserved = n.0; usual = n.1; new = repeats_ok c.1 h }
 
@@ -158,7 +158,7 @@ module _ (s : List ℕ) (i : ℕ) where
   remap-only : {n p : ℕ} → FirstRemapping s i → remap_test s i ≡ Refused n p → Refusal s n p
   remap-only {n} {p} F e = context (or-told (located (all_folders s) (texts (files s)) r.context) _ (sym test-is ∙ e))
     where
-      name : IsFolder s r.context.string → IsFolder s r.target.string → (nameTold r.name ≡ Refused n p) ⊎ ((nameTold r.name ≡ Ok) × (repeats ≡ Refused n p)) → Refusal s n p
+      name : IsFolder s r.context.string → IsFolder s r.target.string → (name_told r.name ≡ Refused n p) ⊎ ((name_told r.name ≡ Ok) × (repeats ≡ Refused n p)) → Refusal s n p
       name c t (inl e) =
           let k = name-only r.name e in
           subst (λ (x : ℕ). Refusal s n x) k.1
@@ -169,12 +169,12 @@ module _ (s : List ℕ) (i : ℕ) where
           let k = repeats_only e.1 in
           told_as k.1 (same_remapping_case i F c t n'.0 n'.1 k.0)
 
-      target : IsFolder s r.context.string → (located (all_folders s) (texts (files s)) r.target ≡ Refused n p) ⊎ ((located (all_folders s) (texts (files s)) r.target ≡ Ok) × (or_else (nameTold r.name) repeats ≡ Refused n p)) → Refusal s n p
+      target : IsFolder s r.context.string → (located (all_folders s) (texts (files s)) r.target ≡ Refused n p) ⊎ ((located (all_folders s) (texts (files s)) r.target ≡ Ok) × (or_else (name_told r.name) repeats ≡ Refused n p)) → Refusal s n p
       target c (inl e) = let k = located-only s r.target e in subst (λ (x : ℕ). Refusal s n x) k.1 (bad_target i F c k.0)
-      target c (inr e) = name c (located-ok s r.target e.0) (or-told (nameTold r.name) repeats e.1)
+      target c (inr e) = name c (located-ok s r.target e.0) (or-told (name_told r.name) repeats e.1)
 
       context : (located (all_folders s) (texts (files s)) r.context ≡ Refused n p) ⊎ ((located (all_folders s) (texts (files s)) r.context ≡ Ok)
-          × (or_else (located (all_folders s) (texts (files s)) r.target) (or_else (nameTold r.name) repeats) ≡ Refused n p)) → Refusal s n p
+          × (or_else (located (all_folders s) (texts (files s)) r.target) (or_else (name_told r.name) repeats) ≡ Refused n p)) → Refusal s n p
       context (inl e) = let k = located-only s r.context e in subst (λ (x : ℕ). Refusal s n x) k.1 (bad_context i F k.0)
       context (inr e) = target (located-ok s r.context e.0) (or-told (located (all_folders s) (texts (files s)) r.target) _ e.1)
 

@@ -126,11 +126,11 @@ abbrev pub walk_then : Walk → (ℕ → ℕ → ℕ → Walk) → Walk
 walk_then (Past at count uses) f = f at count uses
 walk_then (Fault n p) f = Fault n p
 
--- one item; `inModule` walks a module after its head
+-- one item; `in_module` walks a module after its head
 unfoldable pub scan_item_with : (ℕ → ℕ → ℕ → ℕ → Walk) → List ℕ → ℕ → ℕ → ℕ → ℕ → Walk
-scan_item_with inModule s end at count uses =
+scan_item_with in_module s end at count uses =
     walk_on (scan_head s end at count uses) (λ next.
-    let nested = inModule next at count uses in
+    let nested = in_module next at count uses in
     let other = walk_on (and_then (scan_body s next at) (scan_end next)) (λ past. Past past (count + 1) (uses_after s at uses)) in
     cond (eqb (byte s (at + 2)) module_kind) nested other)
 

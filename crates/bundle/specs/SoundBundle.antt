@@ -22,7 +22,7 @@ use Rattle.bundle.specs.Sound.{Read, CountRead, formed-read, remapping-read, cou
 use Rattle.bundle.specs.SoundItems.{ItemsAre, items-are-read}
 use Rattle.bundle.specs.Read.{form, lists, files, verdict, after_walk}
 use Rattle.bundle.specs.Answers.{refused-ok, both_ok}
-use Rattle.bundle.specs.Read.{after as thenOk}
+use Rattle.bundle.specs.Read.{after as then_ok}
 use Rattle.bundle.specs.declared.Width.{Width}
 use Rattle.bundle.specs.declared.Width.TheVariants.{Byte}
 use Rattle.bundle.specs.declared.Scan.{Scan}
@@ -40,7 +40,7 @@ pub record Went (X : Scan) (f : ℕ → Checked) : Type 0 where
   pub first : X ≡ Next mid
   pub second : f mid ≡ Ok
 
-pub went_on : (X : Scan) {f : ℕ → Checked} → thenOk X f ≡ Ok → Went X f
+pub went_on : (X : Scan) {f : ℕ → Checked} → then_ok X f ≡ Ok → Went X f
 went_on (Next m) h = record { mid = m; first = refl; second = h }
 went_on (Bad k p) h = absurd (refused-ok h)
 

@@ -87,17 +87,17 @@ module _ {most : ℕ} (one : ℕ → ℕ → ℕ → Walk) (end : ℕ) (G : Goes
 
 -- an item's module goes on from the item's head
 abbrev Enters : List ℕ → (ℕ → ℕ → ℕ → ℕ → Walk) → Type 0
-Enters s inModule =
-    (next at c u a c' u' : ℕ) → at + 4 ≤ next → c < item_limit → u ≤ most_uses (version_of s) → inModule next at c u ≡ Past a c' u' → Went (most_uses (version_of s)) (suc at) next a c' u'
+Enters s in_module =
+    (next at c u a c' u' : ℕ) → at + 4 ≤ next → c < item_limit → u ≤ most_uses (version_of s) → in_module next at c u ≡ Past a c' u' → Went (most_uses (version_of s)) (suc at) next a c' u'
 
-item_goes : (s : List ℕ) (inModule : ℕ → ℕ → ℕ → ℕ → Walk) → Enters s inModule → (end : ℕ) → Goes (most_uses (version_of s)) (scan_item_with inModule s end) end
+item_goes : (s : List ℕ) (in_module : ℕ → ℕ → ℕ → ℕ → Walk) → Enters s in_module → (end : ℕ) → Goes (most_uses (version_of s)) (scan_item_with in_module s end) end
 unfolding scan_item_with
-item_goes s inModule E end at c u a c' u' h =
+item_goes s in_module E end at c u a c' u' h =
     let m = walked_on (scan_head s end at c u) h in
     go m.mid (head-next s end at c u m.first) (eqb (byte s (at + 2)) module_kind) refl m.second
   where
     go : (next : ℕ) → Head s end at c u next → (b : Bool) → eqb (byte s (at + 2)) module_kind ≡ b
-        → cond b (inModule next at c u)
+        → cond b (in_module next at c u)
         (walk_on (and_then (scan_body s next at) (scan_end next)) (λ past. Past past (c + 1) (uses_after s at u)))
         ≡ Past a c' u'
         → Went (most_uses (version_of s)) (suc at) end a c' u'

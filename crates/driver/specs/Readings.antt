@@ -20,7 +20,7 @@ use Rattle.resolution.specs.Lists.{Lists}
 use Rattle.resolution.specs.Call.{position}
 use Rattle.driver.specs.declared.Graph.{Graph}
 use Rattle.discovery.specs.Discovery.{Import, Loading, holds, add_once, load, load_all, unreadable}
-use Rattle.discovery.specs.Reached.{Once, more}
+use Rattle.discovery.specs.Reached.{Once}
 use Rattle.discovery.specs.Facts.{get_d_mem, map_snoc, cond_elim, member_true, mem_member, member_false, not-member, mem_snoc, once_snoc, pigeons, id-found}
 use Rattle.discovery.specs.Search.{index_in, index-small}
 use Rattle.driver.specs.Record.{pushed_fault, pushed_unit, pushed_id, pushed_unread, unit_of, read_target, ReadRoom, read_again, read_known, read-new, skip-unread, tell_unread, read_to, ReadsRoom}

@@ -1,7 +1,6 @@
 -- `find_use` meets its contract. Assumes nothing.
-use Prim.Native.Nat.{◌-◌}
 use native.Mathlib.Omega.{arith}
-use Rattle.discovery.specs.Known.{Between, between-all, between-above, between-below, between-one}
+use Rattle.discovery.specs.Known.{between-all, between-above, between-below, between-one}
 use Rattle.discovery.proofs.known.find_use.Goals as goal
 
 pub loop-lo-init : goal.loop-lo-init

@@ -1,8 +1,7 @@
 -- `put_files` meets its contract. Assumes nothing.
 use Prim.Native.Nat.{◌-◌}
-use native.Mathlib.Omega.{arith}
 use Rattle.bundle.specs.Limits.{file_limit}
-use Rattle.discovery.specs.Known.{FilesTo, put-none, put_one, put_all}
+use Rattle.discovery.specs.Known.{FilesTo}
 use Rattle.discovery.proofs.known.put_files.Given as goal
 
 abbrev pub invariant-loop-i : goal.invariant-loop-i

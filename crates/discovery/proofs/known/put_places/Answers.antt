@@ -1,9 +1,9 @@
 -- `put_places` meets its contract. Assumes nothing.
 use native.Mathlib.Omega.{arith}
-use Prim.Native.Nat.{ℕ, ◌+◌, ◌-◌}
+use Prim.Native.Nat.{ℕ, ◌+◌}
 use mathlib.Core.Path.{ap, ◌∙◌}
 use Rattle.card.specs.Layout.{start_at}
-use Rattle.discovery.specs.Places.{StartsTo, starts_none, starts-one, starts-all}
+use Rattle.discovery.specs.Places.{starts_none, starts-one, starts-all}
 use Rattle.discovery.proofs.known.put_places.Goals as goal
 
 pub folder_count-folders-requires : goal.folder_count-folders-requires

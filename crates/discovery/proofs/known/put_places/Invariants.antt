@@ -1,9 +1,6 @@
 -- `put_places` meets its contract. Assumes nothing.
-use native.Mathlib.Omega.{arith}
-use Prim.Native.Nat.{ℕ, ◌+◌, ◌-◌}
-use mathlib.Core.Path.{ap, ◌∙◌}
-use Rattle.card.specs.Layout.{start_at}
-use Rattle.discovery.specs.Places.{StartsTo, starts_none, starts-one, starts-all}
+use Prim.Native.Nat.{◌-◌}
+use Rattle.discovery.specs.Places.{StartsTo}
 use Rattle.discovery.proofs.known.put_places.Given as goal
 
 abbrev pub invariant-loop-i : goal.invariant-loop-i

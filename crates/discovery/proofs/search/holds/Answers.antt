@@ -1,9 +1,6 @@
 -- `holds` meets its contract. Assumes nothing.
-use Prim.Native.Nat.{◌≤◌, ◌-◌}
 use native.Mathlib.Omega.{arith}
-use mathlib.Core.Path.{◌≡◌, refl, sym, ◌∙◌}
-use lib.ListN.{take, drop}
-use Rattle.discovery.specs.Discovery.{holds}
+use mathlib.Core.Path.{refl, sym, ◌∙◌}
 use Rattle.discovery.specs.Search.{holds-next, holds-here, holds-done}
 use Rattle.discovery.proofs.search.holds.Goals as goal
 

@@ -1,10 +1,8 @@
 -- `holds` meets its contract. Assumes nothing.
 use Prim.Native.Nat.{◌≤◌, ◌-◌}
-use native.Mathlib.Omega.{arith}
-use mathlib.Core.Path.{◌≡◌, refl, sym, ◌∙◌}
+use mathlib.Core.Path.{◌≡◌}
 use lib.ListN.{take, drop}
 use Rattle.discovery.specs.Discovery.{holds}
-use Rattle.discovery.specs.Search.{holds-next, holds-here, holds-done}
 use Rattle.discovery.proofs.search.holds.Given as goal
 
 abbrev pub invariant-loop-i : goal.invariant-loop-i

@@ -1,7 +1,6 @@
 -- `index_of` meets its contract. Assumes nothing.
-use Prim.Native.Nat.{◌≤◌, ◌-◌}
 use native.Mathlib.Omega.{arith}
-use Rattle.discovery.specs.Search.{Passed, index-start, index-next, index-here, index-done}
+use Rattle.discovery.specs.Search.{index-start, index-next, index-here, index-done}
 use Rattle.discovery.proofs.search.index_of.Goals as goal
 
 pub loop-i-init : goal.loop-i-init

@@ -1,8 +1,7 @@
 -- `resolve_imports` meets its contract. Assumes nothing.
 use Rattle.std.proofs.Common.{rules}
 use native.Mathlib.Omega.{arith}
-use Prim.Native.Nat.{◌≤◌, ◌-◌}
-use mathlib.Core.Logic.{⊎_elim}
+use Prim.Native.Nat.{◌≤◌}
 use mathlib.Core.Path.{◌≡◌, sym, subst, ◌∙◌}
 use lib.ListN.{length, get_or}
 use Rattle.bundle.specs.Limits.{use_limit}
@@ -12,7 +11,7 @@ use Rattle.resolution.specs.CardLaws.{total}
 use Rattle.discovery.specs.Walk.{use_at, use_list, use_list-length, use_at-place, mark-at-place, named-at-place}
 use Rattle.discovery.specs.Facts.{get_d_any}
 use Rattle.discovery.specs.Known.{no_use, Fills, fills_none, fills_one}
-use Rattle.driver.specs.Record.{LookedTo, no_imports, lookup-is, looked-none, looked-one, looked-done, folder-small}
+use Rattle.driver.specs.Record.{no_imports, lookup-is, looked-none, looked-one, looked-done, folder-small}
 use Rattle.driver.proofs.lookups.resolve_imports.Goals as goal
 use Rattle.driver.proofs.lookups.resolve_imports.Goals.{in-Refused, in-File, in-Folder}
 
@@ -43,9 +42,10 @@ loop-i-preserved c =
       looked-one (lists_in c.args.s.now) (path_in c.args.s.now c.args.f) (use_list c.args.s.now c.args.u) (no_imports c.args.g) c.loop-i.w c.match-found.w c.loop-i.i (use_at c.args.s.now (get_or c.args.u.marks c.loop-i.i 0)) c.loop-i.invariant.1 (omega (arith, c.loop-i-test.true))
           (use_at-place c.args.s.now c.args.u fits c.loop-i.i c.loop-i-test.true)
           (elim c.match-found.branch [
-            in-Refused w ↦ lookup-is (lists_in c.args.s.now) (path_in c.args.s.now c.args.f) (use_at c.args.s.now (get_or c.args.u.marks c.loop-i.i 0)) c.loop-i.w c.match-found.w _ _ c.resolve_single-found.ensures w.in-Refused.is w.w-is
+            | in-Refused w ↦ lookup-is (lists_in c.args.s.now) (path_in c.args.s.now c.args.f) (use_at c.args.s.now (get_or c.args.u.marks c.loop-i.i 0)) c.loop-i.w c.match-found.w _ _ c.resolve_single-found.ensures w.in-Refused.is w.w-is
             | in-File w ↦ lookup-is (lists_in c.args.s.now) (path_in c.args.s.now c.args.f) (use_at c.args.s.now (get_or c.args.u.marks c.loop-i.i 0)) c.loop-i.w c.match-found.w _ _ c.resolve_single-found.ensures w.in-File.is w.w-is
-            | in-Folder w ↦ lookup-is (lists_in c.args.s.now) (path_in c.args.s.now c.args.f) (use_at c.args.s.now (get_or c.args.u.marks c.loop-i.i 0)) c.loop-i.w c.match-found.w _ _ c.resolve_single-found.ensures w.in-Folder.is w.w-is ]),
+            | in-Folder w ↦ lookup-is (lists_in c.args.s.now) (path_in c.args.s.now c.args.f) (use_at c.args.s.now (get_or c.args.u.marks c.loop-i.i 0)) c.loop-i.w c.match-found.w _ _ c.resolve_single-found.ensures w.in-Folder.is w.w-is
+          ]),
       fills_one _ _ _ _ _ _ _ _ (use_at c.args.s.now (get_or c.args.u.marks c.loop-i.i 0)) _ (omega (arith, c.loop-i-test.true)) c.loop-i.invariant.2
           (get_d_any (use_list c.args.s.now c.args.u) c.loop-i.i no_use (use_at c.args.s.now (get_or c.args.u.marks c.loop-i.i 0)) (omega (arith, c.loop-i-test.true)) ∙ use_at-place c.args.s.now c.args.u fits c.loop-i.i c.loop-i-test.true)
           c.keep.ensures c.resolve_single-found.ensures,

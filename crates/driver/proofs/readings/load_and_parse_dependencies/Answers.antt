@@ -1,7 +1,5 @@
 -- `load_and_parse_dependencies` meets its contract. Assumes nothing.
-use Prim.Native.Nat.{◌≤◌, ◌-◌}
 use native.Mathlib.Omega.{arith}
-use mathlib.Core.Logic.{⊎_elim}
 use mathlib.Core.Path.{◌≡◌, refl, sym, ap, subst, ◌∙◌}
 use Rattle.std.proofs.Common.{rules}
 use lib.ListN.{get_or}
@@ -139,11 +137,15 @@ overflow_add-w-in-Told-2 c =
     search rules
 
 pub loop-i-preserved : goal.loop-i-preserved
-loop-i-preserved c = (omega (arith, c.loop-i-test.true), elim c.match-read.branch [
-        in-Nothing w ↦ w.w-is ∙ read_next c.args.g c.loop-i.w c.args.g.count c.loop-i.i _ _ c.loop-i.invariant.1 (sym c.load-read.ensures ∙ w.in-Nothing.is) refl
-      | in-Listed w ↦ w.w-is ∙ read_next c.args.g c.loop-i.w c.args.g.count c.loop-i.i _ _ c.loop-i.invariant.1 (sym c.load-read.ensures ∙ w.in-Listed.is) refl
-      | in-New w ↦ w.w-is ∙ read_next c.args.g c.loop-i.w c.args.g.count c.loop-i.i _ _ c.loop-i.invariant.1 (sym c.load-read.ensures ∙ w.in-New.is) refl
-      | in-Told w ↦ w.w-is ∙ read_next c.args.g c.loop-i.w c.args.g.count c.loop-i.i _ _ c.loop-i.invariant.1 (sym c.load-read.ensures ∙ w.in-Told.is) refl ])
+loop-i-preserved c = (
+  omega (arith, c.loop-i-test.true),
+  elim c.match-read.branch [
+    | in-Nothing w ↦ w.w-is ∙ read_next c.args.g c.loop-i.w c.args.g.count c.loop-i.i _ _ c.loop-i.invariant.1 (sym c.load-read.ensures ∙ w.in-Nothing.is) refl
+    | in-Listed w ↦ w.w-is ∙ read_next c.args.g c.loop-i.w c.args.g.count c.loop-i.i _ _ c.loop-i.invariant.1 (sym c.load-read.ensures ∙ w.in-Listed.is) refl
+    | in-New w ↦ w.w-is ∙ read_next c.args.g c.loop-i.w c.args.g.count c.loop-i.i _ _ c.loop-i.invariant.1 (sym c.load-read.ensures ∙ w.in-New.is) refl
+    | in-Told w ↦ w.w-is ∙ read_next c.args.g c.loop-i.w c.args.g.count c.loop-i.i _ _ c.loop-i.invariant.1 (sym c.load-read.ensures ∙ w.in-Told.is) refl
+  ],
+)
 
 pub overflow_sub-w : goal.overflow_sub-w
 overflow_sub-w c =

@@ -1,14 +1,12 @@
 -- `discover` meets its contract. Assumes nothing.
 use Rattle.std.proofs.Common.{rules}
 use native.Mathlib.Omega.{arith}
-use Prim.Native.Nat.{◌-◌}
 use mathlib.Core.Path.{◌≡◌}
-use Rattle.bundle.specs.Limits.{file_limit}
 use Rattle.bundle.specs.Decode.{decode}
-use Rattle.driver.specs.Complete.{Table, table-first, all_known}
-use Rattle.discovery.specs.Places.{Places, starts-places}
+use Rattle.driver.specs.Complete.{table-first, all_known}
+use Rattle.discovery.specs.Places.{starts-places}
 use Rattle.discovery.specs.Room.{bytes-roomy}
-use Rattle.driver.specs.Turns.{Invariant, unit_small, entry-only, all_units, sources-count}
+use Rattle.driver.specs.Turns.{unit_small, entry-only, all_units, sources-count}
 use Rattle.driver.proofs.turns.discover.Goals as goal
 
 pub put_places-requires : goal.put_places-requires

@@ -1,7 +1,6 @@
 -- `order::report::write_faults` meets its contract. Assumes nothing.
 use Prim.Native.Nat.{◌-◌}
-use native.Mathlib.Omega.{arith}
-use Rattle.order.specs.Writing.{FaultsTo, too_long, faults-length, faults-none, faults-one, faults-all}
+use Rattle.order.specs.Writing.{FaultsTo}
 use Rattle.order.proofs.report.write_faults.Given as goal
 
 abbrev pub invariant-loop-i : goal.invariant-loop-i

@@ -1,11 +1,11 @@
 -- `order::report::write_ring` meets its contract. Assumes nothing.
-use Prim.Native.Nat.{ℕ, ◌+◌, ◌-◌, ◌<◌, ◌≤◌}
+use Prim.Native.Nat.{ℕ, ◌+◌, ◌<◌, ◌≤◌}
 use mathlib.Core.Path.{◌≡◌, ap, ◌∙◌}
 use mathlib.Core.List.{List}
 use lib.ListN.{length, set}
 use Rattle.order.specs.Report.{ring_met, low}
 use native.Mathlib.Omega.{arith}
-use Rattle.order.specs.Writing.{RingTo, written3, too_long, ring-length, head-length, ring-none, ring-one, ring-all}
+use Rattle.order.specs.Writing.{written3, too_long, ring-length, head-length, ring-none, ring-one, ring-all}
 use Rattle.order.proofs.report.write_ring.Goals as goal
 
 pub returns-then-length-out : goal.returns-then-length-out

@@ -1,6 +1,5 @@
 -- `order::steps::linked` meets its contract. Assumes nothing.
-use Prim.Native.Nat.{◌-◌}
-use Rattle.order.specs.Steps.{CopiedTo, copied_none, copied-one, copied_all}
+use Rattle.order.specs.Steps.{copied_none, copied-one, copied_all}
 use Rattle.order.proofs.steps.linked.Goals as goal
 
 pub loop-i-init : goal.loop-i-init

@@ -1,6 +1,6 @@
 -- `order::steps::linked` meets its contract. Assumes nothing.
 use Prim.Native.Nat.{◌-◌}
-use Rattle.order.specs.Steps.{CopiedTo, copied_none, copied-one, copied_all}
+use Rattle.order.specs.Steps.{CopiedTo}
 use Rattle.order.proofs.steps.linked.Given as goal
 
 abbrev pub invariant-loop-i : goal.invariant-loop-i
