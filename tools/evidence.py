@@ -74,7 +74,7 @@ def main(argv):
         sources = glob.glob(os.path.join(root, "crates", crate, "src", "*.rt"))
         if not any(re.search(r"\bfn %s\b" % function, open(p, encoding="utf-8").read()) for p in sources):
             wrong.append("no function %s::%s" % (crate, function))
-    listed = {line.split(":")[0].strip() for line in open(os.path.join(root, "crates.txt"), encoding="utf-8") if ":" in line}
+    listed = {line.split(":")[0].split()[0] for line in open(os.path.join(root, "crates.txt"), encoding="utf-8") if ":" in line and line[0] != "#"}
     for crates in COMMAND.findall(text):
         wrong.extend("no crate %s in a command" % c for c in crates.split() if c not in listed)
     wrong.extend(sections(root, text))
