@@ -3,46 +3,46 @@
 // the number of units, and the image in hexadecimal.
 #![tactic(auto)]
 
+use std::io;
+use std::io::{BufWriter, Write};
+
 const SIZE: usize = 65538;
 
-fn tell(s: &[u8]) {
+fn tell<W: Write>(out: &mut W, s: &[u8]) -> io::Result<()> {
     let mut report = [0u8; 4096];
     let mut image = [0u8; SIZE];
     let a = program::assemble(s, &mut report, &mut image);
     if a.number != 0 {
-        lines::tell_refusal(a.number, a.place);
-        return;
+        return lines::tell_refusal(out, a.number, a.place);
     }
     let told = lines::part(&report, 0, a.report);
     if told.len() > 0 {
         if lines::is_ring(told) {
-            lines::tell_refusal(lines::RING, 0);
-            lines::tell_ring(told);
-            return;
+            lines::tell_refusal(out, lines::RING, 0)?;
+            return lines::tell_ring(out, told);
         }
-        lines::tell_faults(told);
-        return;
+        return lines::tell_faults(out, told);
     }
-    io::write_all(1, b"ok ");
-    io::print_decimal(1, a.units as u64);
-    io::write_all(1, b"\nimage ");
-    lines::tell_hex(lines::part(&image, 0, a.image));
-    io::write_all(1, b"\n");
+    write!(out, "ok {}\nimage ", a.units)?;
+    lines::tell_hex(out, lines::part(&image, 0, a.image))?;
+    out.write_all(b"\n")
 }
 
-fn replay(s: &[u8]) {
+fn replay<W: Write>(out: &mut W, s: &[u8]) -> io::Result<()> {
     let mut at = 0;
     while at < s.len() {
         let f = lines::frame_at(s, at);
         if f.whole {
-            tell(lines::part(s, f.at, f.end));
+            tell(out, lines::part(s, f.at, f.end))?;
         }
         at = f.end;
     }
+    Ok(())
 }
 
-fn main() {
-    let mut buffer = io::large_buffer();
-    let n = io::read_full(0, &mut buffer);
-    replay(&buffer[..n]);
+fn main(rt: HostRuntime) -> io::Result<()> {
+    let input = lines::input(&rt)?;
+    let mut out = BufWriter::new(rt.alloc(), io::writer(&rt))?;
+    replay(&mut out, &input)?;
+    out.flush()
 }

@@ -1,14 +1,15 @@
 // Lines and words of a text, parts led by their length, and what is written of a refusal and of a report, for the programs that
-// replay stored answers.
+// replay stored answers; and the reading into a buffer of those that read a bundle at a time.
 //
-// These programs have one shape. `main` reads standard input to its end (`input`), and puts a buffer in front of standard output
-// that it flushes at the end. What writes an answer takes any writer, `out`, first. A read or a write that fails ends the program
-// with that error.
+// These programs have one shape. `main` reads standard input to its end (`input`), or as much as there is room for (`fill`), and
+// puts a buffer in front of standard output that it flushes at the end. What writes an answer takes any writer, `out`, first. A
+// read or a write that fails ends the program with that error.
 #![tactic(auto)]
 
 mod report;
 
-ghost use Rattle.std.specs.Prelude.{◌+◌, ◌<◌, ◌≤◌, ◌^◌, length};
+ghost use Rattle.std.specs.Prelude.{◌+◌, ◌<◌, ◌≤◌, ◌^◌, length, take, IfOk};
+ghost use Rattle.std.specs.Io.KnownBytes.{Consumes, IsAtEnd};
 
 pub use report::{is_ring, tell_faults, tell_hex, tell_refusal, tell_ring};
 use std::io;
@@ -22,6 +23,23 @@ pub fn input(rt: &(impl Input + AllocGlobal)) -> io::Result<Vec<u8>> {
     let mut bytes = Vec::new(rt.alloc());
     rt.reader().read_to_end(&mut bytes)?;
     Ok(bytes)
+}
+
+// Reads until the buffer is full or the input ends: how many bytes that are. They stand at the buffer's start.
+pub fn fill<R: Read>(reader: &mut R, buffer: &mut [u8]) -> io::Result<usize>
+    ensures within { IfOk result (λ n. n ≤ length buffer.new) }
+    ensures bytes { IfOk result (λ n. Consumes (R.remaining reader.old) (R.remaining reader.new) (take n buffer.new)) }
+    ensures end { IfOk result (λ n. n < length buffer.new → IsAtEnd (R.remaining reader.new)) }
+{
+    let mut n = 0;
+    while n < buffer.len() {
+        let more = reader.read(&mut buffer[n..])?;
+        if more == 0 {
+            return Ok(n);
+        }
+        n += more;
+    }
+    Ok(n)
 }
 
 // Where the first byte `stop` from `at` on is, or the end.

@@ -8,6 +8,8 @@ ghost use Rattle.bundle.specs.declared.Checked.TheVariants.{Ok};
 
 use bundle::Checked;
 use discovery::UNITS;
+use std::io;
+use std::io::{BufWriter, Write};
 
 fn id(x: u16) -> u64 {
     x as u64
@@ -18,99 +20,94 @@ fn count(x: u16) -> usize {
 }
 
 // So many ids from `first` on.
-fn tell_ids(ids: &[u16], first: u16, n: usize) {
+fn tell_ids<W: Write>(out: &mut W, ids: &[u16], first: u16, n: usize) -> io::Result<()> {
     let mut at = first as usize;
     let mut i = 0;
     while i < n {
         if at >= ids.len() {
-            return;
+            return Ok(());
         }
-        io::write_all(1, b" ");
-        io::print_decimal(1, id(ids[at]));
+        write!(out, " {}", id(ids[at]))?;
         at += 1;
         i += 1;
     }
+    Ok(())
 }
 
-fn tell_path(s: &[u8], index: usize) {
+fn tell_path<W: Write>(out: &mut W, s: &[u8], index: usize) -> io::Result<()> {
     if index < bundle::limits::FILES {
         let at = bundle::file_at(s, index);
-        io::write_all(1, bundle::file_path(s, at));
+        out.write_all(bundle::file_path(s, at))?;
     }
+    Ok(())
 }
 
 // The units of a checked bundle, by id, with their lists.
-fn tell_units(s: &[u8])
+fn tell_units<W: Write>(out: &mut W, s: &[u8]) -> io::Result<()>
     requires { verdict s.now ≡ Ok }
 {
     let g = driver::discover_dependencies(s);
     let mut u = 0;
     while u < UNITS {
         if u < g.units {
-            io::write_all(1, b"unit ");
-            io::print_decimal(1, u as u64);
-            io::write_all(1, b" ");
-            tell_path(s, g.files[u]);
+            write!(out, "unit {u} ")?;
+            tell_path(out, s, g.files[u])?;
             let first = g.start[u];
             let n = g.len[u];
-            tell_ids(&g.ids, first, count(n));
-            io::write_all(1, b"\n");
+            tell_ids(out, &g.ids, first, count(n))?;
+            out.write_all(b"\n")?;
         }
         u += 1;
     }
+    Ok(())
 }
 
 // What the order of a checked bundle's units is.
-fn tell_order(s: &[u8], report: &mut [u8; 1024])
+fn tell_order<W: Write>(out: &mut W, s: &[u8], report: &mut [u8; 1024]) -> io::Result<()>
     requires { verdict s.now ≡ Ok }
 {
     let a = order::order(s, report);
     if a.number != 0 {
-        lines::tell_refusal(a.number, a.place);
-        return;
+        return lines::tell_refusal(out, a.number, a.place);
     }
     let told = lines::part(report, 0, a.report);
     if told.len() == 0 {
-        tell_units(s);
-        io::write_all(1, b"order");
-        tell_ids(&a.ids, 0, a.units);
-        io::write_all(1, b"\n");
-        return;
+        tell_units(out, s)?;
+        out.write_all(b"order")?;
+        tell_ids(out, &a.ids, 0, a.units)?;
+        return out.write_all(b"\n");
     }
     if lines::is_ring(told) {
-        tell_units(s);
-        lines::tell_ring(told);
-        return;
+        tell_units(out, s)?;
+        return lines::tell_ring(out, told);
     }
-    lines::tell_faults(told);
+    lines::tell_faults(out, told)
 }
 
-fn tell(s: &[u8]) {
+fn tell<W: Write>(out: &mut W, s: &[u8]) -> io::Result<()> {
     let mut report = [0u8; 1024];
     let checked = reader::check(s);
     match checked {
-        Checked::Ok => {
-            tell_order(s, &mut report);
-        }
-        Checked::Refused(n, p) => {
-            lines::tell_refusal(n, p);
-        }
+        Checked::Ok => tell_order(out, s, &mut report),
+        Checked::Refused(n, p) => lines::tell_refusal(out, n, p),
     }
 }
 
-fn replay(s: &[u8]) {
+fn replay<W: Write>(out: &mut W, s: &[u8]) -> io::Result<()> {
     let mut at = 0;
     while at < s.len() {
         let f = lines::frame_at(s, at);
         if f.whole {
-            tell(lines::part(s, f.at, f.end));
+            tell(out, lines::part(s, f.at, f.end))?;
         }
         at = f.end;
     }
+    Ok(())
 }
 
-fn main() {
-    let mut buffer = io::large_buffer();
-    let n = io::read_full(0, &mut buffer);
-    replay(&buffer[..n]);
+fn main(rt: HostRuntime) -> io::Result<()> {
+    let input = lines::input(&rt)?;
+    let mut out = BufWriter::new(rt.alloc(), io::writer(&rt))?;
+    replay(&mut out, &input)?;
+    out.flush()
 }

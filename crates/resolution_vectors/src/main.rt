@@ -5,8 +5,9 @@
 ghost use Rattle.std.specs.Prelude.{◌≤◌, ◌<◌};
 
 use bundle::Checked;
-use libc::{STDIN_FILENO, STDOUT_FILENO};
 use resolution::Resolution;
+use std::io;
+use std::io::{BufWriter, Write};
 
 fn wide(x: u8) -> usize
     ensures { result < 256 }
@@ -86,7 +87,7 @@ fn encode(path: &[u8], out: &mut [u8; 4096]) -> usize {
 }
 
 // The path of the file, or the folder, of this index.
-fn tell_path(s: &[u8], files: bool, index: usize) {
+fn tell_path<W: Write>(out: &mut W, s: &[u8], files: bool, index: usize) -> io::Result<()> {
     let listed = if files {
         bundle::files(s)
     } else {
@@ -96,7 +97,7 @@ fn tell_path(s: &[u8], files: bool, index: usize) {
     let mut i = 0;
     while i < index {
         if a > 1_000_000_000 {
-            return;
+            return Ok(());
         }
         if files {
             a = bundle::next_file(s, a);
@@ -106,86 +107,78 @@ fn tell_path(s: &[u8], files: bool, index: usize) {
         i += 1;
     }
     if a > 1_000_000_000 {
-        return;
+        return Ok(());
     }
-    io::write_all(STDOUT_FILENO, b"ok ");
-    io::write_all(STDOUT_FILENO, bundle::string(s, a));
+    out.write_all(b"ok ")?;
+    out.write_all(bundle::string(s, a))
 }
 
 // The last `left` segments.
-fn tell_segments(u: &[u8], left: usize) {
+fn tell_segments<W: Write>(out: &mut W, u: &[u8], left: usize) -> io::Result<()> {
     if left == 0 {
-        io::write_all(STDOUT_FILENO, b" -\n");
-        return;
+        return out.write_all(b" -\n");
     }
     if u.len() == 0 {
-        return;
+        return Ok(());
     }
     let n = wide(u[0]);
     let mut a = 1;
     let mut i = 0;
-    io::write_all(STDOUT_FILENO, b" ");
+    out.write_all(b" ")?;
     while i < n {
         if a > 1_000_000_000 {
-            return;
+            return Ok(());
         }
         if n - i <= left {
-            io::write_all(STDOUT_FILENO, bundle::string(u, a));
+            out.write_all(bundle::string(u, a))?;
             if n - i > 1 {
-                io::write_all(STDOUT_FILENO, b"::");
+                out.write_all(b"::")?;
             }
         }
         a = bundle::next_string(u, a);
         i += 1;
     }
-    io::write_all(STDOUT_FILENO, b"\n");
+    out.write_all(b"\n")
 }
 
-fn tell(s: &[u8], importer: &[u8], u: &[u8]) {
+fn tell<W: Write>(out: &mut W, s: &[u8], importer: &[u8], u: &[u8]) -> io::Result<()> {
     let told = resolution::resolve(s, importer, u);
     match told {
-        Resolution::Refused(n, p) => {
-            lines::tell_refusal(n, p);
-        }
+        Resolution::Refused(n, p) => lines::tell_refusal(out, n, p),
         Resolution::File(i, left) => {
-            tell_path(s, true, i);
-            tell_segments(u, left);
+            tell_path(out, s, true, i)?;
+            tell_segments(out, u, left)
         }
         Resolution::Folder(i, left) => {
-            tell_path(s, false, i);
-            tell_segments(u, left);
+            tell_path(out, s, false, i)?;
+            tell_segments(out, u, left)
         }
     }
 }
 
-fn tell_bundle(s: &[u8]) {
+fn tell_bundle<W: Write>(out: &mut W, s: &[u8]) -> io::Result<()> {
     let told = reader::check(s);
     match told {
-        Checked::Ok => {
-            io::write_all(STDOUT_FILENO, b"ok\n");
-        }
-        Checked::Refused(n, p) => {
-            lines::tell_refusal(n, p);
-        }
+        Checked::Ok => out.write_all(b"ok\n"),
+        Checked::Refused(n, p) => lines::tell_refusal(out, n, p),
     }
 }
 
-fn ask(s: &[u8], text: &[u8]) {
+fn ask<W: Write>(out: &mut W, s: &[u8], text: &[u8]) -> io::Result<()> {
     let mut u = [0u8; 4096];
     let e = lines::end_of(text, 0, 32);
     if text.len() <= e {
-        return;
+        return Ok(());
     }
     let n = encode(lines::part(text, e + 1, text.len()), &mut u);
     let importer = lines::part(text, 0, e);
     if names::same_bytes(importer, b"-") {
-        tell(s, b"", use_head(&u, n));
-        return;
+        return tell(out, s, b"", use_head(&u, n));
     }
-    tell(s, importer, use_head(&u, n));
+    tell(out, s, importer, use_head(&u, n))
 }
 
-fn answer_all(s: &[u8]) {
+fn answer_all<W: Write>(out: &mut W, s: &[u8]) -> io::Result<()> {
     let mut lent = [0u8; 32768];
     let mut len = 0;
     let mut at = 0;
@@ -196,20 +189,22 @@ fn answer_all(s: &[u8]) {
         let word = lines::part(line, 0, w);
         if names::same_bytes(word, b"bundle") {
             len = unhex(rest_of(line, w), &mut lent);
-            tell_bundle(bundle_head(&lent, len));
+            tell_bundle(out, bundle_head(&lent, len))?;
         }
         if names::same_bytes(word, b"use") {
-            ask(bundle_head(&lent, len), rest_of(line, w));
+            ask(out, bundle_head(&lent, len), rest_of(line, w))?;
         }
         if s.len() <= e {
-            return;
+            return Ok(());
         }
         at = e + 1;
     }
+    Ok(())
 }
 
-fn main() {
-    let mut input = io::large_buffer();
-    let n = io::read_full(STDIN_FILENO, &mut input);
-    answer_all(&input[..n]);
+fn main(rt: HostRuntime) -> io::Result<()> {
+    let input = lines::input(&rt)?;
+    let mut out = BufWriter::new(rt.alloc(), io::writer(&rt))?;
+    answer_all(&mut out, &input)?;
+    out.flush()
 }

@@ -1,43 +1,42 @@
 // Replays the call lists of standard input (the form is that of scopes_c) and writes each answer on a line.
 #![tactic(auto)]
 
-use libc::{STDIN_FILENO, STDOUT_FILENO};
+use std::io;
+use std::io::{BufWriter, Write};
 
-fn told(code: u8, value: u16) {
+fn told<W: Write>(out: &mut W, code: u8, value: u16) -> io::Result<()> {
     if code == 0 {
-        io::write_all(STDOUT_FILENO, b"ok\n");
-        return;
+        return out.write_all(b"ok\n");
     }
     if code == 1 {
-        io::write_all(STDOUT_FILENO, b"ok ");
-    } else {
-        io::write_all(STDOUT_FILENO, b"no ");
+        return writeln!(out, "ok {value}");
     }
-    io::print_decimal(STDOUT_FILENO, value as u64);
-    io::write_all(STDOUT_FILENO, b"\n");
+    writeln!(out, "no {value}")
 }
 
-fn replay(s: &[u8]) {
+fn replay<W: Write>(out: &mut W, s: &[u8]) -> io::Result<()> {
     let mut t = scopes::empty();
     let mut p: usize = 0;
     let mut i: usize = 0;
     while i < 65536 {
         if s.len() <= p {
-            return;
+            return Ok(());
         }
         if 16777216 <= p {
-            return;
+            return Ok(());
         }
         let r = scopes_c::call_at(t, s, p);
-        told(r.code, r.value);
+        told(out, r.code, r.value)?;
         t = r.tree;
         p = r.next;
         i += 1;
     }
+    Ok(())
 }
 
-fn main() {
-    let mut buf = io::large_buffer();
-    let n = io::read_full(STDIN_FILENO, &mut buf);
-    replay(&buf[..n]);
+fn main(rt: HostRuntime) -> io::Result<()> {
+    let input = lines::input(&rt)?;
+    let mut out = BufWriter::new(rt.alloc(), io::writer(&rt))?;
+    replay(&mut out, &input)?;
+    out.flush()
 }
