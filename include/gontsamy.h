@@ -1,4 +1,4 @@
-/* The proved linker of SimplicityHL module files, as a library (crates/host; `rt staticlib host` writes target/staticlib/libhost.a).
+/* The proved linker of SimplicityHL module files, as a library (crates/host; `tools/archives.sh host` writes target/staticlib/libhost.a).
  *
  * No call allocates, keeps a pointer, or is unsafe because of what was called before. Any bytes may be handed over. A pointer may be null
  * where its length is 0; one without a length points at an array of the length that is named here. Buffers must not overlap. The archive

@@ -7,7 +7,7 @@ fn link_archive(name: &str) {
     let archive = folder.join(format!("lib{name}.a"));
     println!("cargo:rerun-if-changed={}", archive.display());
     if !archive.exists() {
-        println!("cargo:warning=the proved library is missing: run `rt staticlib {name}` in the repository's root");
+        println!("cargo:warning=the proved library is missing: run `tools/archives.sh {name}`");
         std::process::exit(1);
     }
     println!("cargo:rustc-link-search=native={}", folder.display());

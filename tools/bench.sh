@@ -3,7 +3,7 @@
 # each case. Words after it are names of cases. RUN=stacks gives the stack instead.
 set -eu
 cd "$(dirname "$0")/.."
-rt staticlib host >&2
+tools/archives.sh host >&2
 cd tools
 cargo build --release --offline --package bench >&2
 exec target/release/bench "${RUN:-table}" "$@"

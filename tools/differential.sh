@@ -10,9 +10,9 @@ count=${1:-20000}
 seed=${2:-1}
 for archive in host steps_c scopes_c; do
   echo "proving and building lib$archive.a"
-  rt staticlib "$archive" >/dev/null
+  tools/archives.sh "$archive" >/dev/null
 done
-rt check link_vectors >/dev/null
+(cd crates/link_vectors && rt run </dev/null >/dev/null)
 (cd tools && cargo build --release --offline --quiet --workspace)
 bin=tools/target/release
 work=$(mktemp -d)
@@ -32,7 +32,7 @@ trap 'rm -rf "$work"' EXIT
 whole() {
   "$bin/generate" "$@" >"$work/bundles"
   "$bin/oracle" --stream --image <"$work/bundles" >"$work/expected"
-  target/bin/link_vectors <"$work/bundles" >"$work/found"
+  crates/link_vectors/out/link_vectors <"$work/bundles" >"$work/found"
   cmp "$work/expected" "$work/found"
 }
 whole "$seed" "$count"

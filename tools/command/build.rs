@@ -2,7 +2,7 @@
 
 fn main() {
     let program =
-        std::path::Path::new(env!("CARGO_MANIFEST_DIR")).join("../../target/bin/link_vectors");
+        std::path::Path::new(env!("CARGO_MANIFEST_DIR")).join("../../crates/link_vectors/out/link_vectors");
     println!("cargo:rerun-if-changed={}", program.display());
     println!("cargo:rustc-check-cfg=cfg(printing)");
     if program.exists() {

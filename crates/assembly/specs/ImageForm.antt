@@ -1,6 +1,6 @@
 -- The form of a program: names and paths are in form, there are no ignored items, and modules are at most 9 deep; so an image that
 -- is not too long is bytes. Assumes nothing.
-use Rattle.std.specs.Prelude.{ℕ, suc, ◌+◌, ◌-◌, ◌≤◌, ◌<◌, Bool, true, false, ◌||◌, ◌≡◌, refl, eqb, length, get_or}
+use Rattle.std.specs.Prelude.{ℕ, suc, ◌-◌, ◌≤◌, ◌<◌, Bool, true, false, ◌||◌, ◌≡◌, refl, eqb, length, get_or}
 use native.Mathlib.Omega.{arith}
 use Rattle.std.proofs.Common.{sym, length-append, eqb-true}
 use Rattle.std.proofs.Math.Path.{subst}

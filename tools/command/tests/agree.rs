@@ -89,7 +89,7 @@ fn printed(bundles: &[Vec<u8>]) -> String {
         stream.extend(bundle);
     }
     std::fs::write(&path, &stream).unwrap();
-    let program = concat!(env!("CARGO_MANIFEST_DIR"), "/../../target/bin/link_vectors");
+    let program = concat!(env!("CARGO_MANIFEST_DIR"), "/../../crates/link_vectors/out/link_vectors");
     let output = Command::new(program)
         .stdin(Stdio::from(std::fs::File::open(&path).unwrap()))
         .output()
@@ -101,7 +101,7 @@ fn printed(bundles: &[Vec<u8>]) -> String {
 #[test]
 #[cfg_attr(
     not(printing),
-    ignore = "target/bin/link_vectors is not there: `rt check link_vectors` makes it"
+    ignore = "crates/link_vectors/out/link_vectors is not there: `rt run` in crates/link_vectors makes it"
 )]
 fn printing_program() {
     let mut buffers = Box::new(Buffers::new());

@@ -12,7 +12,7 @@ use Rattle.assembly.specs.Given.{PlacedUnit}
 use Rattle.assembly.specs.GivenLaws.{placed-unit, below}
 use Rattle.assembly.specs.Assemble.{items_of, enum_declarations}
 use Rattle.assembly.specs.Faults.{enums_of}
-use Rattle.encoder.specs.Parts.{Filled, lent_length, filled_none, filled-length, filled-start, filled-room, filled_more, filled-all}
+use Rattle.encoder.specs.Parts.{lent_length, filled_none, filled-length, filled-start, filled-room, filled_more, filled-all}
 use Rattle.assembly.proofs.checks.all_enums.Goals as goal
 
 pub loop-i-init : goal.loop-i-init

@@ -1,18 +1,9 @@
 -- `all_enums` meets its contract. Assumes nothing.
-use Prim.Native.Nat.{ℕ, ◌+◌, ◌-◌, ◌≤◌}
-use native.Mathlib.Omega.{arith}
-use mathlib.Core.Path.{◌≡◌, sym, ap, subst, ◌∙◌}
-use lib.ListN.{length, get_or, take, drop}
-use borrow.Rule.Slice.PartMut.{mid_of}
-use Rattle.std.proofs.Common.{rules}
+use Prim.Native.Nat.{◌-◌, ◌≤◌}
+use lib.ListN.{length, take, drop}
 use Rattle.bundle.specs.Decode.{decode}
-use Rattle.encoder.specs.Started.{started}
-use Rattle.assembly.specs.EnumRoom.{enums_step, enums_end}
-use Rattle.assembly.specs.Given.{PlacedUnit}
-use Rattle.assembly.specs.GivenLaws.{placed-unit, below}
-use Rattle.assembly.specs.Assemble.{items_of, enum_declarations}
 use Rattle.assembly.specs.Faults.{enums_of}
-use Rattle.encoder.specs.Parts.{Filled, lent_length, filled_none, filled-length, filled-start, filled-room, filled_more, filled-all}
+use Rattle.encoder.specs.Parts.{Filled}
 use Rattle.assembly.proofs.checks.all_enums.Given as goal
 
 abbrev pub invariant-loop-i : goal.invariant-loop-i

@@ -1,9 +1,6 @@
 -- `has_main` meets its contract. Assumes nothing.
-use Prim.Native.Nat.{ℕ, ◌-◌}
-use mathlib.Core.Path.{◌≡◌, refl, sym, ◌∙◌}
-use Rattle.bundle.specs.Decode.{items_at}
+use mathlib.Core.Path.{refl, sym, ◌∙◌}
 use Rattle.assembly.specs.Walk.{main-end, main-here, main-next}
-use Rattle.assembly.specs.Assemble.{has_main}
 use Rattle.assembly.proofs.enums.has_main.Goals as goal
 
 pub loop-a-init : goal.loop-a-init

@@ -1,8 +1,7 @@
 -- `has_main` meets its contract. Assumes nothing.
 use Prim.Native.Nat.{ℕ, ◌-◌}
-use mathlib.Core.Path.{◌≡◌, refl, sym, ◌∙◌}
+use mathlib.Core.Path.{◌≡◌}
 use Rattle.bundle.specs.Decode.{items_at}
-use Rattle.assembly.specs.Walk.{main-end, main-here, main-next}
 use Rattle.assembly.specs.Assemble.{has_main}
 use Rattle.assembly.proofs.enums.has_main.Given as goal
 
