@@ -19,7 +19,6 @@ use Rattle.order.specs.Exact.{fault-numbers}
 use Rattle.order.specs.Call.{padded, unit_files, paths_of_ids, Wrote}
 use Rattle.order.specs.Demand.{ReportEnds, too_small, whole, report-ends, report-told, wrote, fault-some, ring-some, files-linked}
 use Rattle.order.specs.declared.Reported.{Reported}
-use Rattle.order.specs.declared.Reported.TheVariants as reported
 use Rattle.scope_tree.specs.Flat.{Flat, flat, first_flat}
 use Rattle.scope_tree.specs.Trees.{Good, flat_of}
 use Rattle.scope_tree.specs.declared.Tree.{Tree}

@@ -1,5 +1,5 @@
 -- The lines of what the linker answers are the specification's, of any bytes. Assumes nothing.
-use Rattle.std.specs.Prelude.{ℕ, ◌+◌, ◌≤◌, ◌<◌, Bool, cond, ◌≡◌, eqb, take, replicate}
+use Rattle.std.specs.Prelude.{ℕ, ◌≤◌, ◌<◌, Bool, cond, ◌≡◌, eqb, take, replicate}
 use native.Mathlib.Omega.{arith}
 use Rattle.std.proofs.Math.Bool.{true, false}
 use Rattle.std.proofs.Common.{⊎_elim, ◌∙◌, get_or-take}

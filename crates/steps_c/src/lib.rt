@@ -99,12 +99,7 @@ pub fn tell_ids(out: &mut [usize], at: usize, l: &[u16], n: usize)
 // Steps 1 to 5 and the image: a number from 1 to 15, with its place in out[0]; or 0 with the report's length in out[0], the number
 // of units in out[1], the image's length in out[2], the units' files' indices from ASSEMBLED_FILES on and the linked order from
 // ASSEMBLED_IDS on. Ruled out: an image with a report; a byte of the image buffer changed where there is no image.
-pub fn steps_assemble(
-    s: &[u8],
-    report: &mut [u8],
-    image: &mut [u8],
-    out: &mut [usize],
-) -> u8
+pub fn steps_assemble(s: &[u8], report: &mut [u8], image: &mut [u8], out: &mut [usize]) -> u8
     ensures value { result ≡ (assemble_answer s.now report.old image.old).number }
     ensures report_after { report.new ≡ assemble_report s.now report.old }
     ensures image_after { image.new ≡ assemble_image s.now image.old }

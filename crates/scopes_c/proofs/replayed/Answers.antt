@@ -1,5 +1,4 @@
-use Prim.Native.Nat.{◌-◌}
-use Rattle.scopes_c.specs.Lists.{Walking, walking_begin, walking_turn, walking_past, walking_far, walking_end, said_as}
+use Rattle.scopes_c.specs.Lists.{walking_begin, walking_turn, walking_past, walking_far, walking_end, said_as}
 use Rattle.scopes_c.proofs.replayed.Goals as goal
 
 pub loop-i-init : goal.loop-i-init

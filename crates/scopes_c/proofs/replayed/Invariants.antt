@@ -1,5 +1,5 @@
 use Prim.Native.Nat.{◌-◌}
-use Rattle.scopes_c.specs.Lists.{Walking, walking_begin, walking_turn, walking_past, walking_far, walking_end, said_as}
+use Rattle.scopes_c.specs.Lists.{Walking}
 use Rattle.scopes_c.proofs.replayed.Given as goal
 
 abbrev pub invariant-loop-i : goal.invariant-loop-i

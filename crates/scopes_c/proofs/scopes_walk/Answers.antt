@@ -1,7 +1,5 @@
 use native.Mathlib.Omega.{arith}
-use Prim.Native.Nat.{◌-◌}
-use Rattle.scope_tree.specs.Trees.{packed_in}
-use Rattle.scopes_c.specs.Lists.{Walking, walking_start, walking_turn, walking_past, walking_far, walking_end}
+use Rattle.scopes_c.specs.Lists.{walking_start, walking_turn, walking_past, walking_far, walking_end}
 use Rattle.scopes_c.proofs.scopes_walk.Goals as goal
 
 pub loop-i-init : goal.loop-i-init

@@ -17,5 +17,8 @@ returns-in-Refused c =
 pub returns-in-Ok : goal.returns-in-Ok
 returns-in-Ok c =
     let e = sym c.check-checked.ensures ∙ c.in-Ok.is in
-    record { value = told-ok _ e; graph_told = accepted c.discover_dependencies-g.result e c.discover_dependencies-g.ensures
-          (graph-told c.discover_dependencies-g.result c.args.out.now _ _ _ _ _ c.tell-in-Ok.ensures c.tell_places.ensures c.tell_ids.ensures c.tell_ids-in-Ok.ensures c.tell_ids-in-Ok-2.ensures) }
+    record {
+      value = told-ok _ e;
+      graph_told = accepted c.discover_dependencies-g.result e c.discover_dependencies-g.ensures
+          (graph-told c.discover_dependencies-g.result c.args.out.now _ _ _ _ _ c.tell-in-Ok.ensures c.tell_places.ensures c.tell_ids.ensures c.tell_ids-in-Ok.ensures c.tell_ids-in-Ok-2.ensures);
+    }

@@ -1,10 +1,8 @@
 -- `tell_ids` meets its contract. Assumes nothing.
-use Prim.Native.Nat.{ℕ, ◌+◌, ◌≤◌, ◌-◌}
-use native.Mathlib.Omega.{arith}
-use mathlib.Core.Path.{◌≡◌, ap, ◌∙◌}
-use lib.ListN.{length, set, take}
-use lib.Seq.{sets, length-sets}
-use Rattle.steps_c.specs.Steps.{told-next, told-end}
+use Prim.Native.Nat.{◌≤◌, ◌-◌}
+use mathlib.Core.Path.{◌≡◌}
+use lib.ListN.{take}
+use lib.Seq.{sets}
 use Rattle.steps_c.proofs.tell_ids.Given as goal
 
 abbrev pub invariant-loop-i : goal.invariant-loop-i

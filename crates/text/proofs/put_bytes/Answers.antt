@@ -1,6 +1,4 @@
-use Prim.Native.Nat.{◌≤◌, ◌-◌}
-use lib.ListN.{length, take}
-use Rattle.text.specs.Writing.{Put, put-none, put-length, bytes-more, bytes-all}
+use Rattle.text.specs.Writing.{put-none, put-length, bytes-more, bytes-all}
 use native.Mathlib.Omega.{arith}
 use Rattle.text.proofs.put_bytes.Goals as goal
 

@@ -1,7 +1,6 @@
 use Prim.Native.Nat.{◌≤◌, ◌-◌}
 use lib.ListN.{length, take}
-use Rattle.text.specs.Writing.{Put, put-none, put-length, bytes-more, bytes-all}
-use native.Mathlib.Omega.{arith}
+use Rattle.text.specs.Writing.{Put}
 use Rattle.text.proofs.put_bytes.Given as goal
 
 abbrev pub invariant-loop-i : goal.invariant-loop-i

@@ -1,7 +1,6 @@
 use Rattle.text.specs.Writing.{put_as}
 use Rattle.text.specs.Spelling.{digits-at}
 use native.Mathlib.Omega.{arith}
-use Rattle.names.proofs.unit_name.Reads as unit-name-reads
 use Rattle.text.proofs.put_decimal.Goals as goal
 
 pub slice_bounds-put_bytes-count : goal.slice_bounds-put_bytes-count

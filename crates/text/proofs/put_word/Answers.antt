@@ -1,5 +1,5 @@
 use Rattle.text.specs.Writing.{put-length}
-use Rattle.text.specs.Spelling.{Spelling, spelling_start, spelling_zero, spelling_one, spelling_end, divisor-some}
+use Rattle.text.specs.Spelling.{spelling_start, spelling_zero, spelling_one, spelling_end, divisor-some}
 use native.Mathlib.Omega.{arith}
 use Rattle.text.proofs.put_word.Goals as goal
 

@@ -1,6 +1,4 @@
-use Rattle.text.specs.Writing.{put-length}
-use Rattle.text.specs.Spelling.{Spelling, spelling_start, spelling_zero, spelling_one, spelling_end, divisor-some}
-use native.Mathlib.Omega.{arith}
+use Rattle.text.specs.Spelling.{Spelling}
 use Rattle.text.proofs.put_word.Given as goal
 
 abbrev pub invariant-loop-k : goal.invariant-loop-k

@@ -1,10 +1,6 @@
 use Prim.Native.Nat.{◌-◌, ◌≤◌}
-use mathlib.Core.Path.{◌≡◌, ◌∙◌, ap}
-use Rattle.tree_lines.specs.Modules.{around_in, around_start, around_next}
-use native.Mathlib.Omega.{arith}
-use Rattle.tree_lines.proofs.around.Reads as reads
-use Rattle.tree_lines.proofs.around.Lts as lts
-use Rattle.tree_lines.proofs.parent.Reads as parent-reads
+use mathlib.Core.Path.{◌≡◌}
+use Rattle.tree_lines.specs.Modules.{around_in}
 use Rattle.tree_lines.proofs.around.Given as goal
 
 abbrev pub invariant-loop-i : goal.invariant-loop-i

@@ -1,9 +1,6 @@
 use Prim.Native.Nat.{◌-◌}
 use mathlib.Core.Path.{◌≡◌}
-use Rattle.tree_lines.specs.Modules.{around_in, around_start, around_next, DepthOf, depth-start, depth-next, depth-root, depth_bound}
-use Rattle.tree_lines.proofs.depth_of.Reads as reads
-use Rattle.tree_lines.proofs.depth_of.Lts as lts
-use Rattle.tree_lines.proofs.parent.Reads as parent-reads
+use Rattle.tree_lines.specs.Modules.{around_in, DepthOf}
 use Rattle.tree_lines.proofs.depth_of.Given as goal
 
 abbrev pub invariant-loop-d : goal.invariant-loop-d

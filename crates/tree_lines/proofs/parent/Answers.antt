@@ -1,8 +1,5 @@
 use mathlib.Core.Path.{◌∙◌}
 use Rattle.tree_lines.specs.Modules.{parent-root, parent-there, parent-past}
-use Rattle.tree_lines.proofs.parent.Reads as reads
-use Rattle.tree_lines.proofs.parent.Lts as lts
-use Rattle.text.proofs.read.half.Reads as half-reads
 use Rattle.tree_lines.proofs.parent.Goals as goal
 
 pub returns-then-s-eq0 : goal.returns-then-s-eq0

@@ -1,12 +1,8 @@
 use Rattle.scope_tree.specs.Trees.{part}
-use Prim.Native.Nat.{◌-◌}
 use mathlib.Core.Path.{◌≡◌}
 use lib.ListN.{length}
-use Rattle.tree_lines.specs.Modules.{EntriesPut, entries_none, entries-one, entries-all}
+use Rattle.tree_lines.specs.Modules.{entries_none, entries-one, entries-all}
 use Rattle.std.proofs.Common.{rules}
-use Rattle.tree_lines.proofs.put_entries.Reads as reads
-use Rattle.tree_lines.proofs.put_entries.Lts as lts
-use Rattle.tree_lines.proofs.put_entry.Reads as put-entry-reads
 use Rattle.tree_lines.proofs.put_entries.Goals as goal
 
 pub loop-i-init : goal.loop-i-init

@@ -1,12 +1,6 @@
 use Rattle.scope_tree.specs.Trees.{part}
 use Prim.Native.Nat.{◌-◌}
-use mathlib.Core.Path.{◌≡◌}
-use lib.ListN.{length}
-use Rattle.tree_lines.specs.Modules.{EntriesPut, entries_none, entries-one, entries-all}
-use Rattle.std.proofs.Common.{rules}
-use Rattle.tree_lines.proofs.put_entries.Reads as reads
-use Rattle.tree_lines.proofs.put_entries.Lts as lts
-use Rattle.tree_lines.proofs.put_entry.Reads as put-entry-reads
+use Rattle.tree_lines.specs.Modules.{EntriesPut}
 use Rattle.tree_lines.proofs.put_entries.Given as goal
 
 abbrev pub invariant-loop-i : goal.invariant-loop-i

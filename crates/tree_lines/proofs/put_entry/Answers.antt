@@ -1,12 +1,5 @@
 use Rattle.scope_tree.specs.Trees.{part}
 use Rattle.tree_lines.specs.Modules.{entry-unit, entry-line}
-use Rattle.tree_lines.proofs.put_entry.Reads as reads
-use Rattle.tree_lines.proofs.put_entry.Lts as lts
-use Rattle.text.proofs.read.half.Reads as half-reads
-use Rattle.text.proofs.read.word.Reads as word-reads
-use Rattle.tree_lines.proofs.put_module.Reads as put-module-reads
-use Rattle.tree_lines.proofs.put_shows.Reads as put-shows-reads
-use Rattle.text.proofs.put_bytes.Reads as put-bytes-reads
 use Rattle.tree_lines.proofs.put_entry.Goals as goal
 
 pub half-s-requires : goal.half-s-requires

@@ -1,9 +1,4 @@
 use Rattle.tree_lines.specs.Modules.{shows-put}
-use Rattle.tree_lines.proofs.put_shows.Reads as reads
-use Rattle.tree_lines.proofs.put_shows.Lts as lts
-use Rattle.text.proofs.put.Reads as put_reads
-use Rattle.text.proofs.put_decimal.Reads as put-decimal-reads
-use Rattle.text.proofs.put_name.Reads as put-name-reads
 use Rattle.tree_lines.proofs.put_shows.Goals as goal
 
 pub put-a-requires : goal.put-a-requires

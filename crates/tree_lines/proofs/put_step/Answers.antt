@@ -1,10 +1,5 @@
 use Rattle.tree_lines.specs.Modules.{step_past, step-there}
 use native.Mathlib.Omega.{arith}
-use Rattle.tree_lines.proofs.put_step.Reads as reads
-use Rattle.tree_lines.proofs.put_step.Lts as lts
-use Rattle.text.proofs.read.word.Reads as word-reads
-use Rattle.text.proofs.put_bytes.Reads as put-bytes-reads
-use Rattle.text.proofs.put_name.Reads as put-name-reads
 use Rattle.tree_lines.proofs.put_step.Goals as goal
 
 pub put_bytes-a-requires : goal.put_bytes-a-requires

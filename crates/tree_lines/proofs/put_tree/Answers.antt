@@ -1,9 +1,6 @@
 use Rattle.scope_tree.specs.Trees.{view}
 use Rattle.scope_tree.specs.Views.{entries_of}
 use Rattle.tree_lines.specs.Modules.{tree-tells}
-use Rattle.tree_lines.proofs.put_tree.Reads as reads
-use Rattle.tree_lines.proofs.put_tree.Lts as lts
-use Rattle.tree_lines.proofs.put_entries.Reads as put-entries-reads
 use Rattle.tree_lines.proofs.put_tree.Goals as goal
 
 pub count_of-count-requires : goal.count_of-count-requires

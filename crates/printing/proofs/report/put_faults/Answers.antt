@@ -1,12 +1,7 @@
-use Prim.Native.Nat.{◌+◌, ◌*◌, ◌-◌, ◌≤◌}
-use mathlib.Core.Path.{◌≡◌, refl, ◌∙◌}
-use lib.ListN.{length}
-use Rattle.printing.specs.Reports.{FaultsPut, faults-none, faults-one, faults-all}
+use Prim.Native.Nat.{◌+◌, ◌*◌}
+use mathlib.Core.Path.{refl, ◌∙◌}
+use Rattle.printing.specs.Reports.{faults-none, faults-one, faults-all}
 use native.Mathlib.Omega.{arith}
-use Rattle.printing.proofs.report.put_faults.Reads as reads
-use Rattle.printing.proofs.report.put_faults.Lts as lts
-use Rattle.text.proofs.read.byte.Reads as byte-Reads
-use Rattle.text.proofs.put_no.Reads as put-no-reads
 use Rattle.printing.proofs.report.put_faults.Goals as goal
 
 pub loop-i-init : goal.loop-i-init

@@ -1,12 +1,7 @@
-use Prim.Native.Nat.{◌+◌, ◌*◌, ◌-◌, ◌≤◌}
-use mathlib.Core.Path.{◌≡◌, refl, ◌∙◌}
+use Prim.Native.Nat.{◌-◌, ◌≤◌}
+use mathlib.Core.Path.{◌≡◌}
 use lib.ListN.{length}
-use Rattle.printing.specs.Reports.{FaultsPut, faults-none, faults-one, faults-all}
-use native.Mathlib.Omega.{arith}
-use Rattle.printing.proofs.report.put_faults.Reads as reads
-use Rattle.printing.proofs.report.put_faults.Lts as lts
-use Rattle.text.proofs.read.byte.Reads as byte-Reads
-use Rattle.text.proofs.put_no.Reads as put-no-reads
+use Rattle.printing.specs.Reports.{FaultsPut}
 use Rattle.printing.proofs.report.put_faults.Given as goal
 
 abbrev pub invariant-loop-i : goal.invariant-loop-i

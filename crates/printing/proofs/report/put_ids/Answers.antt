@@ -1,13 +1,6 @@
-use Prim.Native.Nat.{◌-◌, ◌≤◌}
-use mathlib.Core.Path.{◌≡◌, refl, ◌∙◌}
-use lib.ListN.{length}
-use Rattle.printing.specs.Reports.{IdsPut, ids-none, ids_more, ids_all}
+use mathlib.Core.Path.{refl, ◌∙◌}
+use Rattle.printing.specs.Reports.{ids-none, ids_more, ids_all}
 use native.Mathlib.Omega.{arith}
-use Rattle.printing.proofs.report.put_ids.Reads as reads
-use Rattle.printing.proofs.report.put_ids.Lts as lts
-use Rattle.text.proofs.read.byte.Reads as byte-Reads
-use Rattle.text.proofs.put.Reads as put_reads
-use Rattle.text.proofs.put_decimal.Reads as put-decimal-reads
 use Rattle.printing.proofs.report.put_ids.Goals as goal
 
 pub loop-i-init : goal.loop-i-init

@@ -1,10 +1,5 @@
 use mathlib.Core.Path.{sym, ◌∙◌}
 use Rattle.printing.specs.Reports.{by-ring, by-faults}
-use Rattle.printing.proofs.report.put_report.Reads as reads
-use Rattle.printing.proofs.report.put_report.Lts as lts
-use Rattle.text.proofs.read.byte.Reads as byte-Reads
-use Rattle.printing.proofs.report.put_faults.Reads as put-faults-reads
-use Rattle.printing.proofs.report.put_ring.Reads as put-ring-reads
 use Rattle.printing.proofs.report.put_report.Goals as goal
 
 pub byte-requires : goal.byte-requires

@@ -1,10 +1,4 @@
 use Rattle.printing.specs.Reports.{ring-put}
-use Rattle.printing.proofs.report.put_ring.Reads as reads
-use Rattle.printing.proofs.report.put_ring.Lts as lts
-use Rattle.printing.proofs.report.put_ids.Reads as put-ids-reads
-use Rattle.text.proofs.put.Reads as put_reads
-use Rattle.text.proofs.put_bytes.Reads as put-bytes-reads
-use Rattle.text.proofs.put_no.Reads as put-no-reads
 use Rattle.printing.proofs.report.put_ring.Goals as goal
 
 pub put_no-a-requires : goal.put_no-a-requires

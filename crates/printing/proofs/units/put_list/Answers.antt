@@ -1,12 +1,7 @@
-use Prim.Native.Nat.{◌-◌}
 use mathlib.Core.Path.{◌≡◌}
 use lib.ListN.{length}
-use Rattle.printing.specs.Units.{UnitsPut, units-none, units-one, units-all}
+use Rattle.printing.specs.Units.{units-none, units-one, units-all}
 use Rattle.std.proofs.Common.{rules}
-use Rattle.printing.proofs.units.put_list.Reads as reads
-use Rattle.printing.proofs.units.put_list.Lts as lts
-use Rattle.text.proofs.read.half.Reads as half-reads
-use Rattle.printing.proofs.units.put_unit.Reads as put-unit-reads
 use Rattle.printing.proofs.units.put_list.Goals as goal
 
 pub loop-i-init : goal.loop-i-init

@@ -1,10 +1,5 @@
 use Rattle.printing.specs.Units.{path-there, path-none}
 use Rattle.text.specs.Writing.{put_as}
-use Rattle.printing.proofs.units.put_path.Reads as reads
-use Rattle.printing.proofs.units.put_path.Lts as lts
-use Rattle.bundle.proofs.file_at.Reads as file-at-reads
-use Rattle.bundle.proofs.file_path.Reads as file-path-reads
-use Rattle.text.proofs.put_bytes.Reads as put-bytes-reads
 use Rattle.printing.proofs.units.put_path.Goals as goal
 
 pub put_bytes-requires : goal.put_bytes-requires

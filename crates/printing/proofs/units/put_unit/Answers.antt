@@ -1,11 +1,4 @@
 use Rattle.printing.specs.Units.{unit-put}
-use Rattle.printing.proofs.units.put_unit.Reads as reads
-use Rattle.printing.proofs.units.put_unit.Lts as lts
-use Rattle.text.proofs.read.place.Reads as place-reads
-use Rattle.printing.proofs.units.put_path.Reads as put-path-reads
-use Rattle.text.proofs.put.Reads as put_reads
-use Rattle.text.proofs.put_bytes.Reads as put-bytes-reads
-use Rattle.text.proofs.put_decimal.Reads as put-decimal-reads
 use Rattle.printing.proofs.units.put_unit.Goals as goal
 
 pub put_bytes-a-requires : goal.put_bytes-a-requires

@@ -1,10 +1,4 @@
 use Rattle.printing.specs.Units.{ok-put}
-use Rattle.printing.proofs.units.put_units.Reads as reads
-use Rattle.printing.proofs.units.put_units.Lts as lts
-use Rattle.printing.proofs.units.put_list.Reads as put-list-reads
-use Rattle.text.proofs.put.Reads as put_reads
-use Rattle.text.proofs.put_bytes.Reads as put-bytes-reads
-use Rattle.text.proofs.put_decimal.Reads as put-decimal-reads
 use Rattle.printing.proofs.units.put_units.Goals as goal
 
 pub put_bytes-a-requires : goal.put_bytes-a-requires

@@ -1,11 +1,9 @@
 use Prim.Native.Nat.{ℕ, suc, ◌+◌, ◌-◌}
 use native.Mathlib.Omega.{arith}
 use mathlib.Core.Path.{◌≡◌, sym, subst}
-use Rattle.scope_walk.specs.Cursor.{first_inside, Yields, standing_small, out-small, standing_room, yields_out, yields_item, yields_in}
+use Rattle.scope_walk.specs.Cursor.{Yields, standing_small, out-small, standing_room, yields_out, yields_item, yields_in}
 use Rattle.scope_walk.specs.declared.cursor.Step.TheVariants as step
 use Rattle.std.proofs.Common.{rules}
-use Rattle.scope_walk.proofs.cursor.next.Reads as reads
-use Rattle.scope_walk.proofs.cursor.next.Lts as lts
 use Rattle.scope_walk.proofs.cursor.next.Goals as goal
 
 pub past_ignored-at-requires : goal.past_ignored-at-requires

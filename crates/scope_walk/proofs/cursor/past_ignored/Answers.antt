@@ -1,5 +1,4 @@
-use Prim.Native.Nat.{◌-◌}
-use Rattle.scope_walk.specs.Cursor.{Passed, passed_none, passed-more, past-here, past_end}
+use Rattle.scope_walk.specs.Cursor.{passed_none, passed-more, past-here, past_end}
 use Rattle.scope_walk.proofs.cursor.past_ignored.Goals as goal
 
 pub loop-a-init : goal.loop-a-init

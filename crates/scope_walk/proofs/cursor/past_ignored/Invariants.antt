@@ -1,5 +1,5 @@
 use Prim.Native.Nat.{◌-◌}
-use Rattle.scope_walk.specs.Cursor.{Passed, passed_none, passed-more, past-here, past_end}
+use Rattle.scope_walk.specs.Cursor.{Passed}
 use Rattle.scope_walk.proofs.cursor.past_ignored.Given as goal
 
 abbrev pub invariant-loop-a : goal.invariant-loop-a

@@ -1,13 +1,13 @@
 use native.Mathlib.Omega.{arith}
 use Prim.Native.Nat.{ℕ}
-use mathlib.Core.Path.{◌≡◌, refl, ◌∙◌}
+use mathlib.Core.Path.{refl, ◌∙◌}
 use mathlib.Core.List.{[]}
 use lib.Dec.{eqb}
-use lib.ListN.{length, length-replicate}
+use lib.ListN.{length-replicate}
 use Rattle.scope_tree.specs.Trees.{packed_in}
 use Rattle.scope_walk.specs.Steps.{use_size, meets_request}
 use Rattle.scope_walk.specs.Cursor.{taken-bytes}
-use Rattle.scope_walk.specs.Loop.{Walking, walking_from, turns, ready_as, turns_fall, walking_call, turns-end, walking_end}
+use Rattle.scope_walk.specs.Loop.{walking_from, ready_as, turns_fall, walking_call, turns-end, walking_end}
 use Rattle.scope_walk.specs.declared.cursor.Step.TheVariants as step
 use Rattle.scope_walk.proofs.walk.walk_units.Goals as goal
 
@@ -18,7 +18,7 @@ pub next-n-requires : goal.next-n-requires
 next-n-requires c = (c.requires.0, c.loop-going.invariant.0.stands)
 
 pub put_call-m-requires : goal.put_call-m-requires
-put_call-m-requires c = 
+put_call-m-requires c =
     let r = ready_as c.next-n.ensures (step.Call c.in-Call.kind c.in-Call.p) c.in-Call.is in
     ((c.requires.0.of_units, c.next-n.ensures.stands.within r.0), (r.1.1, c.loop-going.invariant.1))
 
@@ -26,27 +26,27 @@ pub is_public-public-requires : goal.is_public-public-requires
 is_public-public-requires c = (ready_as c.next-n.ensures (step.Call c.in-Call.kind c.in-Call.p) c.in-Call.is).1.0
 
 pub call_bytes-requires : goal.call_bytes-requires
-call_bytes-requires c = 
+call_bytes-requires c =
     ((ready_as c.next-n.ensures (step.Call c.in-Call.kind c.in-Call.p) c.in-Call.is).1.0, omega arith)
 
 pub mark_of-requires : goal.mark_of-requires
 mark_of-requires c = (ready_as c.next-n.ensures (step.Call c.in-Call.kind c.in-Call.p) c.in-Call.is).1.0
 
 pub loop-going-smaller-in-Call : goal.loop-going-smaller-in-Call
-loop-going-smaller-in-Call c = 
+loop-going-smaller-in-Call c =
     turns_fall c.next-n.ensures (step.Call c.in-Call.kind c.in-Call.p) c.in-Call.is refl c.loop-going.going (eqb c.number_of-number.result 0) c.loop-going-test.true
 
 pub loop-going-preserved-in-Call : goal.loop-going-preserved-in-Call
-loop-going-preserved-in-Call c = 
+loop-going-preserved-in-Call c =
     let b = c.call_bytes.ensures ∙ taken-bytes c.put_call-m.ensures in
     (walking_call c.next-n.ensures (step.Call c.in-Call.kind c.in-Call.p) c.in-Call.is refl c.loop-going.invariant.0 c.loop-going-test.true (meets_request c.call_code.ensures b c.is_public-public.ensures c.mark_of.ensures c.call.ensures) c.number_of-number.ensures, c.put_call-m.ensures.long)
 
 pub loop-going-smaller-in-Exit : goal.loop-going-smaller-in-Exit
-loop-going-smaller-in-Exit c = 
+loop-going-smaller-in-Exit c =
     turns_fall c.next-n.ensures (step.Exit c.in-Exit.p) c.in-Exit.is refl c.loop-going.going (eqb c.number_of-number-in-Exit.result 0) c.loop-going-test.true
 
 pub loop-going-preserved-in-Exit : goal.loop-going-preserved-in-Exit
-loop-going-preserved-in-Exit c = 
+loop-going-preserved-in-Exit c =
     (walking_call c.next-n.ensures (step.Exit c.in-Exit.p) c.in-Exit.is refl c.loop-going.invariant.0 c.loop-going-test.true (c.exit.ensures (packed_in [] c.loop-going.cells c.loop-going.visible c.loop-going.scopes c.loop-going.marks c.loop-going.n0 c.loop-going.n1 c.loop-going.n2 c.loop-going.n3)) c.number_of-number-in-Exit.ensures, c.loop-going.invariant.1)
 
 pub loop-going-smaller : goal.loop-going-smaller

@@ -1,14 +1,8 @@
-use native.Mathlib.Omega.{arith}
-use Prim.Native.Nat.{ℕ}
-use mathlib.Core.Path.{◌≡◌, refl, ◌∙◌}
-use mathlib.Core.List.{[]}
-use lib.Dec.{eqb}
-use lib.ListN.{length, length-replicate}
+use mathlib.Core.Path.{◌≡◌}
+use lib.ListN.{length}
 use Rattle.scope_tree.specs.Trees.{packed_in}
-use Rattle.scope_walk.specs.Steps.{use_size, meets_request}
-use Rattle.scope_walk.specs.Cursor.{taken-bytes}
-use Rattle.scope_walk.specs.Loop.{Walking, walking_from, turns, ready_as, turns_fall, walking_call, turns-end, walking_end}
-use Rattle.scope_walk.specs.declared.cursor.Step.TheVariants as step
+use Rattle.scope_walk.specs.Steps.{use_size}
+use Rattle.scope_walk.specs.Loop.{Walking, turns}
 use Rattle.scope_walk.proofs.walk.walk_units.Given as goal
 
 abbrev pub invariant-loop-going : goal.invariant-loop-going

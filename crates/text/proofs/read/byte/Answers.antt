@@ -1,9 +1,6 @@
 use mathlib.Core.Path.{sym}
 use lib.ListN.{get_or-eq_default}
 use native.Mathlib.Omega.{arith}
-use Rattle.text.proofs.read.byte.Reads as reads
-use Rattle.text.proofs.read.byte.Lts as lts
-use Rattle.text.proofs.read.wide.Reads as wide-reads
 use Rattle.text.proofs.read.byte.Goals as goal
 
 pub wide-requires : goal.wide-requires

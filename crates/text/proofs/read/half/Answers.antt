@@ -1,9 +1,6 @@
 use mathlib.Core.Path.{sym}
 use lib.ListN.{get_or-eq_default}
 use native.Mathlib.Omega.{arith}
-use Rattle.text.proofs.read.half.Reads as reads
-use Rattle.text.proofs.read.half.Lts as lts
-use Rattle.text.proofs.read.long.Reads as long-reads
 use Rattle.text.proofs.read.half.Goals as goal
 
 pub long-requires : goal.long-requires

@@ -1,7 +1,5 @@
 use mathlib.Core.Path.{sym}
 use lib.ListN.{get_or-eq_default}
-use Rattle.text.proofs.read.word.Reads as reads
-use Rattle.text.proofs.read.word.Lts as lts
 use Rattle.text.proofs.read.word.Goals as goal
 
 pub returns : goal.returns
