@@ -1,10 +1,12 @@
 // Links stored bundles: standard input has each led by its length in 4 bytes, big-endian. For each the lines of the printing program
-// are written, the image in hexadecimal where there is one, and a line `--`.
+// are written, the image in hexadecimal where there is one, and a line `--`; they come out before the next bundle is read.
 #![tactic(auto)]
 
 ghost use Rattle.std.specs.Prelude.{◌<◌, ◌^◌};
 
 use printing::{IMAGE, REPORT, TEXT};
+use std::io;
+use std::io::{BufWriter, Read, Write};
 
 // No bundle that is longer is stored.
 const SIZE: usize = 131072;
@@ -22,11 +24,11 @@ fn length_of(head: [u8; 4]) -> usize
 }
 
 // So many bytes, where there is room for them.
-fn read_some(buffer: &mut [u8], n: usize) -> usize {
+fn read_some<R: Read>(reader: &mut R, buffer: &mut [u8], n: usize) -> io::Result<usize> {
     if n <= buffer.len() {
-        return io::read_full(0, &mut buffer[..n]);
+        return lines::fill(reader, &mut buffer[..n]);
     }
-    0
+    Ok(0)
 }
 
 // A line `image` and the bytes in hexadecimal.
@@ -54,34 +56,36 @@ fn tell_image(s: &[u8], out: &mut [u8]) -> usize {
 }
 
 // The next bundle; false where there is none.
-fn next() -> bool {
+fn next<R: Read, W: Write>(reader: &mut R, out: &mut W) -> io::Result<bool> {
     let mut head = [0u8; 4];
-    let k = io::read_full(0, &mut head);
+    let k = lines::fill(reader, &mut head)?;
     if k < 4 {
-        return false;
+        return Ok(false);
     }
     let f = length_of(head);
     if f > SIZE {
-        return false;
+        return Ok(false);
     }
     let mut buffer = [0u8; SIZE];
-    let n = read_some(&mut buffer, f);
+    let n = read_some(reader, &mut buffer, f)?;
     let s = lines::part(&buffer, 0, n);
     let mut text = [0u8; TEXT];
     let told = printing::tell(s, &mut text);
-    io::write_all(1, lines::part(&text, 0, told));
+    out.write_all(lines::part(&text, 0, told))?;
     let shown = tell_image(s, &mut text);
-    io::write_all(1, lines::part(&text, 0, shown));
-    io::write_all(1, b"--\n");
-    true
+    out.write_all(lines::part(&text, 0, shown))?;
+    out.write_all(b"--\n")?;
+    out.flush()?;
+    Ok(true)
 }
 
-fn main() {
-    let mut i: usize = 0;
-    while i < 10000000 {
-        if next() {} else {
-            return;
+fn main(rt: HostRuntime) -> io::Result<()> {
+    let mut reader = rt.reader();
+    let mut out = BufWriter::new(rt.alloc(), io::writer(&rt))?;
+    for _ in 0..10_000_000 {
+        if !next(&mut reader, &mut out)? {
+            break;
         }
-        i += 1;
     }
+    Ok(())
 }
