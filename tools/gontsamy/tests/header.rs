@@ -104,13 +104,16 @@ fn limits() -> BTreeMap<String, usize> {
             let file = file.unwrap().path();
             let module = file.file_stem().unwrap().to_str().unwrap();
             let text = std::fs::read_to_string(&file).unwrap();
-            for line in text.lines() {
-                let path = line
-                    .strip_prefix("pub use ")
-                    .and_then(|rest| rest.strip_suffix(';'));
-                if let Some(path) = path {
-                    let name = path.rsplit("::").next().unwrap_or_default();
-                    passed.push((format!("{krate}::{name}"), path.to_string()));
+            for (at, word) in text.match_indices("pub use ") {
+                let rest = &text[at + word.len()..];
+                let path = rest.split(';').next().unwrap_or_default();
+                let (head, names) = path.rsplit_once("::").unwrap_or(("", path));
+                // One name, or several in braces.
+                let (head, names) = path.split_once("::{").unwrap_or((head, names));
+                for name in names.trim_end_matches('}').split(',').map(str::trim) {
+                    if !name.is_empty() {
+                        passed.push((format!("{krate}::{name}"), format!("{head}::{name}")));
+                    }
                 }
             }
             for (name, value) in constants(&text, &BTreeMap::new()) {
