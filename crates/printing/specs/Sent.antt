@@ -39,7 +39,7 @@ sent_of-size s B o o₁ r l x =
     (omega (arith, printed-fits s B))
     (subst (λ (z : Reading). Shows (reading_lines z) o o₁ r) (read_enough s B read_size (omega arith)) x)
 
--- THE PROGRAM: of a file of whatever bytes it reads the first read-size, and its buffer has text-size. What it sends is all that
+-- THE PROGRAM: of a file of whatever bytes it reads the first read_size, and its buffer has text_size. What it sends is all that
 -- is printed of the file
 pub program_sends : (s : List ℕ) → Bytes s → (o₁ : List ℕ) (r : ℕ) → Shows (reading_lines (read (take read_size s))) (replicate text_size 0) o₁ r → take r o₁ ≡ printed s
 program_sends s B o₁ r x = sent_of-size s B (replicate text_size 0) o₁ r (length-replicate {A = ℕ} text_size 0) x
