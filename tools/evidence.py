@@ -13,7 +13,7 @@ import sys
 LINK = re.compile(r"\[([^\]]+)\]\(([^)]+)\)(?:: ([^|;.()\[\]]+))?")
 NAME = re.compile(r"^[^\s,]+$")
 FUNCTION = re.compile(r"`([a-z_]+)::([a-z_]+)`")
-COMMAND = re.compile(r"`rt (?:check|must-fail) ([a-z_ ]+)`")
+COMMAND = re.compile(r"`rt (?:ci|must-fail) ([a-z_ ]+)`")
 
 
 def declared(path):

@@ -1,10 +1,9 @@
 #!/usr/bin/env python3
-"""A table from what the gate printed: crate, functions proved, seconds of its proof, must-fail edits and their seconds; and how many
-lines of definitions each crate has.
+"""A table from what the gate printed: crate, functions proved, must-fail edits refused; and how many lines of definitions each crate has.
 
 usage: bash .ci/run | tee gate.log; tools/gate_table.py gate.log
 
-Seconds are the gate's own, of a process that shares two cores with another one. Definitions are what a reader must believe: the lines of
+A crate that the gate kept from an earlier run has no number of functions. Definitions are what a reader must believe: the lines of
 `abbrev`, `unfoldable`, `data` and `record` in the files that a crate's specs/Lib.antt lists as definitions, without comments, laws and
 proofs.
 """
@@ -42,25 +41,23 @@ def main(path):
     rows, edits = {}, {}
     functions = 0
     for line in open(path, encoding="utf-8", errors="replace"):
-        if re.match(r"fn \S+: proved", line):
-            functions += 1
-        m = re.match(r"rt: (\w+) proved \((\d+) s\)", line)
+        m = re.match(r"logic=proved functions=(\d+)", line)
         if m:
-            rows[m.group(1)] = (functions, int(m.group(2)))
-            functions = 0
-        m = re.match(r"rt: must-fail (\w+)/\S+: refused.*?(\d+) s\)", line)
+            functions = int(m.group(1))
+        m = re.match(r"rt: (\w+) (proved|is kept)", line)
         if m:
-            count, seconds = edits.get(m.group(1), (0, 0))
-            edits[m.group(1)] = (count + 1, seconds + int(m.group(2)))
-    print("| Crate | Functions | Seconds | Edits | Their seconds | Definitions |\n|---|---|---|---|---|---|")
-    total = [0, 0, 0, 0, 0]
-    for crate, (count, seconds) in rows.items():
-        edit, lines = edits.get(crate, (0, 0)), definitions(crate)
-        for place, value in enumerate((count, seconds) + edit + (lines,)):
+            rows[m.group(1)] = functions if m.group(2) == "proved" else None
+        m = re.match(r"rt: must-fail (\w+)/\S+: refused", line)
+        if m:
+            edits[m.group(1)] = edits.get(m.group(1), 0) + 1
+    print("| Crate | Functions | Edits | Definitions |\n|---|---|---|---|")
+    total = [0, 0, 0]
+    for crate, count in rows.items():
+        edit, lines = edits.get(crate, 0), definitions(crate)
+        for place, value in enumerate((count or 0, edit, lines)):
             total[place] += value
-        shown = (edit if edit[0] else ("", "")) + (lines or "",)
-        print("| %s | %d | %d | %s | %s | %s |" % ((crate, count, seconds) + shown))
-    print("| all | %d | %d | %d | %d | %d |" % tuple(total))
+        print("| %s | %s | %s | %s |" % (crate, "kept" if count is None else count, edit or "", lines or ""))
+    print("| all | %d | %d | %d |" % tuple(total))
 
 
 if __name__ == "__main__":

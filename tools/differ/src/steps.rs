@@ -1,4 +1,4 @@
-//! The functions of crates/steps_c, wrapped. None has a precondition.
+//! The functions of crates/steps_c, by the exports of crates/steps_c_c, wrapped. None has a precondition.
 
 use bundle_format::limits::{FILES, USES};
 

@@ -1,7 +1,7 @@
 //! The cost of calls, of the port and of the original, in instructions, time and stack.
 //!
 //! A call is measured in a tree of so many entries, most of them in the current module. The
-//! port's calls go through crates/scopes_c, which reads them from bytes: a call's cost is that of
+//! port's calls go through crates/scopes_c_c over crates/scopes_c, which reads them from bytes: a call's cost is that of
 //! a list that ends with it less that of the list without it. The original's are counted inside
 //! `scopes_diff_measured`, over fresh trees, since the seeds of its hash maps differ from run to
 //! run.

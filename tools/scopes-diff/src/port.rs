@@ -1,4 +1,4 @@
-//! The functions of crates/scopes_c, wrapped. None has a precondition.
+//! The functions of crates/scopes_c, by the exports of crates/scopes_c_c, wrapped. None has a precondition.
 
 extern "C" {
     fn scopes_replay(s: *const u8, s_len: usize, out: *mut u32, out_len: usize) -> usize;
