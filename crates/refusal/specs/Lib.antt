@@ -1,0 +1,2 @@
+-- DEFINITIONS: the number of each cause
+pub mod Numbers
