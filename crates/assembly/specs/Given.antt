@@ -7,7 +7,7 @@ use Rattle.bundle.specs.Bundle as bundle
 use Rattle.bundle.specs.Encode.{items}
 use Rattle.bundle.specs.Decode.{decode}
 use Rattle.bundle.specs.Read.{verdict}
-use Rattle.bundle.specs.declared.Checked.TheVariants.{Ok}
+use Rattle.bundle.specs.Results.{Ok}
 use Rattle.resolution.specs.Call.{position}
 use Rattle.discovery.specs.Discovery.{paths_of}
 use Rattle.driver.specs.Complete.{Known}

@@ -14,7 +14,7 @@ use Rattle.bundle.specs.Stand.{Bytes}
 use Rattle.bundle.specs.Decode.{decode, file_at, items_at}
 use Rattle.bundle.specs.Read.{verdict}
 use Rattle.bundle.specs.Theorems.{sound, accepted}
-use Rattle.bundle.specs.declared.Checked.TheVariants.{Ok}
+use Rattle.bundle.specs.Results.{Ok}
 use Rattle.resolution.specs.Lists.{lists_of}
 use Rattle.resolution.specs.Call.{position}
 use Rattle.discovery.specs.Discovery.{program_of, paths_of}

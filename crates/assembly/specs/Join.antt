@@ -8,8 +8,8 @@ use Rattle.bundle.specs.Limits.{file_limit}
 use Rattle.bundle.specs.Decode.{decode}
 use Rattle.bundle.specs.Read.{verdict}
 use Rattle.bundle.specs.Theorems.{accepted}
-use Rattle.bundle.specs.declared.Checked.{Checked}
-use Rattle.bundle.specs.declared.Checked.TheVariants.{Ok, Refused}
+use Rattle.bundle.specs.Results.{Checked}
+use Rattle.bundle.specs.Results.{Ok, Refused}
 use Rattle.resolution.specs.Call.{position}
 use Rattle.discovery.specs.Discovery.{Fault, paths_of}
 use Rattle.discovery.specs.Room.{checked-roomy}

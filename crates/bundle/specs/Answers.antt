@@ -4,8 +4,8 @@ use Rattle.std.proofs.Common.{arith}
 use Rattle.bundle.specs.Bundle.{Bundle}
 use Rattle.bundle.specs.Conflicts.{or_else}
 use Rattle.bundle.specs.Read.{value, refused, reading}
-use Rattle.bundle.specs.declared.Checked.{Checked}
-use Rattle.bundle.specs.declared.Checked.TheVariants.{Ok, Refused}
+use Rattle.bundle.specs.Results.{Checked}
+use Rattle.bundle.specs.Results.{Ok, Refused}
 
 pub refused-ok : {n p : ℕ} → Refused n p ≡ Ok → ⊥
 refused-ok e = let z : ◌≡◌ {A = ℕ} 0 1 = cc in omega arith

@@ -16,7 +16,7 @@ use Rattle.bundle.specs.Form.{Every}
 use Rattle.bundle.specs.Parts.{headed}
 use Rattle.bundle.specs.Walks.{goes, siblings-next, leaf_past}
 use Rattle.bundle.specs.CompleteItems.{head_writ, head-scans, leaf_scans, use_body, ignored-body, use_scans}
-use Rattle.bundle.specs.declared.Walk.TheVariants.{Past}
+use Rattle.bundle.specs.Results.{Past}
 
 -- a named item: kind, mark, visibility, name
 abbrev pub item : ℕ → ℕ → ℕ → Text → Items → Items

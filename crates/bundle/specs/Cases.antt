@@ -15,10 +15,10 @@ use Rattle.bundle.specs.Conflicts.{or_else, placed_at, placed_remapping_at, any,
 use Rattle.bundle.specs.Conflicts as conflict
 use Rattle.bundle.specs.Read.{Reading, value, refused, after, after_walk, form, lists, files, verdict, read}
 use Rattle.bundle.specs.CaseLaws.{item, many, ignored_item, use_item, many-ignored, many-uses}
-use Rattle.bundle.specs.declared.Walk.{Walk}
-use Rattle.bundle.specs.declared.Walk.TheVariants.{Past, Fault}
-use Rattle.bundle.specs.declared.Checked.{Checked}
-use Rattle.bundle.specs.declared.Checked.TheVariants.{Ok, Refused}
+use Rattle.bundle.specs.Results.{Walk}
+use Rattle.bundle.specs.Results.{Past, Fault}
+use Rattle.bundle.specs.Results.{Checked}
+use Rattle.bundle.specs.Results.{Ok, Refused}
 
 -- THE PRINTED CASE
 unfoldable printed : Bundle

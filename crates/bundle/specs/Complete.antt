@@ -20,8 +20,8 @@ use Rattle.bundle.specs.Decode.{each, far, counted_by, after, after_element, aft
 use Rattle.bundle.specs.Form.{Every, IsAlias, Short, FormedElement, FormedRemapping}
 use Rattle.bundle.specs.Stand.{at_byte, at_count, count-length, at-append}
 use Rattle.bundle.specs.declared.Width.{Width}
-use Rattle.bundle.specs.declared.Scan.{Scan}
-use Rattle.bundle.specs.declared.Scan.TheVariants.{Next}
+use Rattle.bundle.specs.Results.{Scan}
+use Rattle.bundle.specs.Results.{Next}
 use Rattle.bundle.specs.declared.Field.TheVariants.{Element as ElementField, Remapping as RemappingField}
 
 -- the field x, written at `at`, is read

@@ -21,10 +21,10 @@ use Rattle.bundle.specs.Complete.{formed_writ, remapping_writ, count-byte, count
 use Rattle.bundle.specs.CompleteItems.{items_writ}
 use Rattle.bundle.specs.Read.{form, lists, files}
 use Rattle.bundle.specs.declared.Width.TheVariants.{Byte}
-use Rattle.bundle.specs.declared.Scan.TheVariants.{Next}
-use Rattle.bundle.specs.declared.Walk.TheVariants.{Past}
+use Rattle.bundle.specs.Results.{Next}
+use Rattle.bundle.specs.Results.{Past}
 use Rattle.bundle.specs.declared.Field.TheVariants.{Remapping as RemappingField}
-use Rattle.bundle.specs.declared.Checked.TheVariants.{Ok}
+use Rattle.bundle.specs.Results.{Ok}
 
 module _ (s : List ℕ) where
   sized_writ : (body : List ℕ) (at : ℕ) (rest : List ℕ) → drop at s ≡ sized body ++ rest → (word s at ≡ length body) × (drop (at + 2) s ≡ body ++ rest)

@@ -20,8 +20,8 @@ use Rattle.bundle.specs.Form.{Every, IsName, FormedElement, Formed, Marked, item
 use Rattle.bundle.specs.Stand.{at_byte, at-append}
 use Rattle.bundle.specs.Complete.{formed_writ, element_writ, count_writ}
 use Rattle.bundle.specs.declared.Width.TheVariants.{Byte}
-use Rattle.bundle.specs.declared.Scan.TheVariants.{Next}
-use Rattle.bundle.specs.declared.Walk.TheVariants.{Past}
+use Rattle.bundle.specs.Results.{Next}
+use Rattle.bundle.specs.Results.{Past}
 use Rattle.bundle.specs.declared.Field.TheVariants.{Element as ElementField}
 
 module _ (s : List ℕ) where

@@ -9,8 +9,8 @@ use Rattle.bundle.specs.Bundle.{Text, with_slash}
 use Rattle.bundle.specs.Limits.{header, folder_width, file_width}
 use Rattle.bundle.specs.Scan.{text, version_of}
 use Rattle.bundle.specs.Decode.{counted_by, counted, after, after_remapping, after_file, folders_at, remappings_at, files_at}
-use Rattle.bundle.specs.declared.Checked.{Checked}
-use Rattle.bundle.specs.declared.Checked.TheVariants.{Ok, Refused}
+use Rattle.bundle.specs.Results.{Checked}
+use Rattle.bundle.specs.Results.{Ok, Refused}
 
 -- a string and its place, the offset of its length byte
 pub record Placed : Type 0 where

@@ -8,8 +8,8 @@ use mathlib.Core.List.{List, [], ◌∷◌, ◌++◌, append-nil, append_assoc}
 use Rattle.std.proofs.Math.ListN.{length}
 use Rattle.bundle.specs.Conflicts.{or_else}
 use Rattle.bundle.specs.Answers.{refused-ok}
-use Rattle.bundle.specs.declared.Checked.{Checked}
-use Rattle.bundle.specs.declared.Checked.TheVariants.{Ok, Refused}
+use Rattle.bundle.specs.Results.{Checked}
+use Rattle.bundle.specs.Results.{Ok, Refused}
 
 -- the test of each element, given those before it
 unfoldable pub first_told : {A : Type 0} → (List A → A → Checked) → List A → List A → Checked

@@ -14,8 +14,8 @@ use Rattle.bundle.specs.Conflicts.{named as name_told}
 use Rattle.bundle.specs.ListLaws.{texts-each}
 use Rattle.bundle.specs.Steps.{both}
 use Rattle.bundle.specs.Form.{fresh, usable, alike, usable_all, Unconflicted}
-use Rattle.bundle.specs.declared.Checked.{Checked}
-use Rattle.bundle.specs.declared.Checked.TheVariants.{Ok, Refused}
+use Rattle.bundle.specs.Results.{Checked}
+use Rattle.bundle.specs.Results.{Ok, Refused}
 
 -- whether nothing is told
 unfoldable ok : Checked → Bool

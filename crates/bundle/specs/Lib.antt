@@ -1,5 +1,7 @@
 -- DEFINITIONS: a bundle as data and as bytes, what is read of bytes, and the words of the theorems. Contracts cite these.
 pub mod Limits
+pub mod Results
+pub mod Told
 pub mod Bundle
 pub mod Encode
 pub mod Scan

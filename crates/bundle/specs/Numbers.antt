@@ -22,14 +22,14 @@ use Rattle.bundle.specs.Steps.{some_bytes, string-next, length-next, mark-next, 
 use Rattle.bundle.specs.Answers.{cond_elim}
 use Rattle.bundle.specs.declared.Width.{Width}
 use Rattle.bundle.specs.declared.Width.TheVariants.{Byte}
-use Rattle.bundle.specs.declared.Scan.{Scan}
-use Rattle.bundle.specs.declared.Scan.TheVariants.{Next, Bad}
-use Rattle.bundle.specs.declared.Walk.{Walk}
-use Rattle.bundle.specs.declared.Walk.TheVariants.{Past, Fault}
+use Rattle.bundle.specs.Results.{Scan}
+use Rattle.bundle.specs.Results.{Next, Bad}
+use Rattle.bundle.specs.Results.{Walk}
+use Rattle.bundle.specs.Results.{Past, Fault}
 use Rattle.bundle.specs.declared.Field.{Field}
 use Rattle.bundle.specs.declared.Field.TheVariants.{Path, Name, Element, Remapping}
-use Rattle.bundle.specs.declared.Checked.{Checked}
-use Rattle.bundle.specs.declared.Checked.TheVariants.{Ok, Refused}
+use Rattle.bundle.specs.Results.{Checked}
+use Rattle.bundle.specs.Results.{Ok, Refused}
 
 -- THE SCAN
 -- a number from 1 to 6, and a place before the end, or for 1 at the end

@@ -5,14 +5,14 @@ use Rattle.bundle.specs.Limits.{capacity, folder_width, file_width, most_folders
 use Rattle.bundle.specs.Scan.{byte, version_of, count, scan_header, scan_path, scan_list, scan_count, scan_files, scan_end}
 use Rattle.bundle.specs.Decode.{decode}
 use Rattle.bundle.specs.Conflicts.{or_else, conflicts}
-use Rattle.bundle.specs.declared.Scan.{Scan}
-use Rattle.bundle.specs.declared.Scan.TheVariants.{Next, Bad}
-use Rattle.bundle.specs.declared.Walk.{Walk}
-use Rattle.bundle.specs.declared.Walk.TheVariants.{Past, Fault}
+use Rattle.bundle.specs.Results.{Scan}
+use Rattle.bundle.specs.Results.{Next, Bad}
+use Rattle.bundle.specs.Results.{Walk}
+use Rattle.bundle.specs.Results.{Past, Fault}
 use Rattle.bundle.specs.declared.Width.TheVariants.{Byte}
 use Rattle.bundle.specs.declared.Field.TheVariants.{Path, Remapping}
-use Rattle.bundle.specs.declared.Checked.{Checked}
-use Rattle.bundle.specs.declared.Checked.TheVariants.{Ok, Refused}
+use Rattle.bundle.specs.Results.{Checked}
+use Rattle.bundle.specs.Results.{Ok, Refused}
 
 -- numbers that are bytes
 abbrev pub Bytes : List ℕ → Type 0

@@ -29,8 +29,8 @@ use Rattle.bundle.specs.Members.{member_true, mem_member, member_false, not-memb
 use Rattle.bundle.specs.First.{first_told}
 use Rattle.bundle.specs.Refusals.{IsFolder, paths, none, path_at, ListedBefore, as_root, as_earlier, remapping_of, Repeated, Reserved, OddName, Misplaced, nowhere, a_file}
 use Rattle.bundle.specs.Refusals as words
-use Rattle.bundle.specs.declared.Checked.{Checked}
-use Rattle.bundle.specs.declared.Checked.TheVariants.{Ok, Refused}
+use Rattle.bundle.specs.Results.{Checked}
+use Rattle.bundle.specs.Results.{Ok, Refused}
 
 -- ONE TEST AFTER ANOTHER
 pub or-told : (a b : Checked) {n p : ℕ} → or_else a b ≡ Refused n p → (a ≡ Refused n p) ⊎ ((a ≡ Ok) × (b ≡ Refused n p))

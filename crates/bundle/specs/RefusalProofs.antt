@@ -22,8 +22,8 @@ use Rattle.bundle.specs.First.{first_told, first-only, first-all, ok-only, ok-al
 use Rattle.bundle.specs.Numbers.{RightForm, form-right, Late, conflicts-right}
 use Rattle.bundle.specs.Refusals.{BytesInForm, IsFolder, paths, none, path_at, ListedBefore, as_root, HasParent, GoodPath, GoodPaths, remapping_of, Repeated, GoodRemapping, GoodRemappings, root_of, FirstPath, FirstRemapping, Misplaced, nowhere, a_file, Refusal, twice, orphan, bad_context, bad_target, reserved, odd_name, same_remapping_case, bad_root, Twice, Orphan}
 use Rattle.bundle.specs.RefusalLaws.{or-told, path_told, listed-first, remap_told, remapped-first, before-only, before-all, parent-only, parent-all, located_in, located-ok, located-only, located-all, name-ok, name_in, name-only, repeated-only, repeated-all, folders-path, listed-path, path_inside, root-inside, remapping-inside}
-use Rattle.bundle.specs.declared.Checked.{Checked}
-use Rattle.bundle.specs.declared.Checked.TheVariants.{Ok, Refused}
+use Rattle.bundle.specs.Results.{Checked}
+use Rattle.bundle.specs.Results.{Ok, Refused}
 
 -- IN FORM
 -- the scan finds nothing exactly where the bytes are in form

@@ -18,8 +18,8 @@ use Rattle.bundle.specs.Answers.{both_ok, refused-told}
 use Rattle.bundle.specs.Numbers.{Undefined, RightForm, form-right}
 use Rattle.bundle.specs.Refusals.{BytesInForm, IsFolder, paths, path_at, as_root, as_earlier, remapping_of, Refusal, twice, orphan, bad_context, bad_target, reserved, odd_name, same_remapping_case, bad_root, Twice, Orphan, Faultless}
 use Rattle.bundle.specs.RefusalLaws.{or-told, located_in, located-all, name_in, name_11, name_12}
-use Rattle.bundle.specs.declared.Checked.{Checked}
-use Rattle.bundle.specs.declared.Checked.TheVariants.{Ok, Refused}
+use Rattle.bundle.specs.Results.{Checked}
+use Rattle.bundle.specs.Results.{Ok, Refused}
 use Rattle.bundle.specs.RefusalProofs.{in_form-only, in_form-all, decoded, formed-value, early, late, path_7, path_8, repeats_all, test-is, paths-ok-only, paths-ok-all, remappings-ok-only, remappings-ok-all, path-told, remapping-told, root_told, root_misplaced, root_ok, root_in, conflict_refused, refusal-inside, seven, eight}
 
 -- 1 TO 6 exactly where the bytes are not in form

@@ -4,10 +4,10 @@ use Rattle.std.specs.Prelude.{ℕ, zero, suc, ◌+◌, ◌-◌, ◌*◌, Bool, c
 use Rattle.names.specs.Path.{is_path}
 use Rattle.names.specs.Identifier.{is_identifier}
 use Rattle.bundle.specs.Limits.{defined, header, width, item_limit, most_uses, segment_limit, element_limit, depth_limit, use_kind, module_kind, ignored_kind}
-use Rattle.bundle.specs.declared.Scan.{Scan}
-use Rattle.bundle.specs.declared.Scan.TheVariants.{Next, Bad}
-use Rattle.bundle.specs.declared.Walk.{Walk}
-use Rattle.bundle.specs.declared.Walk.TheVariants.{Past, Fault}
+use Rattle.bundle.specs.Results.{Scan}
+use Rattle.bundle.specs.Results.{Next, Bad}
+use Rattle.bundle.specs.Results.{Walk}
+use Rattle.bundle.specs.Results.{Past, Fault}
 use Rattle.bundle.specs.declared.Width.{Width}
 use Rattle.bundle.specs.declared.Width.TheVariants.{Byte, Word}
 use Rattle.bundle.specs.declared.Field.{Field}

@@ -18,8 +18,8 @@ use Rattle.bundle.specs.Steps.{string-next, formed-next, count_next, read-then, 
 use Rattle.bundle.specs.Form.{Every, IsPath, IsName, IsAlias, Short, FormedElement, FormedRemapping}
 use Rattle.bundle.specs.Stand.{Bytes, Stands, stands-then, stands-count, text-length, stands-string}
 use Rattle.bundle.specs.declared.Width.{Width}
-use Rattle.bundle.specs.declared.Scan.{Scan}
-use Rattle.bundle.specs.declared.Scan.TheVariants.{Next}
+use Rattle.bundle.specs.Results.{Scan}
+use Rattle.bundle.specs.Results.{Next}
 use Rattle.bundle.specs.declared.Field.TheVariants.{Element as ElementField, Remapping as RemappingField}
 
 -- a field that was read from at to n

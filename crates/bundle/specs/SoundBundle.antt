@@ -25,14 +25,14 @@ use Rattle.bundle.specs.Answers.{refused-ok, both_ok}
 use Rattle.bundle.specs.Read.{after as then_ok}
 use Rattle.bundle.specs.declared.Width.{Width}
 use Rattle.bundle.specs.declared.Width.TheVariants.{Byte}
-use Rattle.bundle.specs.declared.Scan.{Scan}
-use Rattle.bundle.specs.declared.Scan.TheVariants.{Next, Bad}
-use Rattle.bundle.specs.declared.Walk.{Walk}
-use Rattle.bundle.specs.declared.Walk.TheVariants.{Past, Fault}
+use Rattle.bundle.specs.Results.{Scan}
+use Rattle.bundle.specs.Results.{Next, Bad}
+use Rattle.bundle.specs.Results.{Walk}
+use Rattle.bundle.specs.Results.{Past, Fault}
 use Rattle.bundle.specs.declared.Field.{Field}
 use Rattle.bundle.specs.declared.Field.TheVariants.{Path, Remapping as RemappingField}
-use Rattle.bundle.specs.declared.Checked.{Checked}
-use Rattle.bundle.specs.declared.Checked.TheVariants.{Ok}
+use Rattle.bundle.specs.Results.{Checked}
+use Rattle.bundle.specs.Results.{Ok}
 
 -- WHAT WAS NOT REFUSED
 pub record Went (X : Scan) (f : ℕ → Checked) : Type 0 where

@@ -22,8 +22,8 @@ use Rattle.bundle.specs.Form.{Every, IsName, FormedElement, Formed, Marked, item
 use Rattle.bundle.specs.Stand.{Bytes, Stands, stands-then, stands-length, stands-byte, stands-sized}
 use Rattle.bundle.specs.Sound.{Read, CountRead, formed-read, element-read, count-read}
 use Rattle.bundle.specs.declared.Width.TheVariants.{Byte}
-use Rattle.bundle.specs.declared.Scan.TheVariants.{Next}
-use Rattle.bundle.specs.declared.Walk.TheVariants.{Past, Fault}
+use Rattle.bundle.specs.Results.{Next}
+use Rattle.bundle.specs.Results.{Past, Fault}
 use Rattle.bundle.specs.declared.Field.TheVariants.{Name, Element as ElementField}
 
 -- the items x stand from at to end, with c items and u uses before them, c' and u' after them

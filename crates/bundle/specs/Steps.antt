@@ -12,10 +12,10 @@ use Rattle.bundle.specs.Scan.{byte, word, text, version_of, count, past_count, a
 use Rattle.bundle.specs.declared.Width.{Width}
 use Rattle.bundle.specs.declared.Width.TheVariants.{Byte, Word}
 use Rattle.bundle.specs.declared.Field.{Field}
-use Rattle.bundle.specs.declared.Scan.{Scan}
-use Rattle.bundle.specs.declared.Scan.TheVariants.{Next, Bad}
-use Rattle.bundle.specs.declared.Walk.{Walk}
-use Rattle.bundle.specs.declared.Walk.TheVariants.{Past, Fault}
+use Rattle.bundle.specs.Results.{Scan}
+use Rattle.bundle.specs.Results.{Next, Bad}
+use Rattle.bundle.specs.Results.{Walk}
+use Rattle.bundle.specs.Results.{Past, Fault}
 
 -- STRINGS
 pub text-cut : (s : List ℕ) (at n : ℕ) → n ≡ byte s at → length s - (at + 1) < n → take (length s - (at + 1)) (drop (at + 1) s) ≡ text s at

@@ -17,7 +17,7 @@ use Rattle.bundle.specs.Free.{conflicts-free, free-conflicts}
 use Rattle.bundle.specs.Marks.{file_marks, rising-less, files-rising, FoundFiles, files-found, behind-length}
 use Rattle.bundle.specs.Read.{verdict, value, refused, read}
 use Rattle.bundle.specs.declared.Width.{Width}
-use Rattle.bundle.specs.declared.Checked.TheVariants.{Ok, Refused}
+use Rattle.bundle.specs.Results.{Ok, Refused}
 
 -- REFUSAL AND ACCEPTANCE
 pub exclusive : (s : List ℕ) (b : Bundle) (n p : ℕ) → read s ≡ value b → read s ≡ refused n p → ⊥

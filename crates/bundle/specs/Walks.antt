@@ -10,9 +10,9 @@ use Rattle.names.specs.Identifier.{is_identifier}
 use Rattle.bundle.specs.Limits.{item_limit, most_uses, use_kind, module_kind, depth_limit}
 use Rattle.bundle.specs.Scan.{byte, version_of, and_then, scan_name, scan_path, scan_length, uses_after, scan_head, scan_body, scan_end, walk_on, walk_then, scan_item_with, siblings, scan_module, scan_item, scan_items, scan_file, scan_files}
 use Rattle.bundle.specs.Steps.{string-next, formed-next, length-next, end-next, Head, head-next, read-then, walked_on, walked_then}
-use Rattle.bundle.specs.declared.Scan.TheVariants.{Next, Bad}
-use Rattle.bundle.specs.declared.Walk.{Walk}
-use Rattle.bundle.specs.declared.Walk.TheVariants.{Past, Fault}
+use Rattle.bundle.specs.Results.{Next, Bad}
+use Rattle.bundle.specs.Results.{Walk}
+use Rattle.bundle.specs.Results.{Past, Fault}
 
 -- most: the most uses
 pub record Went (most at end a c u : ℕ) : Type 0 where

@@ -2,7 +2,7 @@
 // value that is. None of them needs a checked bundle: of other bytes they give the parts of what `decode` makes of them.
 ghost use Rattle.std.specs.Prelude.{◌≡◌, ℕ, suc, ◌+◌, ◌<◌, ◌≤◌, ◌^◌, length, get_or};
 ghost use Rattle.bundle.specs.Bundle.{Text, Remapping, File};
-ghost use Rattle.bundle.specs.Limits.{capacity, count_limit, string_size, element_size, file_size, depth_limit, use_kind, module_kind, ignored_kind};
+ghost use Rattle.bundle.specs.Limits.{capacity, count_limit, string_size, element_size, remapping_size, file_size, depth_limit, use_kind, module_kind, ignored_kind};
 ghost use Rattle.bundle.specs.Scan.{text, count, past_count};
 ghost use Rattle.bundle.specs.Decode.{each, after, after_element, after_remapping, after_file, element_at, remapping_at, file_at, items_at, decode, folder_first, folder_count, remapping_first, remapping_count, file_first, file_count};
 ghost use Rattle.bundle.specs.Parts.{kind_of, visibility_of, name_of, segments_of, elements_of, inner_of, rest_of};
@@ -10,7 +10,7 @@ ghost use Rattle.bundle.specs.Parts.{kind_of, visibility_of, name_of, segments_o
 use crate::Width;
 use crate::bytes::{after_length, after_string, byte_at, count_at, text_at, version_of};
 use crate::limits::{HEADER, file_width, folder_width, width_bytes};
-use crate::steps::{after_files, after_remappings, after_strings};
+use crate::steps::{Files, Remappings, Texts, past};
 
 // A counted list: the position of its first value, and how many there are.
 #[derive(Clone, Copy)]
@@ -50,7 +50,7 @@ pub fn remapping_list(s: &[u8]) -> Listed
     ensures { ((result.first ≡ remapping_first s.now) × (result.count ≡ remapping_count s.now)) × ((result.first < 2 ^ 18) × (result.count < count_limit)) }
 {
     let folders = folder_list(s);
-    let at = after_strings(s, folders.first, folders.count);
+    let at = past::<Texts>(s, folders.first, folders.count);
     listed_at(s, at, Width::Byte)
 }
 
@@ -58,7 +58,7 @@ pub fn file_list(s: &[u8]) -> Listed
     ensures { ((result.first ≡ file_first s.now) × (result.count ≡ file_count s.now)) × ((result.first < 2 ^ 20) × (result.count < count_limit)) }
 {
     let remappings = remapping_list(s);
-    let at = after_remappings(s, remappings.first, remappings.count);
+    let at = past::<Remappings>(s, remappings.first, remappings.count);
     listed_at(s, at, file_width(version_of(s)))
 }
 
@@ -94,7 +94,7 @@ pub fn folder_at(s: &[u8], i: usize) -> usize
     ensures { ((d : Text) → i < length (decode s.now).folders → get_or (decode s.now).folders i d ≡ text s.now result) × (result < 2 ^ 20) }
 {
     let folders = folder_list(s);
-    after_strings(s, folders.first, i)
+    past::<Texts>(s, folders.first, i)
 }
 
 pub fn remapping_at(s: &[u8], i: usize) -> usize
@@ -102,7 +102,7 @@ pub fn remapping_at(s: &[u8], i: usize) -> usize
     ensures { ((d : Remapping) → i < length (decode s.now).remappings → get_or (decode s.now).remappings i d ≡ remapping_at s.now result) × (result < 2 ^ 20) }
 {
     let remappings = remapping_list(s);
-    after_remappings(s, remappings.first, i)
+    past::<Remappings>(s, remappings.first, i)
 }
 
 pub fn file_at(s: &[u8], i: usize) -> usize
@@ -110,7 +110,7 @@ pub fn file_at(s: &[u8], i: usize) -> usize
     ensures { ((d : File) → i < length (decode s.now).files → get_or (decode s.now).files i d ≡ file_at s.now result) × (result < 2 ^ 26) }
 {
     let files = file_list(s);
-    after_files(s, files.first, i)
+    past::<Files>(s, files.first, i)
 }
 
 // The string at a position: a folder, a segment.
@@ -126,6 +126,15 @@ pub fn next_string(s: &[u8], at: usize) -> usize
     ensures { (result ≡ after s.now at) × (result ≤ at + string_size) }
 {
     after_string(s, at)
+}
+
+pub fn next_remapping(s: &[u8], at: usize) -> usize
+    requires { at < 2 ^ 61 }
+    ensures { (result ≡ after_remapping s.now at) × (result ≤ at + remapping_size) }
+{
+    let name = after_string(s, at);
+    let target = after_string(s, name);
+    after_string(s, target)
 }
 
 pub fn next_file(s: &[u8], at: usize) -> usize
@@ -243,7 +252,7 @@ pub fn use_elements(s: &[u8], at: usize) -> Listed
     ensures { ((depth end : ℕ) → at < end → kind_of (items_at depth s.now end at) ≡ use_kind → each (after_element s.now) (element_at s.now) result.count result.first ≡ elements_of (items_at depth s.now end at)) × ((result.first ≤ at + file_size) × (result.count < count_limit)) }
 {
     let segments = listed_at(s, at + 4, Width::Byte);
-    let elements = after_strings(s, segments.first, segments.count);
+    let elements = past::<Texts>(s, segments.first, segments.count);
     listed_at(s, elements, Width::Byte)
 }
 

@@ -6,20 +6,11 @@ ghost use Rattle.bundle.specs.Decode.{after, after_length};
 
 use crate::Width;
 
-fn wide(b: u8) -> usize
-    ensures { (result ≡ b) × (result < capacity Width.Byte) }
-{
-    b as usize
-}
-
 // The byte at `at`, and 0 past the end.
 pub fn byte_at(s: &[u8], at: usize) -> usize
     ensures { (result ≡ byte s.now at) × (result < capacity Width.Byte) }
 {
-    if at < s.len() {
-        return wide(s[at]);
-    }
-    0
+    s.get(at).map_or(0, |b| usize::from(*b))
 }
 
 // The 2-byte number at `at`.
@@ -56,7 +47,7 @@ pub fn text_at(s: &[u8], at: usize) -> &[u8]
     if s.len() <= at {
         return &s[..0];
     }
-    let n = wide(s[at]);
+    let n = usize::from(s[at]);
     let a = at + 1;
     if s.len() - a < n {
         return &s[a..];

@@ -1,71 +1,75 @@
 // Steps over the values of a list.
-ghost use Rattle.std.specs.Prelude.{◌≡◌, ◌+◌, ◌*◌, ◌<◌, ◌≤◌, ◌^◌};
+ghost use Rattle.std.specs.Prelude.{◌≡◌, ℕ, List, ◌+◌, ◌*◌, ◌<◌, ◌≤◌, ◌^◌};
+ghost use Rattle.std.proofs.Common.{rules};
 ghost use Rattle.bundle.specs.Limits.{count_limit, string_size, remapping_size, file_size};
 ghost use Rattle.bundle.specs.Decode.{far, after, after_file, after_remapping};
-ghost use Rattle.bundle.specs.Lists.{skip};
 
-use crate::bytes::{after_length, after_string};
+use crate::access::{next_file, next_remapping, next_string};
 
-// Past the folder, or the file, at `at`.
-pub fn next_path(s: &[u8], files: bool, at: usize) -> usize
-    requires { at < 2 ^ 62 }
-    ensures { (result ≡ skip files s.now at) × (result ≤ at + file_size) }
-{
-    let e = after_string(s, at);
-    if files {
-        return after_length(s, e);
+// What a counted list holds: where the one after it starts, at most `size` bytes on.
+pub trait Part {
+    ghost after: { List ℕ → ℕ → ℕ };
+
+    ghost size: { ℕ };
+
+    fn next(s: &[u8], at: usize) -> usize
+        requires { at < 2 ^ 61 }
+        ensures { (result ≡ after s.now at) × (result ≤ at + size) };
+
+    ghost small: { size ≤ 2 ^ 20 };
+}
+
+// Folders, or segments.
+pub struct Texts;
+
+pub struct Remappings;
+
+pub struct Files;
+
+impl Part for Texts {
+    ghost after = { after };
+
+    ghost size = { string_size };
+
+    fn next(s: &[u8], at: usize) -> usize {
+        next_string(s, at)
     }
-    e
+
+    ghost small = { Prim.search rules };
 }
 
-// Past the remapping at `at`.
-pub fn next_remapping(s: &[u8], at: usize) -> usize
-    requires { at < 2 ^ 61 }
-    ensures { (result ≡ after_remapping s.now at) × (result ≤ at + remapping_size) }
-{
-    let a = after_string(s, at);
-    let b = after_string(s, a);
-    after_string(s, b)
+impl Part for Remappings {
+    ghost after = { after_remapping };
+
+    ghost size = { remapping_size };
+
+    fn next(s: &[u8], at: usize) -> usize {
+        next_remapping(s, at)
+    }
+
+    ghost small = { Prim.search rules };
 }
 
-// Past n strings.
-pub fn after_strings(s: &[u8], at: usize, n: usize) -> usize
+impl Part for Files {
+    ghost after = { after_file };
+
+    ghost size = { file_size };
+
+    fn next(s: &[u8], at: usize) -> usize {
+        next_file(s, at)
+    }
+
+    ghost small = { Prim.search rules };
+}
+
+// Past n of them.
+pub fn past<P: Part>(s: &[u8], at: usize, n: usize) -> usize
     requires { (at < 2 ^ 60) × (n < count_limit) }
-    ensures { (result ≡ far (after s.now) n at) × (result ≤ at + n * string_size) }
+    ensures { (result ≡ far (P.after s.now) n at) × (result ≤ at + n * P.size) }
 {
     let mut a = at;
-    let mut i = 0;
-    while i < n {
-        a = after_string(s, a);
-        i += 1;
-    }
-    a
-}
-
-// Past n remappings.
-pub fn after_remappings(s: &[u8], at: usize, n: usize) -> usize
-    requires { (at < 2 ^ 60) × (n < count_limit) }
-    ensures { (result ≡ far (after_remapping s.now) n at) × (result ≤ at + n * remapping_size) }
-{
-    let mut a = at;
-    let mut i = 0;
-    while i < n {
-        a = next_remapping(s, a);
-        i += 1;
-    }
-    a
-}
-
-// Past n files.
-pub fn after_files(s: &[u8], at: usize, n: usize) -> usize
-    requires { (at < 2 ^ 60) × (n < count_limit) }
-    ensures { (result ≡ far (after_file s.now) n at) × (result ≤ at + n * file_size) }
-{
-    let mut a = at;
-    let mut i = 0;
-    while i < n {
-        a = next_path(s, true, a);
-        i += 1;
+    for _ in 0..n {
+        a = P::next(s, a);
     }
     a
 }

@@ -8,7 +8,7 @@ use Rattle.bundle.specs.Bundle.{Text, File}
 use Rattle.bundle.specs.Limits.{file_limit}
 use Rattle.bundle.specs.Decode.{file_at, decode}
 use Rattle.bundle.specs.Read.{verdict}
-use Rattle.bundle.specs.declared.Checked.TheVariants.{Ok}
+use Rattle.bundle.specs.Results.{Ok}
 use Rattle.card.specs.Layout.{start_at, folders_of, files_of}
 use Rattle.card.specs.Card.{CardIs, nodes_in}
 use Rattle.resolution.specs.Lists.{Lists}

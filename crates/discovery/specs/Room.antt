@@ -13,7 +13,7 @@ use Rattle.bundle.specs.ListLaws.{each-length}
 use Rattle.bundle.specs.SoundBundle.{went_on, form-parts, both-pass}
 use Rattle.bundle.specs.Theorems.{accepted}
 use Rattle.bundle.specs.AcceptedTheorems.{accepted-read}
-use Rattle.bundle.specs.declared.Checked.TheVariants.{Ok}
+use Rattle.bundle.specs.Results.{Ok}
 use Rattle.discovery.specs.Discovery.{uses}
 
 -- the uses of all files

@@ -12,8 +12,8 @@ use Rattle.bundle.specs.Decode.{decode}
 use Rattle.bundle.specs.Stand.{Bytes}
 use Rattle.bundle.specs.Read.{verdict}
 use Rattle.bundle.specs.Theorems.{accepted, sound}
-use Rattle.bundle.specs.declared.Checked.{Checked}
-use Rattle.bundle.specs.declared.Checked.TheVariants.{Ok, Refused}
+use Rattle.bundle.specs.Results.{Checked}
+use Rattle.bundle.specs.Results.{Ok, Refused}
 use Rattle.resolution.specs.Lists.{Lists, lists_of}
 use Rattle.resolution.specs.Call.{position}
 use Rattle.driver.specs.declared.Graph.{Graph}

@@ -9,7 +9,7 @@ use Rattle.bundle.specs.Read.{verdict}
 use Rattle.bundle.specs.Form.{Every}
 use Rattle.bundle.specs.Theorems.{accepted, sound}
 use Rattle.bundle.specs.AcceptedTheorems.{accepted-read}
-use Rattle.bundle.specs.declared.Checked.TheVariants.{Ok}
+use Rattle.bundle.specs.Results.{Ok}
 use Rattle.card.specs.Layout.{folders_of}
 use Rattle.card.specs.Card.{CardIs}
 use Rattle.card.specs.Laws.{node-file}

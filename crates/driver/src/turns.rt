@@ -2,7 +2,7 @@
 ghost use Rattle.std.specs.Prelude.{◌≡◌, ◌+◌, ◌<◌};
 ghost use Rattle.bundle.specs.Decode.{decode};
 ghost use Rattle.bundle.specs.Read.{verdict};
-ghost use Rattle.bundle.specs.declared.Checked.TheVariants.{Ok};
+ghost use Rattle.bundle.specs.Results.{Ok};
 ghost use Rattle.card.specs.Card.{CardIs};
 ghost use Rattle.driver.specs.Complete.{Table, Complete};
 ghost use Rattle.discovery.specs.Places.{Fresh, Places};

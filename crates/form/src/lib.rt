@@ -6,14 +6,15 @@ mod items;
 mod lists;
 
 ghost use Rattle.std.specs.Prelude.{◌≡◌};
+ghost use Rattle.bundle.specs.Told.{checked};
 ghost use Rattle.bundle.specs.Read.{form as read_form};
 
-use bundle::Checked;
 pub use fields::{list_end, nothing_left};
+use refusal::Refusal;
 
 // 1 to 6. Ruled out: `Ok` for bytes that the header's length does not count.
-pub fn check_form(s: &[u8]) -> Checked
-    ensures { result ≡ read_form s.now }
+pub fn check_form(s: &[u8]) -> Result<(), Refusal>
+    ensures { checked result ≡ read_form s.now }
 {
     lists::form(s)
 }

@@ -8,7 +8,7 @@ use Rattle.bundle.specs.Bundle.{Bundle}
 use Rattle.bundle.specs.Decode.{decode}
 use Rattle.bundle.specs.Read.{Reading, value, refused, read, verdict}
 use Rattle.bundle.specs.Theorems.{accepted}
-use Rattle.bundle.specs.declared.Checked.TheVariants.{Ok}
+use Rattle.bundle.specs.Results.{Ok}
 use Rattle.discovery.specs.Discovery.{Fault}
 use Rattle.order.specs.Run.{ordered}
 use Rattle.order.specs.Run as order

@@ -6,8 +6,8 @@ use Rattle.bundle.specs.Bundle.{File, Bundle}
 use Rattle.bundle.specs.Decode.{decode}
 use Rattle.bundle.specs.Read.{verdict, read}
 use Rattle.bundle.specs.Theorems.{accepted, told}
-use Rattle.bundle.specs.declared.Checked.{Checked}
-use Rattle.bundle.specs.declared.Checked.TheVariants.{Ok, Refused}
+use Rattle.bundle.specs.Results.{Checked}
+use Rattle.bundle.specs.Results.{Ok, Refused}
 use Rattle.resolution.specs.Call.{position}
 use Rattle.discovery.specs.Discovery.{discover_dependencies, paths_of}
 use Rattle.discovery.specs.Right.{discovered}

@@ -19,7 +19,7 @@ use Rattle.bundle.specs.Stand.{Bytes}
 use Rattle.bundle.specs.Decode.{decode}
 use Rattle.bundle.specs.Read.{verdict}
 use Rattle.bundle.specs.Theorems.{sound, accepted, told}
-use Rattle.bundle.specs.declared.Checked.TheVariants.{Ok, Refused}
+use Rattle.bundle.specs.Results.{Ok, Refused}
 use Rattle.resolution.specs.Call.{position}
 use Rattle.driver.specs.declared.Graph.{Graph}
 use Rattle.discovery.specs.Discovery.{Fault, discover_dependencies, paths_of}

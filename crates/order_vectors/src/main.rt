@@ -4,7 +4,7 @@
 
 ghost use Rattle.std.specs.Prelude.{◌≡◌};
 ghost use Rattle.bundle.specs.Read.{verdict};
-ghost use Rattle.bundle.specs.declared.Checked.TheVariants.{Ok};
+ghost use Rattle.bundle.specs.Results.{Ok};
 
 use bundle::Checked;
 use discovery::UNITS;

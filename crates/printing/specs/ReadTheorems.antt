@@ -12,9 +12,9 @@ use Rattle.bundle.specs.Bundle.{Bundle}
 use Rattle.bundle.specs.Conflicts.{or_else, conflicts}
 use Rattle.bundle.specs.Decode.{decode}
 use Rattle.bundle.specs.Read.{form, lists, verdict, after, reading, read}
-use Rattle.bundle.specs.declared.Scan.TheVariants.{Bad}
-use Rattle.bundle.specs.declared.Checked.{Checked}
-use Rattle.bundle.specs.declared.Checked.TheVariants.{Refused}
+use Rattle.bundle.specs.Results.{Bad}
+use Rattle.bundle.specs.Results.{Checked}
+use Rattle.bundle.specs.Results.{Refused}
 
 -- what is told of bytes that go on past the longest length: the version, or the first byte past what is declared
 abbrev past_length : Bool → ℕ → Checked

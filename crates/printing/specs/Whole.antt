@@ -17,8 +17,8 @@ use Rattle.bundle.specs.Form.{WellFormed}
 use Rattle.bundle.specs.Read.{refused, verdict, read}
 use Rattle.bundle.specs.Stand.{Bytes}
 use Rattle.bundle.specs.Theorems.{accepted, told, sound}
-use Rattle.bundle.specs.declared.Checked.{Checked}
-use Rattle.bundle.specs.declared.Checked.TheVariants.{Ok, Refused}
+use Rattle.bundle.specs.Results.{Checked}
+use Rattle.bundle.specs.Results.{Ok, Refused}
 use Rattle.names.specs.Bytes.{ascii}
 use Rattle.names.specs.Decimal.{decimal}
 use Rattle.resolution.specs.Call.{position}

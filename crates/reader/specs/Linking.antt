@@ -14,8 +14,8 @@ use Rattle.bundle.specs.Scan.{text}
 use Rattle.bundle.specs.Decode.{each, after, after_file, file_at, folder_count, folder_first, file_count, file_first, decode}
 use Rattle.bundle.specs.Conflicts.{placed_at, any, listed, folders, files}
 use Rattle.bundle.specs.Members.{mem_get_d, any_true, mem_any, mem_member, get_d_mem}
-use Rattle.bundle.specs.declared.Checked.{Checked}
-use Rattle.bundle.specs.declared.Checked.TheVariants.{Ok, Refused}
+use Rattle.bundle.specs.Results.{Checked}
+use Rattle.bundle.specs.Results.{Ok, Refused}
 use Rattle.card.specs.Layout.{node_limit, bucket_limit, card_size, starts_at, hashes_at, nexts_at, heads_at, key_at, parent_at, start_at, hash_at, next_at, key_of}
 use Rattle.card.specs.Index.{dec_eq, last_in, last_agree, last-below, last_key, last-above, Looked}
 use Rattle.card.specs.Card.{nodes_in, hash_of, bucket_at, IndexOf, FolderAt, InFolder, is_at, is_up_to, Chain}

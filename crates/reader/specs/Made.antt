@@ -26,8 +26,8 @@ use Rattle.bundle.specs.Members.{member_true, mem_member, get_d_mem, mem_get_d, 
 use Rattle.bundle.specs.Read.{form, verdict}
 use Rattle.bundle.specs.Stand.{Bytes}
 use Rattle.bundle.specs.SoundBundle.{form-sound}
-use Rattle.bundle.specs.declared.Checked.{Checked}
-use Rattle.bundle.specs.declared.Checked.TheVariants.{Ok, Refused}
+use Rattle.bundle.specs.Results.{Checked}
+use Rattle.bundle.specs.Results.{Ok, Refused}
 use Rattle.card.specs.Layout.{node_limit, card_size, key_limit, starts_at, key_at, marks_at, folders_at, remappings_at, files_at, root_at, parent_at, start_at, mark_at, context_at, target_at, place_at, folders_of, remappings_of, files_of, root_of}
 use Rattle.card.specs.Tree.{Tree}
 use Rattle.card.specs.Index.{dec_eq}

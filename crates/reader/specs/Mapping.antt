@@ -15,8 +15,8 @@ use Rattle.bundle.specs.Scan.{text}
 use Rattle.bundle.specs.Decode.{each, far, after, after_remapping, decode}
 use Rattle.bundle.specs.Conflicts.{Placed, PlacedRemapping, placed_at, placed_remapping_at, or_else, any, located, named, same_remapping, remapped}
 use Rattle.bundle.specs.ListLaws.{each_more, far-more}
-use Rattle.bundle.specs.declared.Checked.{Checked}
-use Rattle.bundle.specs.declared.Checked.TheVariants.{Ok, Refused}
+use Rattle.bundle.specs.Results.{Checked}
+use Rattle.bundle.specs.Results.{Ok, Refused}
 use Rattle.card.specs.Layout.{node_limit, card_size, marks_at, contexts_at, targets_at, places_at, mark_at, context_at, target_at, place_at}
 use Rattle.card.specs.Index.{dec_eq, Looked}
 use Rattle.card.specs.Card.{nodes_in, IndexOf, FolderAt, InFolder, is_at}

@@ -8,7 +8,7 @@ mod paths;
 
 ghost use Rattle.std.specs.Prelude.{◌≡◌, length};
 ghost use Rattle.bundle.specs.Read.{verdict};
-ghost use Rattle.bundle.specs.declared.Checked.TheVariants as Checked;
+ghost use Rattle.bundle.specs.Results as Checked;
 ghost use Rattle.card.specs.Layout.{card_size};
 ghost use Rattle.card.specs.Card.{CardIs};
 

@@ -3,7 +3,7 @@ ghost use Rattle.std.specs.Prelude.{◌≡◌, ◌+◌, ◌<◌, ◌^◌, length
 ghost use Rattle.bundle.specs.Decode.{decode};
 ghost use Rattle.bundle.specs.Conflicts.{conflicts};
 ghost use Rattle.bundle.specs.Read.{form};
-ghost use Rattle.bundle.specs.declared.Checked.TheVariants as Checked;
+ghost use Rattle.bundle.specs.Results as Checked;
 ghost use Rattle.card.specs.Layout.{node_limit, card_size};
 ghost use Rattle.card.specs.Card.{IndexOf, CardIs, nodes_in};
 ghost use Rattle.reader.specs.Made.{Listing, Begun, finished, Ended};

@@ -8,9 +8,9 @@ use borrow.Author.Tests.{le-leb, lt-leb}
 use Rattle.bundle.specs.Bundle.{Text}
 use Rattle.bundle.specs.Limits.{remapping_limit}
 use Rattle.bundle.specs.Encode.{counted}
-use Rattle.bundle.specs.declared.Checked.{Checked}
-use Rattle.bundle.specs.declared.Checked.TheVariants.{Ok}
-use Rattle.bundle.specs.declared.Checked.TheVariants.{Refused as Fault}
+use Rattle.bundle.specs.Results.{Checked}
+use Rattle.bundle.specs.Results.{Ok}
+use Rattle.bundle.specs.Results.{Refused as Fault}
 use Rattle.encoder.specs.Started.{started}
 use Rattle.encoder.specs.Parts.{Front, put_first}
 use Rattle.remapping_lines.specs.Lines.{Line, lines_of, remapping_of, lines_verdict, verdict, remappings_of, section, lines_answer, lines_buffer}

@@ -7,9 +7,9 @@ use Rattle.bundle.specs.Bundle.{Text, Remapping}
 use Rattle.bundle.specs.Limits.{remapping_limit}
 use Rattle.bundle.specs.Encode.{counted, remapping}
 use Rattle.bundle.specs.Conflicts.{or_else}
-use Rattle.bundle.specs.declared.Checked.{Checked}
-use Rattle.bundle.specs.declared.Checked.TheVariants.{Ok}
-use Rattle.bundle.specs.declared.Checked.TheVariants.{Refused as Fault}
+use Rattle.bundle.specs.Results.{Checked}
+use Rattle.bundle.specs.Results.{Ok}
+use Rattle.bundle.specs.Results.{Refused as Fault}
 use Rattle.encoder.specs.Started.{started}
 use Rattle.remapping_lines.specs.declared.Lines.{Lines}
 use Rattle.remapping_lines.specs.declared.Lines.TheVariants.{Section, Refused}

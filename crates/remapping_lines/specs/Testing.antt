@@ -13,9 +13,9 @@ use Rattle.bundle.specs.Bundle.{Text}
 use Rattle.bundle.specs.Limits.{capacity, remapping_limit, remapping_size}
 use Rattle.bundle.specs.Encode.{string, joined, remapping}
 use Rattle.bundle.specs.declared.Width.TheVariants.{Byte}
-use Rattle.bundle.specs.declared.Checked.{Checked}
-use Rattle.bundle.specs.declared.Checked.TheVariants.{Ok}
-use Rattle.bundle.specs.declared.Checked.TheVariants.{Refused as Fault}
+use Rattle.bundle.specs.Results.{Checked}
+use Rattle.bundle.specs.Results.{Ok}
+use Rattle.bundle.specs.Results.{Refused as Fault}
 use Rattle.bundle.specs.Conflicts.{or_else}
 use Rattle.bundle.specs.Answers.{refused-ok, both_ok}
 use Rattle.bundle.specs.Form.{Every, FormedRemapping}

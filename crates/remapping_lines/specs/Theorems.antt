@@ -24,10 +24,10 @@ use Rattle.bundle.specs.First.{first_told, tested, first-only, first-all}
 use Rattle.bundle.specs.declared.Width.{Width}
 use Rattle.bundle.specs.declared.Width.TheVariants.{Byte}
 use Rattle.bundle.specs.declared.Field.TheVariants.{Remapping as RemappingField}
-use Rattle.bundle.specs.declared.Scan.TheVariants.{Next}
-use Rattle.bundle.specs.declared.Checked.{Checked}
-use Rattle.bundle.specs.declared.Checked.TheVariants.{Ok}
-use Rattle.bundle.specs.declared.Checked.TheVariants.{Refused as Fault}
+use Rattle.bundle.specs.Results.{Next}
+use Rattle.bundle.specs.Results.{Checked}
+use Rattle.bundle.specs.Results.{Ok}
+use Rattle.bundle.specs.Results.{Refused as Fault}
 use Rattle.encoder.specs.Started.{started}
 use Rattle.encoder.specs.Parts.{started-length}
 use Rattle.remapping_lines.specs.Lines.{equals, name_size, has, Line, lines_of, left, remapping_of, target_place, name_place, unless, line_verdict, lines_verdict, verdict, remappings_of, section, lines_answer, lines_buffer}

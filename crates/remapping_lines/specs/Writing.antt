@@ -6,7 +6,7 @@ use Rattle.bundle.specs.Bundle.{Text}
 use Rattle.bundle.specs.Limits.{capacity, remapping_size}
 use Rattle.bundle.specs.Encode.{string, joined, remapping}
 use Rattle.bundle.specs.declared.Width.TheVariants.{Byte}
-use Rattle.bundle.specs.declared.Checked.TheVariants.{Ok}
+use Rattle.bundle.specs.Results.{Ok}
 use Rattle.bundle.specs.Form.{Every}
 use Rattle.encoder.specs.Started.{started}
 use Rattle.encoder.specs.Parts.{Front, Filled, filled_none, front-room, front_fits, front-done, same-filled}

@@ -8,8 +8,8 @@ use Rattle.bundle.specs.Scan.{text, and_then, scan_list, scan_end}
 use Rattle.bundle.specs.Decode.{after, counted}
 use Rattle.bundle.specs.Read.{Reading, value, refused, read}
 use Rattle.bundle.specs.declared.Width.TheVariants.{Byte}
-use Rattle.bundle.specs.declared.Scan.{Scan}
-use Rattle.bundle.specs.declared.Scan.TheVariants.{Next, Bad}
+use Rattle.bundle.specs.Results.{Scan}
+use Rattle.bundle.specs.Results.{Next, Bad}
 use Rattle.bundle.specs.declared.Field.TheVariants.{Name}
 use Rattle.resolution.specs.Lists.{Lists, lists_of}
 use Rattle.resolution.specs.Resolution.{Resolved, to, fails, number, resolve_path_internal}

@@ -12,7 +12,7 @@ use Rattle.bundle.specs.Steps.{read-then}
 use Rattle.bundle.specs.Sound.{formed-read, count-read}
 use Rattle.bundle.specs.declared.Field.TheVariants.{Name}
 use Rattle.bundle.specs.declared.Width.TheVariants.{Byte}
-use Rattle.bundle.specs.declared.Scan.TheVariants.{Next}
+use Rattle.bundle.specs.Results.{Next}
 use Rattle.resolution.specs.Call.{scan_segments, segments}
 
 pub segments-named : (u : List ℕ) → Bytes u → (x : ℕ) → scan_segments u ≡ Next x → Every IsName (segments u)

@@ -11,8 +11,8 @@ use Rattle.bundle.specs.Decode.{decode}
 use Rattle.driver.specs.declared.Graph.{Graph}
 use Rattle.driver.specs.Turns.{Discovers}
 use Rattle.order.specs.declared.Answer.{Answer}
-use Rattle.bundle.specs.declared.Checked.{Checked}
-use Rattle.bundle.specs.declared.Checked.TheVariants.{Ok, Refused}
+use Rattle.bundle.specs.Results.{Checked}
+use Rattle.bundle.specs.Results.{Ok, Refused}
 
 -- a truth
 abbrev pub bit_of : Bool → ℕ

@@ -11,8 +11,8 @@ use Rattle.bundle.proofs.access.file_list.Goals as goal
 pub returns : goal.returns
 returns c =
     let w : c.file_width.result ≡ file_width (version_of c.args.s.now) = c.file_width.ensures ∙ ap file_width c.version_of.ensures in
-    let at : c.after_remappings-at.result ≡ files_at c.args.s.now = c.after_remappings-at.ensures.0 ∙ rw (c.remapping_list-remappings.ensures.0.0, c.remapping_list-remappings.ensures.0.1) in
-    let near : c.listed_at.result.first ≡ past_count (file_width (version_of c.args.s.now)) c.after_remappings-at.result = c.listed_at.ensures.0.0 ∙ rw w in
+    let at : c.past-at.result ≡ files_at c.args.s.now = c.past-at.ensures.0 ∙ rw (c.remapping_list-remappings.ensures.0.0, c.remapping_list-remappings.ensures.0.1) in
+    let near : c.listed_at.result.first ≡ past_count (file_width (version_of c.args.s.now)) c.past-at.result = c.listed_at.ensures.0.0 ∙ rw w in
     let first : c.listed_at.result.first ≡ file_first c.args.s.now = near ∙ rw at in
     let n : c.listed_at.result.count ≡ file_count c.args.s.now = c.listed_at.ensures.0.1 ∙ rw (w, at) in
     let few : c.listed_at.result.count < capacity (file_width (version_of c.args.s.now)) = rw w at c.listed_at.ensures.1 in

@@ -6,7 +6,7 @@ use Rattle.bundle.proofs.access.remapping_list.Goals as goal
 
 pub returns : goal.returns
 returns c =
-    let at : c.after_strings-at.result ≡ remappings_at c.args.s.now = c.after_strings-at.ensures.0 ∙ rw (c.folder_list-folders.ensures.0.0, c.folder_list-folders.ensures.0.1) in
+    let at : c.past-at.result ≡ remappings_at c.args.s.now = c.past-at.ensures.0 ∙ rw (c.folder_list-folders.ensures.0.0, c.folder_list-folders.ensures.0.1) in
     let first : c.listed_at.result.first ≡ remapping_first c.args.s.now = c.listed_at.ensures.0.0 ∙ rw at in
     let n : c.listed_at.result.count ≡ remapping_count c.args.s.now = c.listed_at.ensures.0.1 ∙ rw at in
     ((first, n), omega arith)

@@ -8,8 +8,8 @@ returns-then-s-at c = let z = get_or-eq_default c.args.s.now 0 {n = c.args.at} c
 
 pub returns-then-s-a : goal.returns-then-s-a
 returns-then-s-a c =
-    text-cut c.args.s.now c.args.at _ c.wide-n.ensures.0 c.if-s-a.true
+    text-cut c.args.s.now c.args.at _ c.from-n.ensures c.if-s-a.true
 
 pub returns : goal.returns
 returns c =
-    text-whole c.args.s.now c.args.at _ c.wide-n.ensures.0
+    text-whole c.args.s.now c.args.at _ c.from-n.ensures

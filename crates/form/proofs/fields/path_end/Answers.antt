@@ -1,25 +1,10 @@
--- `form::fields::path_end` meets its contract, way by way. Assumes nothing.
-use mathlib.Core.Path.{sym, ◌∙◌}
+-- `form::fields::path_end`: its string ends within the bytes. Assumes nothing.
+use mathlib.Core.Path.{sym}
 use native.Mathlib.Omega.{arith}
 use Rattle.bundle.specs.Steps.{string-next}
-use Rattle.bundle.specs.Scan.{scan_formed}
 use Rattle.form.proofs.fields.path_end.Goals as goal
 
 pub text_at-requires : goal.text_at-requires
 text_at-requires c =
-    let b = string-next c.args.s.now c.args.end c.args.at (sym c.string_end-string.ensures ∙ c.in-Next.is) in
+    let b = string-next c.args.s.now c.args.end c.args.at (sym c.in_ok-next.ensures) in
     omega (arith, c.well_formed.0)
-
-pub returns-in-Bad : goal.returns-in-Bad
-unfolding scan_formed
-returns-in-Bad c = rw (sym c.string_end-string.ensures ∙ c.in-Bad.is)
-
-pub returns-then-is_path : goal.returns-then-is_path
-unfolding scan_formed
-returns-then-is_path c =
-    rw (sym c.string_end-string.ensures ∙ c.in-Next.is) (simp (← c.text_at.ensures, ← c.is_path.ensures, c.if-is_path.true))
-
-pub returns-else-is_path : goal.returns-else-is_path
-unfolding scan_formed
-returns-else-is_path c =
-    rw (sym c.string_end-string.ensures ∙ c.in-Next.is) (simp (← c.text_at.ensures, ← c.is_path.ensures, c.if-is_path.false))

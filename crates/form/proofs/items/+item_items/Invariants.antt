@@ -10,9 +10,9 @@ decreases-item l = 2 * l.depth
 abbrev pub decreases-items : goal.decreases-items
 decreases-items l = 2 * l.depth + 1
 
-abbrev pub invariant-items-loop-a : goal.invariant-items-loop-a
-invariant-items-loop-a l =
-    ((l.a ≤ l.end) × (l.c ≤ item_limit) × (l.u ≤ use_limit)) × (scan_items l.depth l.s l.end l.a l.c l.u ≡ scan_items l.depth l.s l.end l.at l.count l.uses)
+abbrev pub invariant-items-loop-x : goal.invariant-items-loop-x
+invariant-items-loop-x l =
+    ((l.x.at ≤ l.end) × (l.x.items ≤ item_limit) × (l.x.uses ≤ use_limit)) × (scan_items l.depth l.s l.end l.x.at l.x.items l.x.uses ≡ scan_items l.depth l.s l.end l.fn.w.at l.fn.w.items l.fn.w.uses)
 
-abbrev pub decreases-items-loop-a : goal.decreases-items-loop-a
-decreases-items-loop-a l = l.end - l.a
+abbrev pub decreases-items-loop-x : goal.decreases-items-loop-x
+decreases-items-loop-x l = l.end - l.x.at
