@@ -166,7 +166,14 @@ fn find_up_to(s: &[u8], card: &[u32; CARD], t: &[u8], last: usize) -> Option<usi
     ensures { Looked (is_up_to (nodes_in s.now) t.now last) (length (nodes_in s.now)) result }
 {
     let h = hash_of(card[KEY] as usize, t);
-    walk(s, card, h, t, card[HEADS + h / HIGH % BUCKETS] as usize, last)
+    walk(
+        s,
+        card,
+        h,
+        t,
+        card[HEADS + h / HIGH % BUCKETS] as usize,
+        last,
+    )
 }
 
 // The index of a path that is not `/`.
