@@ -17,8 +17,8 @@ abbrev pub walked : Result Passed Refusal → Walk
 walked (Ok w) = Past w.at w.items w.uses
 walked (Err e) = Fault (number_of e.cause) e.place
 
-abbrev pub checked : Result Unit Refusal → Checked
-checked (Ok u) = results.Ok
+abbrev pub checked : {A : Type 0} → Result A Refusal → Checked
+checked (Ok x) = results.Ok
 checked (Err e) = Refused (number_of e.cause) e.place
 
 -- an item's kind as a bundle has it: 1, 2 and 4 have a name

@@ -1,5 +1,5 @@
 -- What a card means: numbers by which the listed paths of a bundle are a tree with an index. Assumes nothing.
-use Rattle.std.specs.Prelude.{ℕ, suc, ◌+◌, ◌%◌, ◌/◌, ◌≤◌, ◌<◌, ◌^◌, Bool, ◌&&◌, not, ◌≡◌, get_or, drop}
+use Rattle.std.specs.Prelude.{ℕ, suc, ◌+◌, ◌%◌, ◌/◌, ◌≤◌, ◌<◌, ◌^◌, Bool, ◌&&◌, not, ◌≡◌, Option, Some, None, get_or, drop}
 use Rattle.std.proofs.Common.{arith, ap, ◌∙◌, length-append}
 use Rattle.std.proofs.Math.Decide.{dec_lt}
 use Rattle.std.proofs.Math.Bool.{true, false, cond}
@@ -19,8 +19,6 @@ use Rattle.bundle.specs.Decode.{decode, file_at, remapping_at}
 use Rattle.card.specs.Layout.{node_limit, bucket_limit, card_size, key_limit, parent_at, start_at, hash_at, next_at, mark_at, head_at, context_at, target_at, place_at, folders_of, remappings_of, files_of, root_of, key_of}
 use Rattle.card.specs.Tree.{Tree, ascends, below-is, hit-is}
 use Rattle.card.specs.Index.{last_in, last-below, last_key, last-above, Chained, Looked, Walking, walking_start, walking_on, walking_found, walking_end, hashed, hashed-append}
-use Rattle.card.specs.declared.look.Near.{Near}
-use Rattle.card.specs.declared.look.Near.TheVariants.{At, Nothing}
 
 -- `/`, the folders and the files, in the bundle's order: an index is a place in this list
 abbrev pub nodes_of : Bundle → List Text
@@ -66,9 +64,9 @@ pub record FolderAt (b : Bundle) (p : Text) (i : ℕ) : Type 0 where
   pub path : get_or (nodes_of b) i [] ≡ p
 
 -- what is found of a folder's path
-abbrev pub InFolder : Bundle → Text → Near → Type 0
-InFolder b t (At i) = FolderAt b t i
-InFolder b t Nothing = member t (with_slash b.folders) ≡ false
+abbrev pub InFolder : Bundle → Text → Option ℕ → Type 0
+InFolder b t (Some i) = FolderAt b t i
+InFolder b t None = member t (with_slash b.folders) ≡ false
 
 -- of each remapping its position and the folders of its context and its target
 pub record Maps (s : List ℕ) (c : List ℕ) : Type 0 where
@@ -230,14 +228,14 @@ module _ {s : List ℕ} {ps : List Text} {c : List ℕ} (I : IndexOf s ps c) (T 
         walking_start I.chains.links bucket-sought (λ z. omega (arith, I.some)) i (e ∙ I.chains.heads (h / 16777216 % bucket_limit) (omega arith))
 
     module _ (cut : ℕ) (cq : cut ≡ cut_of s (start_at c d) d) (i : ℕ) (w : Child i) where
-      pub find-end : i ≡ 0 → Looked (sought ps d n) (length ps) i
+      pub find-end : i ≡ 0 → Looked (sought ps d n) (length ps) None
       find-end z = walking_end I.chains.links bucket-sought i w z
 
       module _ (z : i ≡ 0 → ⊥) (u : Bool) (uq : u ≡ hit s (hash_at c i) h (parent_at c i) (start_at c i) d cut n) where
         told : sought ps d n i ≡ u
         told = sym (uq ∙ rw cq (hit-sought i w.within z))
 
-        pub find-found : u ≡ true → Looked (sought ps d n) (length ps) i
+        pub find-found : u ≡ true → Looked (sought ps d n) (length ps) (Some i)
         find-found e = walking_found I.chains.links bucket-sought i w z (told ∙ e)
 
         pub find-on : u ≡ false → (m : ℕ) → m ≡ next_at c i → Child m × (m < i)
@@ -312,14 +310,14 @@ module _ {s : List ℕ} {ps : List Text} {c : List ℕ} (I : IndexOf s ps c) (t 
     pub path-within : i < length ps
     path-within = omega (arith, w.within, W.within)
 
-    pub path-end : i ≡ 0 → Looked (is_up_to ps t last) (suc from) i
+    pub path-end : i ≡ 0 → Looked (is_up_to ps t last) (suc from) None
     path-end z = walking_end links bucket-at i w z
 
     module _ (z : i ≡ 0 → ⊥) (u : Bool) (uq : u ≡ met s i last (hash_at c i) h (start_at c i) t) where
       told-path : is_up_to ps t last i ≡ u
       told-path = sym (uq ∙ met_at i path-within z)
 
-      pub path-found : u ≡ true → Looked (is_up_to ps t last) (suc from) i
+      pub path-found : u ≡ true → Looked (is_up_to ps t last) (suc from) (Some i)
       path-found e = walking_found links bucket-at i w z (told-path ∙ e)
 
       pub path-on : u ≡ false → (m : ℕ) → m ≡ next_at c i → Searching m × (m < i)
@@ -345,28 +343,18 @@ module _ {s : List ℕ} {ps : List Text} {c : List ℕ} (I : IndexOf s ps c) (t 
         (ap (λ (x : ℕ). x / 16777216 % bucket_limit) (I.hash j o ∙ ap (hash_of (key_of c)) (same-eq _ _ q) ∙ sym hq)))
 
     -- what a walk from the head finds
-    pub whole-chain : (last r : ℕ) → Looked (is_up_to ps t last) (suc from) r → Looked (is_up_to ps t last) (length ps) r
-    whole-chain last r L = record {
-      within = omega (arith, L.within, from-head.within);
-      holds = L.holds;
-      nothing = λ e j z o. at e j z o (dec_lt from j);
-    }
+    pub whole-chain : (last : ℕ) (r : Option ℕ) → Looked (is_up_to ps t last) (suc from) r → Looked (is_up_to ps t last) (length ps) r
+    whole-chain last (Some r) L = record { some = L.some; within = omega (arith, L.within, from-head.within); holds = L.holds }
+    whole-chain last None L = λ j z o. at j z o (dec_lt from j)
       where
-        and_false' : (b : Bool) → (b && false) ≡ false
-        and_false' true = refl
-        and_false' false = refl
-
-        at : r ≡ 0 → (j : ℕ) → (j ≡ 0 → ⊥) → j < length ps → Dec (from < j) → is_up_to ps t last j ≡ false
-        at e j z o (yes l) = rw (past_head j l o) (and_false' (leb j last))
-        at e j z o (no l) = L.nothing e j z (omega arith)
+        at : (j : ℕ) → (j ≡ 0 → ⊥) → j < length ps → Dec (from < j) → is_up_to ps t last j ≡ false
+        at j z o (yes l) = rw (past_head j l o) (and_false (leb j last))
+        at j z o (no l) = L j z (omega arith)
 
   -- all indices are below the limit
-  pub up_to-all : (last r : ℕ) → node_limit ≤ last → Looked (is_up_to ps t last) (length ps) r → Looked (is_at ps t) (length ps) r
-  up_to-all last r l L = record {
-    within = L.within;
-    holds = λ z. and_right (leb r last) (is_at ps t r) (L.holds z);
-    nothing = λ e j z o. rw (le-leb j last (omega (arith, I.count))) at (L.nothing e j z o);
-  }
+  pub up_to-all : (last : ℕ) (r : Option ℕ) → node_limit ≤ last → Looked (is_up_to ps t last) (length ps) r → Looked (is_at ps t) (length ps) r
+  up_to-all last (Some r) l L = record { some = L.some; within = L.within; holds = and_right (leb r last) (is_at ps t r) L.holds }
+  up_to-all last None l L = λ j z o. rw (le-leb j last (omega (arith, I.count))) at (L j z o)
 
 -- BELOW: what `is_below` answers is whether the path lies at or below the other, by whole components
 pub below-card : {s : List ℕ} {c : List ℕ} → CardIs s c → (i d : ℕ) → i < length (nodes_in s) → d < length (nodes_in s)

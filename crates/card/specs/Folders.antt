@@ -1,10 +1,10 @@
 -- A folder's path and its index. Assumes nothing.
 use Prim.Native.Nat.{ℕ, suc, ◌<◌}
 use Rattle.std.proofs.Common.{arith, ◌∙◌}
-use Rattle.std.specs.Prelude.{Bool, false, ◌≡◌}
+use Rattle.std.specs.Prelude.{Bool, false, ◌≡◌, Option, Some, None}
 use Rattle.std.proofs.Math.Bool.{true}
 use Rattle.std.proofs.Math.Path.{sym}
-use mathlib.Core.List.{List, [], map}
+use mathlib.Core.List.{List, [], ◌∷◌, map}
 use Rattle.std.proofs.Math.Dec.{leb}
 use Rattle.std.proofs.Math.ListN.{length, get_or, length-append}
 use borrow.Author.Tests.{le-leb, leb-true}
@@ -15,7 +15,6 @@ use Rattle.bundle.specs.Decode.{decode}
 use Rattle.card.specs.Index.{Looked}
 use Rattle.card.specs.Card.{nodes_of, is_up_to, InFolder}
 use Rattle.card.specs.Laws.{node-folder}
-use Rattle.card.specs.declared.look.Near.TheVariants.{At, Nothing}
 
 abbrev paths : Bundle → List Text
 paths b = map (λ (f : File). f.path) b.files
@@ -24,24 +23,24 @@ module _ (s : List ℕ) (t : Text) where
   abbrev b : Bundle
   b = decode s
 
-  pub folder-root : (u : Bool) → u ≡ same t root → u ≡ true → InFolder b t (At 0)
+  pub folder-root : (u : Bool) → u ≡ same t root → u ≡ true → InFolder b t (Some 0)
   folder-root u q e = record { folder = omega arith; path = sym (same-eq t root (sym q ∙ e)) }
 
-  module _ (folders : ℕ) (k : folders ≡ length b.folders) (u : Bool) (q : u ≡ same t root) (e : u ≡ false) (r : ℕ) (L : Looked (is_up_to (nodes_of b) t folders) (length (nodes_of b)) r) where
-    pub folder-at : (r ≡ 0 → ⊥) → InFolder b t (At r)
-    folder-at z = record {
-      folder = omega (arith, leb-true r folders (and_left (leb r folders) _ (L.holds z)));
-      path = same-eq _ _ (and_right (leb r folders) (same (get_or (nodes_of b) r []) t) (L.holds z));
-    }
+  pub folder-found : (folders : ℕ) → folders ≡ length b.folders → same t root ≡ false → (r : Option ℕ) → Looked (is_up_to (nodes_of b) t folders) (length (nodes_of b)) r → InFolder b t r
+  unfolding member
+  folder-found folders k e (Some r) L = record {
+    folder = omega (arith, leb-true r folders (and_left (leb r folders) _ L.holds));
+    path = same-eq _ _ (and_right (leb r folders) (same (get_or (nodes_of b) r []) t) L.holds);
+  }
+  folder-found folders k e None L = none
+    where
+      other : (j : ℕ) → j < length b.folders → t ≡ get_or b.folders j [] → ⊥
+      other j h x =
+          let l : suc j < length (nodes_of b) = omega (arith, length-append b.folders (paths b)) in
+          let m = L (suc j) (λ y. omega arith) l in
+          let y : same (get_or (nodes_of b) (suc j) []) t ≡ true = equal-same _ _ (node-folder b.folders (paths b) j h ∙ sym x) in
+          let o : leb (suc j) folders ≡ true = le-leb (suc j) folders (omega arith) in
+          false_true (sym m ∙ rw (o, y))
 
-    pub folder-none : r ≡ 0 → InFolder b t Nothing
-    unfolding member
-    folder-none z = rw (← q, e) (member-none t b.folders (λ j h. different t (get_or b.folders j []) (λ x. absurd (none j h x))))
-      where
-        none : (j : ℕ) → j < length b.folders → t ≡ get_or b.folders j [] → ⊥
-        none j h x =
-            let l : suc j < length (nodes_of b) = omega (arith, length-append b.folders (paths b)) in
-            let m = L.nothing z (suc j) (λ y. omega arith) l in
-            let y : same (get_or (nodes_of b) (suc j) []) t ≡ true = equal-same _ _ (node-folder b.folders (paths b) j h ∙ sym x) in
-            let o : leb (suc j) folders ≡ true = le-leb (suc j) folders (omega arith) in
-            false_true (sym m ∙ rw (o, y))
+      none : member t (root ∷ b.folders) ≡ false
+      none = rw e (member-none t b.folders (λ j h. different t (get_or b.folders j []) (λ x. absurd (other j h x))))

@@ -3,7 +3,7 @@ use Prim.Native.Nat.{ℕ, zero, suc, ◌+◌, ◌*◌, ◌%◌, ◌≤◌, ◌<�
 use native.Mathlib.Omega.{arith}
 use Rattle.std.proofs.Common.{le_of_lt, lt_of_le_of_lt, mul-le-mul_right, add-one, sym, ap, ◌∙◌, drop_of_length-le, drop-cons}
 use Rattle.std.proofs.Math.Decide.{dec_lt}
-use Rattle.std.specs.Prelude.{Bool, ◌≡◌, List, [], ◌∷◌, ◌++◌, length, get_or, drop}
+use Rattle.std.specs.Prelude.{Bool, ◌≡◌, Option, Some, None, List, [], ◌∷◌, ◌++◌, length, get_or, drop}
 use Rattle.std.proofs.Math.Bool.{true, false, cond}
 use Rattle.std.proofs.Math.Path.{refl}
 use Rattle.std.proofs.Math.Dec.{eqb}
@@ -76,11 +76,16 @@ pub record Chained (key hs ls : ℕ → ℕ) (n : ℕ) : Type 0 where
   pub links : (i : ℕ) → i < n → ls i ≡ last_in key (key i) i
 
 -- THE WALK
--- what a search among the indices below n finds: one of which q holds, or 0
-pub record Looked (q : ℕ → Bool) (n r : ℕ) : Type 0 where
+-- one of the indices below n, but 0, of which q holds
+pub record Hit (q : ℕ → Bool) (n r : ℕ) : Type 0 where
+  pub some : r ≡ 0 → ⊥
   pub within : r < n
-  pub holds : (r ≡ 0 → ⊥) → q r ≡ true
-  pub nothing : r ≡ 0 → (j : ℕ) → (j ≡ 0 → ⊥) → j < n → q j ≡ false
+  pub holds : q r ≡ true
+
+-- what a search among them finds: one, or that there is none
+abbrev pub Looked : (ℕ → Bool) → ℕ → Option ℕ → Type 0
+Looked q n (Some r) = Hit q n r
+Looked q n None = (j : ℕ) → (j ≡ 0 → ⊥) → j < n → q j ≡ false
 
 -- before a turn: nothing after i is what is looked for
 pub record Walking (q : ℕ → Bool) (key : ℕ → ℕ) (b n i : ℕ) : Type 0 where
@@ -117,11 +122,11 @@ module _ {q : ℕ → Bool} {key ls : ℕ → ℕ} {n b : ℕ} (L : (i : ℕ) �
           let f : m ≡ last_in key b i = e ∙ L i w.within ∙ ap (λ (x : ℕ). last_in key x i) (w.keyed z) in
           not_true (q j) (λ u. last-above key b i j (rw f at o) (omega arith) (K j p u))
 
-  pub walking_found : (i : ℕ) → Walking q key b n i → (i ≡ 0 → ⊥) → q i ≡ true → Looked q n i
-  walking_found i w z h = record { within = w.within; holds = λ _. h; nothing = λ e. absurd (z e) }
+  pub walking_found : (i : ℕ) → Walking q key b n i → (i ≡ 0 → ⊥) → q i ≡ true → Looked q n (Some i)
+  walking_found i w z h = record { some = z; within = w.within; holds = h }
 
-  pub walking_end : (i : ℕ) → Walking q key b n i → i ≡ 0 → Looked q n i
-  walking_end i w z = record { within = w.within; holds = λ y. absurd (y z); nothing = λ e j y l. w.passed j (omega arith) l }
+  pub walking_end : (i : ℕ) → Walking q key b n i → i ≡ 0 → Looked q n None
+  walking_end i w z j y l = w.passed j (omega arith) l
 
 -- ONE MORE INDEX
 module _ (key hs ls hs' ls' : ℕ → ℕ) (n : ℕ) (C : Chained key hs ls n) where

@@ -9,7 +9,7 @@ pub mod look;
 mod parts;
 
 pub use layout::CARD;
-pub use look::{Near, find_child, find_path, is_below, nearest_marked, start_of};
+pub use look::{find_child, find_path, is_below, nearest_marked, start_of};
 pub use parts::{
     file_count, folder_count, parent_of, remapping_context, remapping_count, remapping_place,
     remapping_target,

@@ -2,6 +2,7 @@
 use Rattle.std.specs.Prelude.{ℕ, suc, ◌+◌, ◌*◌, ◌%◌, ◌/◌, ◌≤◌, ◌<◌, Bool, cond, List, [], ◌∷◌, ◌++◌, map, eqb, length, get_or, set}
 use native.Mathlib.Omega.{arith}
 use Rattle.std.proofs.Common.{add-one, ap, ◌∙◌, append_assoc, append-nil, length-append, length-set, get_or-set_same, get_or-set_other, get_or-append-add}
+use Rattle.std.proofs.Math.Nat.{mul-le-mul_left}
 use Rattle.std.proofs.Math.Decide.{dec_lt}
 use Rattle.std.proofs.Math.Bool.{true, false}
 use Rattle.std.proofs.Math.Path.{◌≡◌, refl, sym}
@@ -195,20 +196,25 @@ pub record Filled (s c c' : List ℕ) (next : ℕ → ℕ) (first n k : ℕ) : T
   pub kept : Kept c c'
   pub holds : (sp : List ℕ) → Holds s sp c k → Holds s (sp ++ each next itself n first) c' (k + n)
 
+mul-le-mul : (i a b : ℕ) → a ≤ b → i * a ≤ i * b
+mul-le-mul i a b h = mul-le-mul_left i h
+
 -- as the loop has it: i of n paths are done
-pub record Filling (s c₀ c : List ℕ) (next : ℕ → ℕ) (first n k a i : ℕ) : Type 0 where
+pub record Filling (s c₀ c : List ℕ) (next : ℕ → ℕ) (size first n k a i : ℕ) : Type 0 where
   pub done : i ≤ n
+  pub fits : size ≤ file_size
   pub small : (first < 1048576) × ((n < count_limit) × (k + n ≤ node_limit))
   pub place : a ≡ far next i first
-  pub low : a ≤ first + i * file_size
+  pub low : a ≤ first + i * size
   pub keyed : key_of c₀ < key_limit
   pub filled : Filled s c₀ c next first i k
 
-module _ (s c₀ : List ℕ) (next : ℕ → ℕ) (first n k : ℕ) where
-  pub filling_start : (first < 1048576) × ((n < count_limit) × (k + n ≤ node_limit)) → Keyed c₀ → Filling s c₀ c₀ next first n k first 0
+module _ (s c₀ : List ℕ) (next : ℕ → ℕ) (size first n k : ℕ) where
+  pub filling_start : (first < 1048576) × ((n < count_limit) × (k + n ≤ node_limit)) → Keyed c₀ → size ≤ file_size → Filling s c₀ c₀ next size first n k first 0
   unfolding far each
-  filling_start z y = record {
+  filling_start z y f = record {
     done = omega arith;
+    fits = f;
     small = z;
     place = refl;
     low = omega arith;
@@ -219,17 +225,18 @@ module _ (s c₀ : List ℕ) (next : ℕ → ℕ) (first n k : ℕ) where
     };
   }
 
-  module _ (c : List ℕ) (a i : ℕ) (w : Filling s c₀ c next first n k a i) (o : i < n) where
+  module _ (c : List ℕ) (a i : ℕ) (w : Filling s c₀ c next size first n k a i) (o : i < n) where
     pub filling_low : a < 67108864
-    filling_low = omega (arith, w.low, w.small.0, w.small.1.0)
+    filling_low = omega (arith, w.low, mul-le-mul i size file_size w.fits, w.small.0, w.small.1.0)
 
     pub filling_room : k + i < node_limit
     filling_room = omega (arith, w.small.1.1)
 
-    pub filling_more : (m : ℕ) → m ≡ key_of c₀ → (t : Text) → t ≡ text s a → (h : ℕ) → h ≡ hash_of m t → (b : ℕ) → (b ≡ next a) × (b ≤ a + file_size)
-        → (c' : List ℕ) → c' ≡ filed c (k + i) a h → Filling s c₀ c' next first n k b (i + 1)
+    pub filling_more : (m : ℕ) → m ≡ key_of c₀ → (t : Text) → t ≡ text s a → (h : ℕ) → h ≡ hash_of m t → (b : ℕ) → (b ≡ next a) × (b ≤ a + size)
+        → (c' : List ℕ) → c' ≡ filed c (k + i) a h → Filling s c₀ c' next size first n k b (i + 1)
     filling_more m mq t tq h hq b bq c' e = record {
       done = omega arith;
+      fits = w.fits;
       small = w.small;
       place = bq.0 ∙ ap next w.place ∙ sym (far-more next i first);
       low = omega (arith, w.low, bq.1);
@@ -258,7 +265,7 @@ module _ (s c₀ : List ℕ) (next : ℕ → ℕ) (first n k : ℕ) where
             let x = holds_more s (sp ++ each next itself i first) c (k + i) a h (w.filled.holds sp H) filling_room filling_low hashes in
             record { index = x.index; starts = x.starts; full = omega (arith, x.full) }
 
-  pub filling_end : (c : List ℕ) (a i : ℕ) → Filling s c₀ c next first n k a i → n ≤ i → Filled s c₀ c next first n k
+  pub filling_end : (c : List ℕ) (a i : ℕ) → Filling s c₀ c next size first n k a i → n ≤ i → Filled s c₀ c next first n k
   filling_end c a i w h = let z : i ≡ n = omega (arith, w.done) in rw z at w.filled
 
 -- THE FIRST: `/` alone, in a cleared card with its key
@@ -318,21 +325,10 @@ module _ (c : List ℕ) (key : ℕ) (C : Cleared c) (l : key < key_limit) where
       alone true = refl
       alone false = refl
 
--- places cleared one after the other
-abbrev Clearing : List ℕ → ℕ → Type 0
-Clearing c i = ((length c ≡ card_size) × (i ≤ card_size)) × ((j : ℕ) → j < i → get_or c j 0 ≡ 0)
-
-module _ (c : List ℕ) (i : ℕ) (w : Clearing c i) where
-  pub clear-more : i < card_size → Clearing (set c i 0) (i + 1)
-  clear-more h = ((rw length-set w.0.0, omega arith), λ j o. at j o (dec_eq j i))
-    where
-      at : (j : ℕ) → j < i + 1 → Dec (j ≡ i) → get_or (set c i 0) j 0 ≡ 0
-      at j o (yes e) = rw e (get_or-set_same c i 0 0 (omega (arith, w.0.0)))
-      at j o (no e) = get_or-set_other c i j 0 0 e ∙ w.1 j (omega arith)
-
-  pub clear-end : card_size ≤ i → Cleared c
-  clear-end h = record { size = w.0.0; zeros = λ j. at j (dec_lt j i) }
-    where
-      at : (j : ℕ) → Dec (j < i) → get_or c j 0 ≡ 0
-      at j (yes o) = w.1 j o
-      at j (no o) = get_or-eq_default c 0 (omega (arith, w.0.0))
+-- a card whose places below i are 0
+pub clear-end : (c : List ℕ) (i : ℕ) → length c ≡ card_size → ((j : ℕ) → j < i → get_or c j 0 ≡ 0) → card_size ≤ i → Cleared c
+clear-end c i q w h = record { size = q; zeros = λ j. at j (dec_lt j i) }
+  where
+    at : (j : ℕ) → Dec (j < i) → get_or c j 0 ≡ 0
+    at j (yes o) = w j o
+    at j (no o) = get_or-eq_default c 0 (omega (arith, q))

@@ -1,5 +1,5 @@
 -- 7 and 8, index by index, and the parents. Assumes nothing.
-use Rattle.std.specs.Prelude.{ℕ, zero, suc, ◌+◌, ◌-◌, ◌%◌, ◌/◌, ◌≤◌, ◌<◌, Bool, true, false, ◌≡◌, refl, leb, length, get_or, set, drop}
+use Rattle.std.specs.Prelude.{ℕ, zero, suc, ◌+◌, ◌-◌, ◌%◌, ◌/◌, ◌≤◌, ◌<◌, Bool, true, false, ◌≡◌, refl, Option, Some, None, is_some, leb, length, get_or, set, drop}
 use native.Mathlib.Omega.{arith}
 use Rattle.std.proofs.Common.{add-one, sym, ap, ◌∙◌, length-append, length-set, length-take, drop_of_length-le, get_or-set_same, get_or-set_other, drop-cons, take-suc, get_or-take, le-leb}
 use Rattle.std.proofs.Math.Decide.{dec_lt}
@@ -20,8 +20,6 @@ use Rattle.card.specs.Layout.{node_limit, bucket_limit, card_size, starts_at, ha
 use Rattle.card.specs.Index.{dec_eq, last_in, last_agree, last-below, last_key, last-above, Looked}
 use Rattle.card.specs.Card.{nodes_in, hash_of, bucket_at, IndexOf, FolderAt, InFolder, is_at, is_up_to, Chain}
 use Rattle.reader.specs.Build.{nodes_at, itself, Holds}
-use Rattle.card.specs.declared.look.Near.{Near}
-use Rattle.card.specs.declared.look.Near.TheVariants.{At, Nothing}
 
 -- THE POSITIONS of the listed paths
 abbrev pub spots : List ℕ → List ℕ
@@ -98,24 +96,21 @@ module _ {s : List ℕ} {ps : List Text} {c : List ℕ} (I : IndexOf s ps c) (i 
       keyed = λ z. rw hq (rw is_last (last_key (bucket_at c) (bucket_at c i) i (λ x. z (is_last ∙ x))));
     }
 
-    module _ (u : Bool) (uq : u ≡ same p root) (uf : u ≡ false) (r : ℕ) (L : Looked (is_up_to ps p i) (suc from) r) where
-      pub again_found : (r ≡ 0 → ⊥) → true ≡ member p (take i ps)
-      again_found z =
-          let l : r < i = omega (arith, L.within, from-below) in
-          let e : get_or ps r [] ≡ p = same-eq _ _ (and_right (leb r i) (is_at ps p r) (L.holds z)) in
-          sym (member-found p (take i ps) r (omega (arith, before-long)) (equal-same _ _ (sym e ∙ sym (before_at r l))))
-
-      pub again_none : r ≡ 0 → false ≡ member p (take i ps)
-      again_none z = sym (member-none p (take i ps) (λ j k. let l : j < i = omega (arith, before-long) in rw (before_at j l) (not_same j l (dec_eq j 0) (dec_lt from j))))
-        where
-          not_same : (j : ℕ) → j < i → Dec (j ≡ 0) → Dec (from < j) → same p (get_or ps j []) ≡ false
-          not_same j l (yes y) d = rw (y, rooted) (sym uq ∙ uf)
-          not_same j l (no y) (yes k) =
-              different p (get_or ps j []) (λ e. last-above (bucket_at c) (bucket_at c i) i j (rw is_last at k) l
-              (ap (λ (x : ℕ). x / 16777216 % bucket_limit) (I.hash j (omega arith) ∙ ap (hash_of (key_of c)) (sym e ∙ pq) ∙ sym (I.hash i o))))
-          not_same j l (no y) (no k) =
-              let m = L.nothing z j y (omega arith) in
-              different p (get_or ps j []) (λ e. false_true (sym m ∙ rw (le-leb j i (omega arith)) (equal-same _ _ (sym e))))
+    pub again-told : same p root ≡ false → (r : Option ℕ) → Looked (is_up_to ps p i) (suc from) r → is_some r ≡ member p (take i ps)
+    again-told f (Some r) L =
+        let l : r < i = omega (arith, L.within, from-below) in
+        let e : get_or ps r [] ≡ p = same-eq _ _ (and_right (leb r i) (is_at ps p r) L.holds) in
+        sym (member-found p (take i ps) r (omega (arith, before-long)) (equal-same _ _ (sym e ∙ sym (before_at r l))))
+    again-told f None L = sym (member-none p (take i ps) (λ j k. let l : j < i = omega (arith, before-long) in rw (before_at j l) (not_same j l (dec_eq j 0) (dec_lt from j))))
+      where
+        not_same : (j : ℕ) → j < i → Dec (j ≡ 0) → Dec (from < j) → same p (get_or ps j []) ≡ false
+        not_same j l (yes y) d = rw (y, rooted) f
+        not_same j l (no y) (yes k) =
+            different p (get_or ps j []) (λ e. last-above (bucket_at c) (bucket_at c i) i j (rw is_last at k) l
+            (ap (λ (x : ℕ). x / 16777216 % bucket_limit) (I.hash j (omega arith) ∙ ap (hash_of (key_of c)) (sym e ∙ pq) ∙ sym (I.hash i o))))
+        not_same j l (no y) (no k) =
+            let m = L j y (omega arith) in
+            different p (get_or ps j []) (λ e. false_true (sym m ∙ rw (le-leb j i (omega arith)) (equal-same _ _ (sym e))))
 
 -- 8: THE FOLDER THAT A PATH LIES IN
 module _ (s : List ℕ) (paths : (i : ℕ) → i < length (nodes_in s) → is_path (get_or (nodes_in s) i []) ≡ true) (p : Text) (hp : is_path p ≡ true) (np : p ≡ root → ⊥) where
@@ -128,13 +123,13 @@ module _ (s : List ℕ) (paths : (i : ℕ) → i < length (nodes_in s) → is_pa
   folder-node : (j : ℕ) → j < length F → get_or F j [] ≡ get_or (nodes_in s) j []
   folder-node j h = sym (get_or-append F G [] j h)
 
-  pub has-folder : (d : ℕ) → InFolder (decode s) (parent p) (At d) → any (directly_in p) F ≡ true
+  pub has-folder : (d : ℕ) → InFolder (decode s) (parent p) (Some d) → any (directly_in p) F ≡ true
   has-folder d w =
       let l : d < length F = omega (arith, w.folder) in
       let e : get_or F d [] ≡ parent p = folder-node d l ∙ w.path in
       mem_any (directly_in p) (mem_get_d F d [] l) (parent_directly_in p (get_or F d []) hp np (sym e))
 
-  pub no_folder : InFolder (decode s) (parent p) Nothing → any (directly_in p) F ≡ false
+  pub no_folder : InFolder (decode s) (parent p) None → any (directly_in p) F ≡ false
   no_folder w = not_true (any (directly_in p) F) (λ e. none (any_true (directly_in p) F e))
     where
       none : (f : Text) × (Memᴰ f F × (directly_in p f ≡ true)) → ⊥
@@ -305,52 +300,48 @@ module _ (s c₀ c : List ℕ) (folders n i : ℕ) (w : Linking s c₀ c folders
               false_true (sym f ∙ uq ∙ member-found p (take i (nodes_in s)) 0 (omega (arith, length-take i (nodes_in s), link-within, w.from))
               (rw (get_or-take i (nodes_in s) 0 [] w.from) (equal-same p root e)))
 
-          module _ (r : Near) (R : InFolder (decode s) (parent p) r) where
-            pub link-orphan : r ≡ Nothing → Linked s c₀ c (Refused 8 a)
-            link-orphan e = record {
-              size = w.size;
-              kept = w.kept;
+          pub link-orphan : InFolder (decode s) (parent p) None → Linked s c₀ c (Refused 8 a)
+          link-orphan R = record {
+            size = w.size;
+            kept = w.kept;
+            told =
+                sym (w.told ∙ told-orphan s (spots s) (with_slash (decode s).folders) i in_list link-first a link_spot (seen f)
+                (rw (← pq) (no_folder s w.indexed.paths p link-path not_root R)));
+            parents = λ q. absurd (refused_not_ok q);
+          }
+
+          module _ (d : ℕ) (found : FolderAt (decode s) (parent p) d) where
+            pub link-small : d < node_limit
+            link-small = omega (arith, found.folder, length-append (with_slash (decode s).folders) (map (λ (g : File). g.path) (decode s).files), link-index.count)
+
+            pub link-more : Linking s c₀ (set c (0 + i) d) folders n (i + 1)
+            link-more = record {
+              indexed = w.indexed;
+              size = rw length-set w.size;
+              kept = λ j k. get_or-set_other c (0 + i) j d 0 (λ z. omega (arith, link-room)) ∙ w.kept j k;
+              from = omega arith;
+              to = omega arith;
+              parents = record {
+                each_one = λ j k z. one j k z (dec_eq j i);
+                top = get_or-set_other c (0 + i) 0 d 0 (λ z. omega (arith, w.from)) ∙ w.parents.top;
+                small = λ j k. less j k (dec_eq j i);
+              };
               told =
-                  sym (w.told ∙ told-orphan s (spots s) (with_slash (decode s).folders) i in_list link-first a link_spot (seen f)
-                  (rw (← pq) (no_folder s w.indexed.paths p link-path not_root (rw e at R))));
-              parents = λ q. absurd (refused_not_ok q);
+                  w.told ∙ told-on s (spots s) (with_slash (decode s).folders) i in_list link-first a link_spot (seen f)
+                  (rw (← pq) (has-folder s w.indexed.paths p link-path not_root d found));
             }
+              where
+                inside : 0 + i < length c
+                inside = omega (arith, link-room, w.size)
 
-            module _ (d : ℕ) (e : r ≡ At d) where
-              found : FolderAt (decode s) (parent p) d
-              found = rw e at R
+                one : (j : ℕ) → j < i + 1 → (j ≡ 0 → ⊥) → Dec (j ≡ i) → FolderAt (decode s) (parent (get_or (nodes_in s) j [])) (parent_at (set c (0 + i) d) j)
+                one j k z (yes y) = rw (y, get_or-set_same c (0 + i) d 0 inside, ← link-node) found
+                one j k z (no y) = rw (get_or-set_other c (0 + i) (0 + j) d 0 (λ x. y (omega arith))) (w.parents.each_one j (omega arith) z)
 
-              pub link-small : d < node_limit
-              link-small = omega (arith, found.folder, length-append (with_slash (decode s).folders) (map (λ (g : File). g.path) (decode s).files), link-index.count)
-
-              pub link-more : Linking s c₀ (set c (0 + i) d) folders n (i + 1)
-              link-more = record {
-                indexed = w.indexed;
-                size = rw length-set w.size;
-                kept = λ j k. get_or-set_other c (0 + i) j d 0 (λ z. omega (arith, link-room)) ∙ w.kept j k;
-                from = omega arith;
-                to = omega arith;
-                parents = record {
-                  each_one = λ j k z. one j k z (dec_eq j i);
-                  top = get_or-set_other c (0 + i) 0 d 0 (λ z. omega (arith, w.from)) ∙ w.parents.top;
-                  small = λ j k. less j k (dec_eq j i);
-                };
-                told =
-                    w.told ∙ told-on s (spots s) (with_slash (decode s).folders) i in_list link-first a link_spot (seen f)
-                    (rw (← pq) (has-folder s w.indexed.paths p link-path not_root d found));
-              }
-                where
-                  inside : 0 + i < length c
-                  inside = omega (arith, link-room, w.size)
-
-                  one : (j : ℕ) → j < i + 1 → (j ≡ 0 → ⊥) → Dec (j ≡ i) → FolderAt (decode s) (parent (get_or (nodes_in s) j [])) (parent_at (set c (0 + i) d) j)
-                  one j k z (yes y) = rw (y, get_or-set_same c (0 + i) d 0 inside, ← link-node) found
-                  one j k z (no y) = rw (get_or-set_other c (0 + i) (0 + j) d 0 (λ x. y (omega arith))) (w.parents.each_one j (omega arith) z)
-
-                  less : (j : ℕ) → j < node_limit → Dec (j ≡ i) → parent_at (set c (0 + i) d) j < node_limit
-                  less j k (yes y) = rw (y, get_or-set_same c (0 + i) d 0 inside) link-small
-                  less j k (no y) = rw (get_or-set_other c (0 + i) (0 + j) d 0 (λ x. y (omega arith))) (w.parents.small j k)
+                less : (j : ℕ) → j < node_limit → Dec (j ≡ i) → parent_at (set c (0 + i) d) j < node_limit
+                less j k (yes y) = rw (y, get_or-set_same c (0 + i) d 0 inside) link-small
+                less j k (no y) = rw (get_or-set_other c (0 + i) (0 + j) d 0 (λ x. y (omega arith))) (w.parents.small j k)
 
 -- a path's parent is its first bytes
-pub at-parent : (s : List ℕ) (p : Text) → is_path p ≡ true → (k : ℕ) → k ≡ length (parent p) → (r : Near) → InFolder (decode s) (take k p) r → InFolder (decode s) (parent p) r
+pub at-parent : (s : List ℕ) (p : Text) → is_path p ≡ true → (k : ℕ) → k ≡ length (parent p) → (r : Option ℕ) → InFolder (decode s) (take k p) r → InFolder (decode s) (parent p) r
 at-parent s p h k e r w = let z : take k p ≡ parent p = rw e (parent-prefix p h) in rw z at w

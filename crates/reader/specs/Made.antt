@@ -18,12 +18,11 @@ use Rattle.bundle.specs.Limits.{header, count_limit, remapping_limit}
 use Rattle.bundle.specs.Scan.{text}
 use Rattle.bundle.specs.Decode.{each, far, after, after_file, after_remapping, file_at, remapping_at, folder_count, folder_first, file_count, file_first, remapping_count, remapping_first, decode}
 use Rattle.bundle.specs.Conflicts.{placed_at, placed_remapping_at, or_else, any, located, remapped, conflicts}
-use Rattle.bundle.specs.Lists.{skip}
 use Rattle.bundle.specs.ListLaws.{texts-each, member-append, each-length, each_at}
 use Rattle.bundle.specs.Free.{paths-each, conflicts-free}
 use Rattle.bundle.specs.Form.{Every, IsPath, FormedFile, InForm, Unconflicted, fresh}
 use Rattle.bundle.specs.Members.{member_true, mem_member, get_d_mem, mem_get_d, mem_map}
-use Rattle.bundle.specs.Read.{form, verdict}
+use Rattle.bundle.specs.Read.{form}
 use Rattle.bundle.specs.Stand.{Bytes}
 use Rattle.bundle.specs.SoundBundle.{form-sound}
 use Rattle.bundle.specs.Results.{Checked}
@@ -34,9 +33,7 @@ use Rattle.card.specs.Index.{dec_eq}
 use Rattle.card.specs.Card.{nodes_of, nodes_in, roots_of, IndexOf, FolderAt, Maps, CardIs}
 use Rattle.reader.specs.Build.{itself, Holds, Keyed, Filled, Cleared, begun, begun-keyed, begun-low, begun-high, begun-holds}
 use Rattle.reader.specs.Linking.{spots, nodes_at_lem, placed-spots, index_agree, Indexed, Parents, Linked, all_told}
-use Rattle.reader.specs.Mapping.{folders_in, files_in, Located, is-located, MappedAll, MapsOf, Unmapped}
-use Rattle.reader.specs.declared.maps.Place.{Place}
-use Rattle.reader.specs.declared.maps.Place.TheVariants.{At, Bad}
+use Rattle.reader.specs.Mapping.{folders_in, files_in, is-located, MappedAll, MapsOf, Unmapped}
 
 -- THE INDEX OF A BUNDLE
 -- where the lists stand, m folders and n files
@@ -58,27 +55,27 @@ module _ (s : List ℕ) (f m g n : ℕ) (L : Listing s f m g n) (c : List ℕ) (
   pub first_fill : ((f < 1048576) × ((m < count_limit) × (1 + m ≤ node_limit))) × Keyed (begun c key)
   first_fill = ((L.low.0.0, (L.low.1.0, omega (arith, L.room))), begun-keyed c key C kl)
 
-  module _ (c1 : List ℕ) (F : Filled s (begun c key) c1 (skip false s) f m 1) where
+  module _ (c1 : List ℕ) (F : Filled s (begun c key) c1 (after s) f m 1) where
     pub second_fill : ((g < 1048576) × ((n < count_limit) × (m + 1 + n ≤ node_limit))) × Keyed c1
     second_fill = (
       (L.low.0.1, (L.low.1.1, omega (arith, L.room))),
       (F.kept.size, rw (F.kept.high key_at (omega arith)) (begun-keyed c key C kl).1),
     )
 
-    pub begins : (c2 : List ℕ) → Filled s c1 c2 (skip true s) g n (m + 1) → Begun s c2 m n
+    pub begins : (c2 : List ℕ) → Filled s c1 c2 (after_file s) g n (m + 1) → Begun s c2 m n
     begins c2 G = record {
       holds = rw same-spots (record { index = H.index; starts = H.starts; full = omega (arith, H.full) });
       parents = λ j o. G.kept.low j o ∙ F.kept.low j o ∙ begun-low c key C kl j o;
       others = λ j o. G.kept.high j (omega arith) ∙ F.kept.high j (omega arith) ∙ begun-high c key C kl j o;
     }
       where
-        first : Holds s ([] ++ each (skip false s) itself m f) c1 (m + 1)
+        first : Holds s ([] ++ each (after s) itself m f) c1 (m + 1)
         first = let x = F.holds [] (begun-holds c key C kl s) in record { index = x.index; starts = x.starts; full = omega (arith, x.full) }
 
-        H : Holds s (([] ++ each (skip false s) itself m f) ++ each (skip true s) itself n g) c2 (m + 1 + n)
-        H = G.holds ([] ++ each (skip false s) itself m f) first
+        H : Holds s (([] ++ each (after s) itself m f) ++ each (after_file s) itself n g) c2 (m + 1 + n)
+        H = G.holds ([] ++ each (after s) itself m f) first
 
-        same-spots : spots s ≡ each (skip false s) itself m f ++ each (skip true s) itself n g
+        same-spots : spots s ≡ each (after s) itself m f ++ each (after_file s) itself n g
         same-spots = rw (L.folders_first, L.folders_count, L.files_first, L.files_count)
 
 -- IN FORM
@@ -235,24 +232,20 @@ pub record Ended (s c c' : List ℕ) (m k n : ℕ) (r : Checked) : Type 0 where
 refused_not_ok : {a p : ℕ} → Refused a p ≡ Ok → ⊥
 refused_not_ok e = let z : ◌≡◌ {A = ℕ} 0 1 = cc in omega arith
 
-module _ (s c : List ℕ) (m k n : ℕ) (t : Text) (tq : t ≡ (decode s).root) (place : Place) (P : Located s t place) where
-  root-string : (placed_at s header).string ≡ t
-  unfolding placed_at decode
-  root-string = sym tq
+root-text : (s : List ℕ) → text s header ≡ (decode s).root
+unfolding decode
+root-text s = refl
 
-  pub root-bad : (a : ℕ) → place ≡ Bad a → Ended s c c m k n (Refused a header)
-  unfolding placed_at
-  root-bad a e = record { tells = sym ((rw e at P) (placed_at s header) root-string); ends = λ q. absurd (refused_not_ok q) }
+module _ (s c : List ℕ) (m k n : ℕ) where
+  pub root-bad : (a p : ℕ) → Refused a p ≡ located (folders_in s) (files_in s) (placed_at s header) → Ended s c c m k n (Refused a p)
+  root-bad a p e = record { tells = e; ends = λ q. absurd (refused_not_ok q) }
 
-  module _ (i : ℕ) (e : place ≡ At i) where
-    P' : FolderAt (decode s) t i
-    P' = rw e at P
-
+  module _ (i : ℕ) (P : FolderAt (decode s) (text s header) i) where
     pub root-at-folder : IndexOf s (nodes_in s) c → i < node_limit
-    root-at-folder I = omega (arith, P'.folder, length-append (folders_in s) (files_in s), I.count)
+    root-at-folder I = omega (arith, P.folder, length-append (folders_in s) (files_in s), I.count)
 
     pub root-good : (c' : List ℕ) → c' ≡ finished c m k n i → Ended s c c' m k n Ok
-    root-good c' q = record { tells = sym (is-located s t i P' (placed_at s header) root-string); ends = λ _. (i, (rw tq at P', q)) }
+    root-good c' q = record { tells = is-located s header i P; ends = λ _. (i, (rw root-text at P, q)) }
 
 abbrev no_map : Remapping
 no_map = record { context = []; name = []; target = [] }
@@ -477,12 +470,3 @@ module _ (s : List ℕ) (B : Bytes s) (formed : form s ≡ Ok) where
 
             pub ends_well : (r3 ≡ conflicts s) × (r3 ≡ Ok → CardIs s c4)
             ends_well = (told-conflicts, λ ok3. rw (E.ends ok3).1.1 (made ok3))
-
--- THE ANSWER
-pub read-refused : (s : List ℕ) (c : List ℕ) (r : Checked) → r ≡ form s → (a p : ℕ) → r ≡ Refused a p → (Refused a p ≡ verdict s) × (Refused a p ≡ Ok → CardIs s c)
-unfolding verdict
-read-refused s c r q a p e = (rw (sym q ∙ e), λ z. absurd (refused_not_ok z))
-
-pub read-on : (s : List ℕ) (c : List ℕ) (r : Checked) → r ≡ form s → r ≡ Ok → (x : Checked) → (x ≡ conflicts s) × (x ≡ Ok → CardIs s c) → (x ≡ verdict s) × (x ≡ Ok → CardIs s c)
-unfolding verdict
-read-on s c r q e x w = (w.0 ∙ rw (sym q ∙ e), w.1)

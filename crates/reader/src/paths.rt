@@ -4,12 +4,13 @@ ghost use Rattle.names.specs.Bytes.{member};
 ghost use Rattle.names.specs.Path.{is_path};
 ghost use Rattle.names.specs.Prefix.{parent};
 ghost use Rattle.bundle.specs.Decode.{decode};
+ghost use Rattle.bundle.specs.Told.{checked};
 ghost use Rattle.card.specs.Card.{IndexOf, nodes_in, InFolder};
 ghost use Rattle.reader.specs.Linking.{Indexed, Linked};
 
-use bundle::Checked;
 use card::layout::{CARD, HASHES, NEXTS, PARENTS, STARTS};
-use card::look::{Near, far, folder_of, walk};
+use card::look::{folder_of, walk};
+use refusal::{Cause, Refusal};
 
 // Whether the path p of index i is `/` or listed before.
 fn is_again<'a>(s: &'a [u8], card: &'a [u32; CARD], i: usize, p: &'a [u8]) -> bool
@@ -19,15 +20,19 @@ fn is_again<'a>(s: &'a [u8], card: &'a [u32; CARD], i: usize, p: &'a [u8]) -> bo
     if names::same_bytes(p, b"/") {
         return true;
     }
-    let r = walk(s, card, far(card[HASHES + i]), p, far(card[NEXTS + i]), i);
-    if r == 0 {
-        return false;
-    }
-    true
+    walk(
+        s,
+        card,
+        card[HASHES + i] as usize,
+        p,
+        card[NEXTS + i] as usize,
+        i,
+    )
+    .is_some()
 }
 
 // The index of the folder that the path p lies in.
-fn parent_of<'a>(s: &'a [u8], card: &'a [u32; CARD], folders: usize, p: &'a [u8]) -> Near
+fn parent_of<'a>(s: &'a [u8], card: &'a [u32; CARD], folders: usize, p: &'a [u8]) -> Option<usize>
     requires { (IndexOf s.now (nodes_in s.now) card.now × (folders ≡ length (decode s.now).folders)) × (is_path p.now ≡ true) }
     ensures { InFolder (decode s.now) (parent p.now) result }
 {
@@ -36,27 +41,20 @@ fn parent_of<'a>(s: &'a [u8], card: &'a [u32; CARD], folders: usize, p: &'a [u8]
 }
 
 // 7 and 8 of the paths, index by index; and their parents.
-pub fn link_paths(s: &[u8], card: &mut [u32; CARD], folders: usize, n: usize) -> Checked
+pub fn link_paths(s: &[u8], card: &mut [u32; CARD], folders: usize, n: usize) -> Result<(), Refusal>
     requires { Indexed s.now card.old folders n }
-    ensures { Linked s.now card.old card.new result }
+    ensures { Linked s.now card.old card.new (checked result) }
 {
-    let mut i = 1;
-    while i < n {
-        let a = far(card[STARTS + i]);
+    for i in 1..n {
+        let a = card[STARTS + i] as usize;
         let p = bundle::string(s, a);
         if is_again(s, &*card, i, p) {
-            return Checked::Refused(7, a);
+            return Err(Cause::Twice.at(a));
         }
-        let up = parent_of(s, &*card, folders, p);
-        match up {
-            Near::Nothing => {
-                return Checked::Refused(8, a);
-            }
-            Near::At(d) => {
-                card[PARENTS + i] = d as u32;
-            }
+        match parent_of(s, &*card, folders, p) {
+            None => return Err(Cause::Orphan.at(a)),
+            Some(d) => card[PARENTS + i] = d as u32,
         }
-        i += 1;
     }
-    Checked::Ok
+    Ok(())
 }

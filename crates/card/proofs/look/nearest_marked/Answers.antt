@@ -1,47 +1,20 @@
--- `nearest_marked` meets its contract. Assumes nothing.
-use native.Mathlib.Omega.{arith}
-use Prim.Native.Nat.{◌<◌}
-use mathlib.Core.Path.{refl, sym, ◌∙◌}
+-- `card::look::nearest_marked` meets its contract. Assumes nothing.
+use mathlib.Core.Path.{sym, ◌∙◌}
 use borrow.Author.Tests.{eq-eqb, ne_eqb}
 use Rattle.card.specs.Laws.{near-here, near-top, near-out, near-more}
-use Rattle.names.specs.Path.{component_limit}
 use Rattle.card.proofs.look.nearest_marked.Goals as goal
 
-pub loop-i-init : goal.loop-i-init
-loop-i-init c = ((c.requires.1, omega arith), refl)
-
-pub overflow_add-i : goal.overflow_add-i
-overflow_add-i c = omega arith
-
-pub offset_bounds-card-i : goal.offset_bounds-card-i
-offset_bounds-card-i c = omega arith
-
-pub bounds-card-i : goal.bounds-card-i
-bounds-card-i c = omega arith
+pub returns-then-card-i-eq1 : goal.returns-then-card-i-eq1
+returns-then-card-i-eq1 c = sym (near-here _ _ _ _ (eq-eqb _ _ c.if-card-i-eq1.true)) ∙ c.loop.invariant.1
 
 pub returns-then-i-eq0 : goal.returns-then-i-eq0
-returns-then-i-eq0 c = sym (c.loop-i.invariant.1 ∙ near-top _ _ _ _ (ne_eqb _ _ c.loop-i-test.true) c.if-i-eq0.true)
+returns-then-i-eq0 c = sym (near-top _ _ _ _ (ne_eqb _ _ c.if-card-i-eq1.false) c.if-i-eq0.true) ∙ c.loop.invariant.1
 
-pub returns-then-k-eq-DEEP : goal.returns-then-k-eq-DEEP
-returns-then-k-eq-DEEP c = sym (c.loop-i.invariant.1 ∙ near-out _ _ _ _ (ne_eqb _ _ c.loop-i-test.true) c.if-k-eq-DEEP.true)
+pub loop-preserved : goal.loop-preserved
+loop-preserved c = (c.requires.0.inside _ c.loop.invariant.0, sym (near-more _ _ _ _ (ne_eqb _ _ c.if-card-i-eq1.false) c.if-i-eq0.false c.loop-test.true) ∙ c.loop.invariant.1)
 
-pub overflow_add-i-in-loop-i : goal.overflow_add-i-in-loop-i
-overflow_add-i-in-loop-i c = omega arith
+pub returns-then-card-i-eq1-2 : goal.returns-then-card-i-eq1-2
+returns-then-card-i-eq1-2 c = sym (near-out _ _ _ _ c.loop-test.false ∙ rw (eq-eqb _ _ c.if-card-i-eq1-2.true)) ∙ c.loop.invariant.1
 
-pub offset_bounds-card-i-in-loop-i : goal.offset_bounds-card-i-in-loop-i
-offset_bounds-card-i-in-loop-i c = omega arith
-
-pub bounds-card-i-in-loop-i : goal.bounds-card-i-in-loop-i
-bounds-card-i-in-loop-i c = omega arith
-
-pub overflow_add-k : goal.overflow_add-k
-overflow_add-k c = omega arith
-
-pub loop-i-smaller : goal.loop-i-smaller
-loop-i-smaller c = let k : c.loop-i.k < component_limit = omega (arith, c.loop-i.invariant.0.1, c.if-k-eq-DEEP.false) in omega arith
-
-pub loop-i-preserved : goal.loop-i-preserved
-loop-i-preserved c = let k : c.loop-i.k < component_limit = omega (arith, c.loop-i.invariant.0.1, c.if-k-eq-DEEP.false) in ((rw c.far-i.ensures.0 (c.requires.0.inside _ c.loop-i.invariant.0.0), omega arith), c.loop-i.invariant.1 ∙ near-more _ _ _ _ (ne_eqb _ _ c.loop-i-test.true) c.if-i-eq0.false k ∙ rw c.far-i.ensures.0)
-
-pub returns : goal.returns
-returns c = sym (c.loop-i.invariant.1 ∙ near-here _ _ _ _ (eq-eqb _ _ c.loop-i-test.false))
+pub returns-else-card-i-eq1-2 : goal.returns-else-card-i-eq1-2
+returns-else-card-i-eq1-2 c = sym (near-out _ _ _ _ c.loop-test.false ∙ rw (ne_eqb _ _ c.if-card-i-eq1-2.false)) ∙ c.loop.invariant.1

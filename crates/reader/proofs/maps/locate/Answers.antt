@@ -1,18 +1,12 @@
--- `locate` meets its contract. Assumes nothing.
-use Rattle.reader.specs.Mapping.{place_at_lem, place-missing, place-file}
+-- `reader::maps::locate` meets its contract. Assumes nothing.
+use Rattle.reader.specs.Mapping.{is-located, nowhere, no_folder}
 use Rattle.reader.proofs.maps.locate.Goals as goal
 
-pub folder_of-near-requires : goal.folder_of-near-requires
-folder_of-near-requires c = c.requires
+pub returns-in-Some-clause-tells : goal.returns-in-Some-clause-tells
+returns-in-Some-clause-tells c = is-located _ _ _ (rw c.string-t.ensures at c.in-Some.ensures)
 
-pub find_path-requires : goal.find_path-requires
-find_path-requires c = c.requires.0
+pub returns-in-None-find_path-clause-tells : goal.returns-in-None-find_path-clause-tells
+returns-in-None-find_path-clause-tells c = rw c.at.ensures (nowhere _ _ (rw c.string-t.ensures at c.in-None.ensures) (rw c.string-t.ensures at c.in-None-find_path.ensures))
 
-pub returns-then-find_path-eq0 : goal.returns-then-find_path-eq0
-returns-then-find_path-eq0 c = place-missing c.args.s.now c.args.t.now c.folder_of-near.result c.folder_of-near.ensures c.in-Nothing.is _ c.find_path.ensures c.if-find_path-eq0.true
-
-pub returns-in-At : goal.returns-in-At
-returns-in-At c = place_at_lem c.args.s.now c.args.t.now c.folder_of-near.result c.folder_of-near.ensures _ c.in-At.is
-
-pub returns-else-find_path-eq0 : goal.returns-else-find_path-eq0
-returns-else-find_path-eq0 c = place-file c.args.s.now c.args.t.now c.folder_of-near.result c.folder_of-near.ensures c.in-Nothing.is _ c.find_path.ensures c.if-find_path-eq0.false
+pub returns-in-Some-find_path-clause-tells : goal.returns-in-Some-find_path-clause-tells
+returns-in-Some-find_path-clause-tells c = rw c.at-in-Some-find_path.ensures (no_folder _ _ (rw c.string-t.ensures at c.in-None.ensures) _ (rw c.string-t.ensures at c.in-Some-find_path.ensures))

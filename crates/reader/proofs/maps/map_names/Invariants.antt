@@ -1,10 +1,6 @@
--- `map_names` meets its contract. Assumes nothing.
-use Prim.Native.Nat.{◌-◌}
+-- `reader::maps::map_names`: what is mapped before each turn. Assumes nothing.
 use Rattle.reader.specs.Mapping.{Mapping}
 use Rattle.reader.proofs.maps.map_names.Given as goal
 
 abbrev pub invariant-loop-j : goal.invariant-loop-j
 invariant-loop-j l = Mapping l.s l.initial.card l.card l.folders l.first l.n l.a l.j
-
-abbrev pub decreases-loop-j : goal.decreases-loop-j
-decreases-loop-j l = l.n - l.j
