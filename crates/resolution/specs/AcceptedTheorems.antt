@@ -1,12 +1,11 @@
 -- OF EVERY ACCEPTED BUNDLE, and every use in one of its files: the longest context, below its base, never its own package.
 -- From what the reader promises of bytes that it accepts. Assumes nothing.
-use Rattle.std.specs.Prelude.{ℕ, suc, ◌<◌, Bool, ◌↔◌, ◌≡◌, refl, length, get_or}
+use Rattle.std.specs.Prelude.{ℕ, suc, ◌<◌, Bool, ◌↔◌, ◌≡◌, refl, length, get_or, Option, None, Some}
 use Rattle.std.proofs.Common.{suc-le-suc, arith, ⊎_elim, sym, ◌∙◌}
 use Rattle.std.proofs.Math.Bool.{true, false, cond}
 use Rattle.std.proofs.Math.Path.{ap}
 use mathlib.Core.List.Memᴰ
 use mathlib.Core.List.{List, [], ◌∷◌, map, Memᴰ}
-use Rattle.std.proofs.Math.Option.{Option, none, some}
 use Rattle.names.specs.Bytes.{member, all, and_right}
 use Rattle.names.specs.Path.{is_path}
 use Rattle.names.specs.Prefix.{starts_with, child}
@@ -30,19 +29,19 @@ reordered b k = record { root = b.root; folders = b.folders; remappings = k; fil
 -- what is promised of a use in a file: its first word, and what follows it
 pub record Promised (b : Lists) (file name : Text) (parts : List Text) : Type 0 where
   -- the remapping taken is the one of that name with the longest context that is a prefix of the importer, by whole components,
-  pub longest : (r : Remapping) → (remapping_for b file name ≡ some r) ↔ Taken b file name r
+  pub longest : (r : Remapping) → (remapping_for b file name ≡ Some r) ↔ Taken b file name r
   -- and the only one of that length
   pub only : (r q : Remapping) → Taken b file name r → Memᴰ q b.remappings → q.name ≡ name → starts_with file q.context ≡ true
       → length q.context ≡ length r.context → q ≡ r
   -- the importer's package root is the longest that is a prefix of it
-  pub root : (p : Text) → (get_package_root b file ≡ some p) ↔ Rooted b file p
+  pub root : (p : Text) → (get_package_root b file ≡ Some p) ↔ Rooted b file p
   -- in whatever order the remappings are listed
   pub any_order : (k : List Remapping) → Same b.remappings k → resolve_path_internal (reordered b k) file (name ∷ parts) ≡ resolve_path_internal b file (name ∷ parts)
   -- what it resolves to lies below its base: the package root, or the target of the remapping taken
-  pub below : (p : Text) (rest : List Text) → resolve_path_internal b file (name ∷ parts) ≡ to p rest → (base : Text) × ((base_of b file name ≡ some base) × (starts_with p base ≡ true))
+  pub below : (p : Text) (rest : List Text) → resolve_path_internal b file (name ∷ parts) ≡ to p rest → (base : Text) × ((base_of b file name ≡ Some base) × (starts_with p base ≡ true))
   -- an external file is never in the importer's own package
   pub never_own : is_crate name ≡ false → (p : Text) (rest : List Text) → resolve_path_internal b file (name ∷ parts) ≡ to p rest
-      → (root : Text) → get_package_root b file ≡ some root → get_package_root b p ≡ some root → ⊥
+      → (root : Text) → get_package_root b file ≡ Some root → get_package_root b p ≡ Some root → ⊥
   -- and what it resolves to is listed
   pub listed : (p : Text) (rest : List Text) → resolve_path_internal b file (name ∷ parts) ≡ to p rest → is_listed b p ≡ true
 
@@ -84,27 +83,27 @@ module _ (b : Lists) (file name : Text) (d : Distinct b.remappings) where
   only_one r q t m n p e =
       d.one q r m t.listed (equal-prefixes file q.context r.context (d.path q m) (d.path r t.listed) p t.prefix e) (n ∙ sym t.named)
 
-  taken_exactly : (r : Remapping) → (remapping_for b file name ≡ some r) ↔ Taken b file name r
+  taken_exactly : (r : Remapping) → (remapping_for b file name ≡ Some r) ↔ Taken b file name r
   taken_exactly r = (taken b file name r, λ t. go t (remapping_for b file name) refl)
     where
-      go : Taken b file name r → (o : Option Remapping) → remapping_for b file name ≡ o → o ≡ some r
-      go t none e = absurd (none-taken b file name e r t.listed t.named t.prefix)
-      go t (some q) e =
+      go : Taken b file name r → (o : Option Remapping) → remapping_for b file name ≡ o → o ≡ Some r
+      go t None e = absurd (none-taken b file name e r t.listed t.named t.prefix)
+      go t (Some q) e =
           let u = taken b file name q e in
           let x = t.most q u.listed u.named u.prefix in
           let y = u.most r t.listed t.named t.prefix in
-          ap some (only_one r q t u.listed u.named u.prefix (omega arith))
+          ap Some (only_one r q t u.listed u.named u.prefix (omega arith))
 
-rooted_exactly : (b : Lists) (file : Text) → Paths b → (p : Text) → (get_package_root b file ≡ some p) ↔ Rooted b file p
+rooted_exactly : (b : Lists) (file : Text) → Paths b → (p : Text) → (get_package_root b file ≡ Some p) ↔ Rooted b file p
 rooted_exactly b file w p = (rooted b file p, λ t. go t (get_package_root b file) refl)
   where
-    go : Rooted b file p → (o : Option Text) → get_package_root b file ≡ o → o ≡ some p
-    go t none e = absurd (none-rooted b file e p t.listed t.prefix)
-    go t (some q) e =
+    go : Rooted b file p → (o : Option Text) → get_package_root b file ≡ o → o ≡ Some p
+    go t None e = absurd (none-rooted b file e p t.listed t.prefix)
+    go t (Some q) e =
         let u = rooted b file q e in
         let x = t.most q u.listed u.prefix in
         let y = u.most p t.listed t.prefix in
-        ap some (equal-prefixes file q p (w.roots q u.listed) (w.roots p t.listed) u.prefix t.prefix (omega arith))
+        ap Some (equal-prefixes file q p (w.roots q u.listed) (w.roots p t.listed) u.prefix t.prefix (omega arith))
 
 -- IN WHATEVER ORDER
 lookup-order : (b : Lists) (k : List Remapping) (base : Text) (parts : List Text) → build_and_verify_path (reordered b k) base parts ≡ build_and_verify_path b base parts
@@ -121,16 +120,16 @@ module _ (b : Lists) (k : List Remapping) (w : Paths b) (d : Distinct b.remappin
   own-order p = rw (root-order file, root-order p)
 
   crate_order : (o : Option Text) → resolve_below (reordered b k) file parts o ≡ resolve_below b file parts o
-  crate_order none = refl
-  crate_order (some root) = ap (or_itself root file parts) (lookup-order b k root parts)
+  crate_order None = refl
+  crate_order (Some root) = ap (or_itself root file parts) (lookup-order b k root parts)
 
   external-order : (l : Lookup) → external (reordered b k) file l ≡ external b file l
   external-order (found p rest) = ap (λ (t : Bool). cond t (fails own_file_fault) (to p rest)) (own-order p)
   external-order (missing m) = refl
 
   outside-order : (o : Option Remapping) → resolve_external_path (reordered b k) file parts o ≡ resolve_external_path b file parts o
-  outside-order none = refl
-  outside-order (some r) = ap (external (reordered b k) file) (lookup-order b k r.target parts) ∙ external-order (build_and_verify_path b r.target parts)
+  outside-order None = refl
+  outside-order (Some r) = ap (external (reordered b k) file) (lookup-order b k r.target parts) ∙ external-order (build_and_verify_path b r.target parts)
 
   order-free : (name : Text) → resolve_path_internal (reordered b k) file (name ∷ parts) ≡ resolve_path_internal b file (name ∷ parts)
   unfolding resolve_path_internal resolve_crate_path

@@ -13,8 +13,7 @@ use Rattle.bundle.specs.Results.{Next, Bad}
 use Rattle.bundle.specs.declared.Field.TheVariants.{Name}
 use Rattle.resolution.specs.Lists.{Lists, lists_of}
 use Rattle.resolution.specs.Resolution.{Resolved, to, fails, number, resolve_path_internal}
-use Rattle.resolution.specs.declared.Resolution.{Resolution}
-use Rattle.resolution.specs.declared.Resolution.TheVariants.{File, Folder, Refused}
+use Rattle.resolution.specs.Results.{Resolution, File, Folder, Refused}
 
 -- how many paths stand before a path in a list
 unfoldable pub position : Text → List Text → ℕ

@@ -1,9 +1,8 @@
 -- What the card's walks mean in resolution: the package root of a listed path is the nearest root at or above it; of two contexts above a
 -- file the longer lies below the other; a segment is a child of a folder. Assumes nothing.
-use Rattle.std.specs.Prelude.{ℕ, suc, ◌+◌, ◌-◌, ◌≤◌, ◌<◌, Bool, cond, ◌⊎◌, ◌≡◌, refl, leb, ltb, length, get_or}
+use Rattle.std.specs.Prelude.{ℕ, suc, ◌+◌, ◌-◌, ◌≤◌, ◌<◌, Bool, cond, ◌⊎◌, ◌≡◌, refl, leb, ltb, length, get_or, Option, None, Some, option_map}
 use Rattle.std.proofs.Common.{arith, inl, inr, ⊎_elim, ap, subst, ◌∙◌, length-append}
 use Rattle.std.proofs.Math.Bool.{true, false}
-use Rattle.std.proofs.Math.Option.{Option, none, some}
 use Rattle.std.proofs.Math.Path.{sym}
 use mathlib.Core.List.Memᴰ
 use mathlib.Core.List.{List, [], ◌∷◌, map, Memᴰ}
@@ -17,17 +16,15 @@ use Rattle.bundle.specs.Bundle.{Text, Remapping}
 use Rattle.bundle.specs.Members.{member_true, mem_member}
 use Rattle.card.specs.Layout.{node_limit, parent_at, mark_at, folders_of}
 use Rattle.card.specs.Tree.{Tree, directly_is}
-use Rattle.card.specs.Index.{Looked}
+use Rattle.card.specs.Index.{Hit}
 use Rattle.card.specs.Card.{CardIs, nodes_in, is_at}
-use Rattle.card.specs.Laws.{in_folders, in_files, node-folder, node-file, nearest, Nearest, nearest-is, near}
-use Rattle.card.specs.declared.look.Near.{Near}
-use Rattle.card.specs.declared.look.Near.TheVariants as nearby
+use Rattle.card.specs.Laws.{in_folders, in_files, node-folder, node-file, nearest, Nearest, nearest-is}
 use Rattle.resolution.specs.Lists.{Lists}
-use Rattle.resolution.specs.Resolution.{package_roots, get_package_root, check_local_file_imported_as_external, to}
+use Rattle.resolution.specs.Resolution.{package_roots, get_package_root, same_root, check_local_file_imported_as_external, to}
 use Rattle.resolution.specs.Call.{position, answer}
 use Rattle.resolution.specs.Theorems.{rooted, none-rooted, position-is, position-small}
-use Rattle.resolution.specs.Indices.{lists_in, path_in, mapped, IsFolder, resolved_at, Listed, no_remapping}
-use Rattle.resolution.specs.declared.Resolution.TheVariants.{File, Folder}
+use Rattle.resolution.specs.Indices.{lists_in, path_in, same_index, IsFolder, resolved_at, Listed, no_remapping}
+use Rattle.resolution.specs.Results.{File, Folder}
 
 -- PREFIXES
 -- a prefix is no longer
@@ -87,7 +84,7 @@ pub record Marked (ps roots : List Text) (mark : ℕ → Bool) : Type 0 where
   pub listed : (p : Text) → Memᴰ p roots → (i : ℕ) × ((i < length ps) × (get_or ps i [] ≡ p))
 
 module _ (b : Lists) {ps : List Text} {par : ℕ → ℕ} (T : Tree ps par) (mark : ℕ → Bool) (M : Marked ps (package_roots b) mark) where
-  pub root-nearest : (f : ℕ) → f < length ps → get_package_root b (get_or ps f []) ≡ mapped (λ i. get_or ps i []) (nearest component_limit par mark f)
+  pub root-nearest : (f : ℕ) → f < length ps → get_package_root b (get_or ps f []) ≡ option_map (λ i. get_or ps i []) (nearest component_limit par mark f)
   root-nearest f h = go (get_package_root b (get_or ps f [])) (nearest component_limit par mark f) refl (nearest-is T mark f h)
     where
       marked : (p : Text) → Memᴰ p (package_roots b) → (i : ℕ) → i < length ps → get_or ps i [] ≡ p → mark i ≡ true
@@ -96,8 +93,8 @@ module _ (b : Lists) {ps : List Text} {par : ℕ → ℕ} (T : Tree ps par) (mar
       is-root : (a : ℕ) → a < length ps → mark a ≡ true → Memᴰ (get_or ps a []) (package_roots b)
       is-root a l m = member_true (get_or ps a []) (package_roots b) (sym (M.of a l) ∙ m)
 
-      go : (o : Option Text) (q : Option ℕ) → get_package_root b (get_or ps f []) ≡ o → Nearest T mark f q → o ≡ mapped (λ i. get_or ps i []) q
-      go (some p) (some a) e N =
+      go : (o : Option Text) (q : Option ℕ) → get_package_root b (get_or ps f []) ≡ o → Nearest T mark f q → o ≡ option_map (λ i. get_or ps i []) q
+      go (Some p) (Some a) e N =
           let R = rooted b (get_or ps f []) p e in
           let i = M.listed p R.listed in
           let hp : is_path p ≡ true = sym (ap is_path i.1.1) ∙ T.formed i.0 i.1.0 in
@@ -106,13 +103,13 @@ module _ (b : Lists) {ps : List Text} {par : ℕ → ℕ} (T : Tree ps par) (mar
           let up : starts_with (get_or ps a []) p ≡ true = sym (ap (starts_with (get_or ps a [])) i.1.1) ∙ N.most i.0 i.1.0 (marked p R.listed i.0 i.1.0 i.1.1) pre in
           let x : length (get_or ps a []) ≤ length p = R.most (get_or ps a []) (is-root a N.listed N.marked) N.above in
           let y : length p ≤ length (get_or ps a []) = starts-length (get_or ps a []) p ha hp up in
-          ap some (equal-prefixes (get_or ps f []) p (get_or ps a []) hp ha R.prefix N.above (omega arith))
-      go (some p) none e N =
+          ap Some (equal-prefixes (get_or ps f []) p (get_or ps a []) hp ha R.prefix N.above (omega arith))
+      go (Some p) None e N =
           let R = rooted b (get_or ps f []) p e in
           let i = M.listed p R.listed in
           absurd (N i.0 i.1.0 (marked p R.listed i.0 i.1.0 i.1.1) (ap (starts_with (get_or ps f [])) i.1.1 ∙ R.prefix))
-      go none (some a) e N = absurd (none-rooted b (get_or ps f []) e (get_or ps a []) (is-root a N.listed N.marked) N.above)
-      go none none e N = refl
+      go None (Some a) e N = absurd (none-rooted b (get_or ps f []) e (get_or ps a []) (is-root a N.listed N.marked) N.above)
+      go None None e N = refl
 
 -- THE CARD
 module _ {s c : List ℕ} (C : CardIs s c) where
@@ -156,64 +153,59 @@ module _ {s c : List ℕ} (C : CardIs s c) where
       let e = C.tree.once r.0 a (folder-listed r.0 r.1.0) h r.1.1 in
       omega (arith, r.1.0)
 
-  module _ (f : ℕ) (listed : f < length (nodes_in s)) (x : Near) (is : near x ≡ nearest_to f) where
-    pub root_none : x ≡ nearby.Nothing → get_package_root b (path_in s f) ≡ none
-    root_none e = root-nearest b C.tree marks roots-marked f listed ∙ ap (mapped (path_in s)) (sym is ∙ ap near e)
+  -- as the code finds it
+  module _ (f : ℕ) (listed : f < length (nodes_in s)) (x : Option ℕ) (is : x ≡ nearest_to f) where
+    pub root_is : get_package_root b (path_in s f) ≡ option_map (path_in s) x
+    root_is = root-nearest b C.tree marks roots-marked f listed ∙ ap (option_map (path_in s)) (sym is)
 
-    pub root_at : (a : ℕ) → x ≡ nearby.At a → get_package_root b (path_in s f) ≡ some (path_in s a)
-    root_at a e = root-nearest b C.tree marks roots-marked f listed ∙ ap (mapped (path_in s)) (sym is ∙ ap near e)
-
-    pub root-is-folder : (a : ℕ) → x ≡ nearby.At a → IsFolder s a
+    pub root-is-folder : (a : ℕ) → x ≡ Some a → IsFolder s a
     root-is-folder a e =
-        let N : Nearest C.tree marks f (some a) = subst (Nearest C.tree marks f) (sym is ∙ ap near e) (nearest-is C.tree marks f listed) in
+        let N : Nearest C.tree marks f (Some a) = subst (Nearest C.tree marks f) (sym is ∙ e) (nearest-is C.tree marks f listed) in
         marked-folder a N.listed N.marked
 
-    -- 24: whether both have one root
-    module _ (t : ℕ) (t-listed : t < length (nodes_in s)) where
-      pub own-none : x ≡ nearby.Nothing → false ≡ check_local_file_imported_as_external b (path_in s f) (path_in s t)
-      unfolding check_local_file_imported_as_external
-      own-none e = rw (root_none e)
-
     -- directly in the root
-    pub directly : (a : ℕ) → (f ≡ 0 → ⊥) → x ≡ nearby.At a → directly_in (path_in s f) (path_in s a) ≡ eqb (parent_at c f) a
+    pub directly : (a : ℕ) → (f ≡ 0 → ⊥) → x ≡ Some a → directly_in (path_in s f) (path_in s a) ≡ eqb (parent_at c f) a
     directly a z e = directly_is C.tree f a listed (folder-listed a (root-is-folder a e)) ∙ rw (ne_eqb f 0 z)
 
-  module _ (f t : ℕ) (f-listed : f < length (nodes_in s)) (t-listed : t < length (nodes_in s)) (x y : Near) (x-is : near x ≡ nearest_to f) (y-is : near y ≡ nearest_to t) (a : ℕ) (e : x ≡ nearby.At a) where
-    pub own-other : y ≡ nearby.Nothing → false ≡ check_local_file_imported_as_external b (path_in s f) (path_in s t)
+  -- 24: whether both have one root
+  module _ (f t : ℕ) (f-listed : f < length (nodes_in s)) (t-listed : t < length (nodes_in s)) (x y : Option ℕ) (x-is : x ≡ nearest_to f) (y-is : y ≡ nearest_to t) where
+    pub own-is : same_index x y ≡ check_local_file_imported_as_external b (path_in s f) (path_in s t)
     unfolding check_local_file_imported_as_external
-    own-other q = rw (root_at f f-listed x x-is a e, root_none t t-listed y y-is q)
-
-    pub own-both : (d : ℕ) → y ≡ nearby.At d → eqb a d ≡ check_local_file_imported_as_external b (path_in s f) (path_in s t)
-    unfolding check_local_file_imported_as_external
-    own-both d q = rw (root_at f f-listed x x-is a e, root_at t t-listed y y-is d q) (go (eqb a d) refl)
+    own-is = rw (root_is f f-listed x x-is, root_is t t-listed y y-is) (go x y refl refl)
       where
-        go : (u : Bool) → eqb a d ≡ u → u ≡ same (path_in s a) (path_in s d)
-        go true k = rw (eqb-true a d k) (sym (same_refl (path_in s d)))
-        go false k =
-            sym (different (path_in s a) (path_in s d) (λ z. eqb-false a d k (C.tree.once a d
-            (folder-listed a (root-is-folder f f-listed x x-is a e)) (folder-listed d (root-is-folder t t-listed y y-is d q)) z)))
+        go : (u v : Option ℕ) → x ≡ u → y ≡ v → same_index u v ≡ same_root (option_map (path_in s) u) (option_map (path_in s) v)
+        go None v p q = refl
+        go (Some a) None p q = refl
+        go (Some a) (Some d) p q = at (eqb a d) refl
+          where
+            at : (w : Bool) → eqb a d ≡ w → w ≡ same (path_in s a) (path_in s d)
+            at true k = rw (eqb-true a d k) (sym (same_refl (path_in s d)))
+            at false k =
+                sym (different (path_in s a) (path_in s d) (λ z. eqb-false a d k (C.tree.once a d
+                (folder-listed a (root-is-folder f f-listed x x-is a p)) (folder-listed d (root-is-folder t t-listed y y-is d q)) z)))
 
   -- WHAT IS FOUND, as an answer
-  found-file : (t : ℕ) → length b.folders < t → t < length (nodes_in s) → (member (path_in s t) b.files ≡ true) × (position (path_in s t) b.files ≡ t - 1 - length b.folders)
-  found-file t h l =
-      let w : Looked (is_at (nodes_in s) (path_in s t)) (length (nodes_in s)) t = record { within = l; holds = λ z. same_refl (path_in s t); nothing = λ z. absurd (omega arith) } in
-      let k = in_files b.folders b.files (path_in s t) t C.tree.once w h in
-      let p = position-small (path_in s t) b.files k.listed in
-      let q = C.tree.once (suc (length b.folders + position (path_in s t) b.files)) t (omega (arith, total)) l (node-file b.folders b.files (position (path_in s t) b.files) ∙ position-is (path_in s t) b.files [] k.listed) in
-      (k.listed, omega arith)
+  module _ (t : ℕ) (some : t ≡ 0 → ⊥) (listed : t < length (nodes_in s)) where
+    itself : Hit (is_at (nodes_in s) (path_in s t)) (length (nodes_in s)) t
+    itself = record { some = some; within = listed; holds = same_refl (path_in s t) }
 
-  found-folder : (t : ℕ) → (t ≡ 0 → ⊥) → t ≤ length b.folders → (member (path_in s t) b.files ≡ false) × (position (path_in s t) b.folders ≡ t - 1)
-  found-folder t z h =
-      let l : t < length (nodes_in s) = folder-listed t h in
-      let w : Looked (is_at (nodes_in s) (path_in s t)) (length (nodes_in s)) t = record { within = l; holds = λ z. same_refl (path_in s t); nothing = λ e. absurd (z e) } in
-      let k = in_folders b.folders b.files (path_in s t) t C.tree.once w z h in
-      let p = position-small (path_in s t) b.folders k.listed in
-      let q = C.tree.once (suc (position (path_in s t) b.folders)) t (omega (arith, total)) l (node-folder b.folders b.files (position (path_in s t) b.folders) p ∙ position-is (path_in s t) b.folders [] k.listed) in
-      (k.no_file, omega arith)
+    found-file : length b.folders < t → (member (path_in s t) b.files ≡ true) × (position (path_in s t) b.files ≡ t - 1 - length b.folders)
+    found-file h =
+        let k = in_files b.folders b.files (path_in s t) C.tree.once t itself h in
+        let p = position-small (path_in s t) b.files k.listed in
+        let q = C.tree.once (suc (length b.folders + position (path_in s t) b.files)) t (omega (arith, total)) listed (node-file b.folders b.files (position (path_in s t) b.files) ∙ position-is (path_in s t) b.files [] k.listed) in
+        (k.listed, omega arith)
+
+    found-folder : t ≤ length b.folders → (member (path_in s t) b.files ≡ false) × (position (path_in s t) b.folders ≡ t - 1)
+    found-folder h =
+        let k = in_folders b.folders b.files (path_in s t) C.tree.once t itself h in
+        let p = position-small (path_in s t) b.folders k.listed in
+        let q = C.tree.once (suc (position (path_in s t) b.folders)) t (omega (arith, total)) listed (node-folder b.folders b.files (position (path_in s t) b.folders) p ∙ position-is (path_in s t) b.folders [] k.listed) in
+        (k.no_file, omega arith)
 
   pub resolved-is : (p : Text) (t left : ℕ) (rest : List Text) → Listed s p t → left ≡ length rest → resolved_at (folders_of c) t left ≡ answer b (to p rest)
   resolved-is p t left rest L e = rw (C.folders, e, ← L.path) (go (ltb (length b.folders) t) refl)
     where
       go : (u : Bool) → ltb (length b.folders) t ≡ u → cond u (File (t - 1 - length b.folders) (length rest)) (Folder (t - 1) (length rest)) ≡ answer b (to (path_in s t) rest)
-      go true q = let k = found-file t (ltb-true _ _ q) L.listed in rw (k.0, k.1)
-      go false q = let k = found-folder t L.some (ltb-false _ _ q) in rw (k.0, k.1)
+      go true q = let k = found-file t L.some L.listed (ltb-true _ _ q) in rw (k.0, k.1)
+      go false q = let k = found-folder t L.some L.listed (ltb-false _ _ q) in rw (k.0, k.1)

@@ -16,8 +16,7 @@ use Rattle.bundle.specs.Read.{form, lists, files, verdict, read}
 use Rattle.resolution.specs.Longest.{insert, longest_first, first_of}
 use Rattle.resolution.specs.Resolution.{get_package_root, applies, remapping_for, is_folder, is_file, build_and_verify_path, resolve_crate_path, check_local_file_imported_as_external, resolve_path_internal}
 use Rattle.resolution.specs.Call.{position, scan_segments, resolve_in, resolve}
-use Rattle.resolution.specs.declared.Resolution.{Resolution}
-use Rattle.resolution.specs.declared.Resolution.TheVariants.{File, Folder, Refused}
+use Rattle.resolution.specs.Results.{Resolution, File, Folder, Refused}
 
 -- a use in a file of a bundle in bytes, and what it resolves to; the use's segments are bytes too
 pub record Row : Type 0 where

@@ -1,18 +1,17 @@
 -- Tried longest first, the first that passes is the longest that passes, whatever the order of the list. Assumes nothing.
-use Rattle.std.specs.Prelude.{ℕ, ◌≤◌, ◌<◌, Bool, ◌≡◌}
+use Rattle.std.specs.Prelude.{ℕ, ◌≤◌, ◌<◌, Bool, ◌≡◌, Option, None, Some}
 use Rattle.std.proofs.Common.{arith, ap, ◌∙◌}
 use Rattle.std.proofs.Math.Bool.{true, false, cond}
 use Rattle.std.proofs.Math.Logic.{⊎_elim}
 use Rattle.std.proofs.Math.Path.{refl, sym}
 use mathlib.Core.List.Memᴰ
 use mathlib.Core.List.{List, [], ◌∷◌, Memᴰ}
-use Rattle.std.proofs.Math.Option.{Option, none, some}
 use Rattle.std.proofs.Math.Dec.{leb}
 use borrow.Author.Tests.{le-leb, lt-leb, leb-true, leb-false}
 use Rattle.names.specs.Bytes.{false_true}
 use Rattle.resolution.specs.Longest.{insert, longest_first, first_of, tried, only, longer, longest}
 
-pub none-some : {A : Type 0} {a : A} → ◌≡◌ {A = Option A} none (some a) → ⊥
+pub none-some : {A : Type 0} {a : A} → ◌≡◌ {A = Option A} None (Some a) → ⊥
 none-some h = let z : ◌≡◌ {A = ℕ} 0 1 = cc in omega arith
 
 module _ {A : Type 0} (size : A → ℕ) where
@@ -56,12 +55,12 @@ module _ {A : Type 0} (size : A → ℕ) where
 
   module _ (f : A → Bool) where
     -- what is found among those that are not longer is not longer
-    not-longer : (a : A) (l : List A) → AllBelow (size a) l → longer size (some a) (first_of f l) ≡ some a
+    not-longer : (a : A) (l : List A) → AllBelow (size a) l → longer size (Some a) (first_of f l) ≡ Some a
     unfolding first_of
     not-longer a [] b = refl
     not-longer a (y ∷ l) b = go (f y) (not-longer a l (λ x m. b x (Memᴰ.tail m)))
       where
-        go : (t : Bool) → longer size (some a) (first_of f l) ≡ some a → longer size (some a) (cond t (some y) (first_of f l)) ≡ some a
+        go : (t : Bool) → longer size (Some a) (first_of f l) ≡ Some a → longer size (Some a) (cond t (Some y) (first_of f l)) ≡ Some a
         go true r = rw (le-leb _ _ (b y (Memᴰ.head refl)))
         go false r = r
 
@@ -69,21 +68,21 @@ module _ {A : Type 0} (size : A → ℕ) where
     unfolding first_of insert
     first-insert a [] s = go (f a)
       where
-        go : (t : Bool) → cond t (some a) none ≡ longer size (cond t (some a) none) none
+        go : (t : Bool) → cond t (Some a) None ≡ longer size (cond t (Some a) None) None
         go true = refl
         go false = refl
     first-insert a (y ∷ l) (onto b s) = go (leb (size y) (size a)) refl (first-insert a l s)
       where
-        here : AllBelow (size a) (y ∷ l) → (u : Bool) → cond u (some a) (first_of f (y ∷ l)) ≡ longer size (cond u (some a) none) (first_of f (y ∷ l))
+        here : AllBelow (size a) (y ∷ l) → (u : Bool) → cond u (Some a) (first_of f (y ∷ l)) ≡ longer size (cond u (Some a) None) (first_of f (y ∷ l))
         here h true = sym (not-longer a (y ∷ l) h)
         here h false = refl
 
-        keep : (u : Bool) → size a < size y → some y ≡ longer size (cond u (some a) none) (some y)
+        keep : (u : Bool) → size a < size y → Some y ≡ longer size (cond u (Some a) None) (Some y)
         keep true lt = rw (lt-leb _ _ lt)
         keep false lt = refl
 
         later : (v : Bool) → size a < size y → first_of f (insert size a l) ≡ longer size (only f a) (first_of f l)
-            → cond v (some y) (first_of f (insert size a l)) ≡ longer size (only f a) (cond v (some y) (first_of f l))
+            → cond v (Some y) (first_of f (insert size a l)) ≡ longer size (only f a) (cond v (Some y) (first_of f l))
         later true lt r = keep (f a) lt
         later false lt r = r
 
@@ -106,24 +105,24 @@ module _ {A : Type 0} (size : A → ℕ) where
 
     -- where nothing is found, none passes
     abbrev pub Found : List A → Option A → Type 0
-    Found l none = (x : A) → Memᴰ x l → f x ≡ true → ⊥
-    Found l (some r) = Best l r
+    Found l None = (x : A) → Memᴰ x l → f x ≡ true → ⊥
+    Found l (Some r) = Best l r
 
-    found-more : (a : A) (l : List A) (u : Bool) → f a ≡ u → (o : Option A) → Found l o → Found (a ∷ l) (longer size (cond u (some a) none) o)
-    found-more a l false e none h = λ x m t. ⊎_elim (λ q. false_true (sym e ∙ rw (← q) t)) (λ m. h x m t) (Memᴰ.cases_cons m)
-    found-more a l false e (some r) h = record {
+    found-more : (a : A) (l : List A) (u : Bool) → f a ≡ u → (o : Option A) → Found l o → Found (a ∷ l) (longer size (cond u (Some a) None) o)
+    found-more a l false e None h = λ x m t. ⊎_elim (λ q. false_true (sym e ∙ rw (← q) t)) (λ m. h x m t) (Memᴰ.cases_cons m)
+    found-more a l false e (Some r) h = record {
       passes = h.passes;
       among = Memᴰ.tail h.among;
       most = λ x m t. ⊎_elim (λ q. absurd (false_true (sym e ∙ rw (← q) t))) (λ m. h.most x m t) (Memᴰ.cases_cons m);
     }
-    found-more a l true e none h = record {
+    found-more a l true e None h = record {
       passes = e;
       among = Memᴰ.head refl;
       most = λ x m t. ⊎_elim (λ q. rw q (omega arith)) (λ m. absurd (h x m t)) (Memᴰ.cases_cons m);
     }
-    found-more a l true e (some r) h = go (leb (size r) (size a)) refl
+    found-more a l true e (Some r) h = go (leb (size r) (size a)) refl
       where
-        go : (t : Bool) → leb (size r) (size a) ≡ t → Found (a ∷ l) (cond t (some a) (some r))
+        go : (t : Bool) → leb (size r) (size a) ≡ t → Found (a ∷ l) (cond t (Some a) (Some r))
         go true q =
             let le : size r ≤ size a = leb-true _ _ q in
             record {
@@ -154,28 +153,28 @@ module _ {A : Type 0} (size : A → ℕ) where
     any_order l k to back one = go (tried size f l) (tried size f k) (found-tried l) (found-tried k)
       where
         go : (o p : Option A) → Found l o → Found k p → o ≡ p
-        go none none h i = refl
-        go none (some q) h i = absurd (h q (back q i.among) i.passes)
-        go (some r) none h i = absurd (i r (to r h.among) h.passes)
-        go (some r) (some q) h i =
+        go None None h i = refl
+        go None (Some q) h i = absurd (h q (back q i.among) i.passes)
+        go (Some r) None h i = absurd (i r (to r h.among) h.passes)
+        go (Some r) (Some q) h i =
             let a = h.most q (back q i.among) i.passes in
             let b = i.most r (to r h.among) h.passes in
             let e : r ≡ q = one r q h.among (back q i.among) h.passes i.passes (omega arith) in
-            ap some e
+            ap Some e
 
 -- THE LONGEST, found in one pass
-pub longer-none : {A : Type 0} (size : A → ℕ) (x : Option A) → longer size x none ≡ x
-longer-none size none = refl
-longer-none size (some a) = refl
+pub longer-none : {A : Type 0} (size : A → ℕ) (x : Option A) → longer size x None ≡ x
+longer-none size None = refl
+longer-none size (Some a) = refl
 
 pub longer_assoc : {A : Type 0} (size : A → ℕ) (x y z : Option A) → longer size x (longer size y z) ≡ longer size (longer size x y) z
-longer_assoc size none y z = refl
-longer_assoc size (some a) none z = refl
-longer_assoc size (some a) (some b) none = sym (longer-none size (longer size (some a) (some b)))
-longer_assoc size (some a) (some b) (some c) = go (leb (size c) (size b)) refl (leb (size b) (size a)) refl
+longer_assoc size None y z = refl
+longer_assoc size (Some a) None z = refl
+longer_assoc size (Some a) (Some b) None = sym (longer-none size (longer size (Some a) (Some b)))
+longer_assoc size (Some a) (Some b) (Some c) = go (leb (size c) (size b)) refl (leb (size b) (size a)) refl
   where
     go : (t : Bool) → leb (size c) (size b) ≡ t → (u : Bool) → leb (size b) (size a) ≡ u
-        → longer size (some a) (cond t (some b) (some c)) ≡ longer size (cond u (some a) (some b)) (some c)
+        → longer size (Some a) (cond t (Some b) (Some c)) ≡ longer size (cond u (Some a) (Some b)) (Some c)
     go true p true q =
         let x : size c ≤ size b = leb-true _ _ p in
         let y : size b ≤ size a = leb-true _ _ q in

@@ -1,12 +1,11 @@
 -- THE LOOKUP, AND 20 TO 25, exactly when: said a second way, without the lookup's recursion. Of any lists. Assumes nothing.
 use Prim.Native.Nat.{ℕ, zero, suc, ◌≤◌, ◌<◌}
 use Rattle.std.proofs.Common.{not-suc-le-zero, le_of_suc-le-suc, arith, sym, ◌∙◌, ltb-true, ltb-false}
-use Rattle.std.specs.Prelude.{Bool, cond, ◌⊎◌, ◌↔◌, ◌≡◌, ltb, length, get_or, drop}
+use Rattle.std.specs.Prelude.{Bool, cond, ◌⊎◌, ◌↔◌, ◌≡◌, ltb, length, get_or, drop, Option, None, Some}
 use Rattle.std.proofs.Math.Bool.{true, false}
 use Rattle.std.proofs.Math.Logic.{inl, inr, ⊎_elim}
 use Rattle.std.proofs.Math.Path.{refl, ap}
 use mathlib.Core.List.{List, [], ◌∷◌, Memᴰ}
-use Rattle.std.proofs.Math.Option.{Option, none, some}
 use Rattle.names.specs.Bytes.{member, same-eq, same_refl, false_true, not_true}
 use Rattle.names.specs.Prefix.{starts_with, directly_in, child, child_file}
 use Rattle.names.specs.Keywords.{is_crate}
@@ -14,7 +13,7 @@ use Rattle.bundle.specs.Bundle.{Text, Remapping}
 use Rattle.resolution.specs.Lists.{Lists}
 use Rattle.resolution.specs.LongestLaws.{none-some}
 use Rattle.resolution.specs.Call.{position, answer, resolve_in}
-use Rattle.resolution.specs.declared.Resolution.TheVariants.{File, Folder, Refused}
+use Rattle.resolution.specs.Results.{File, Folder, Refused}
 use Rattle.resolution.specs.Resolution.{package_roots, get_package_root, remapping_for, Missing, in_folder, no_path, Lookup, found, missing, is_folder, exists, build_and_verify_path, Fault, empty_use_fault, unknown_library_fault, no_library_file_fault, no_file_fault, own_file_fault, no_root_fault, number, Resolved, to, fails, or_itself, resolve_below, resolve_crate_path, same_root, check_local_file_imported_as_external, external, resolve_external_path, resolve_path_internal}
 use Rattle.resolution.specs.Theorems.{taken, none-taken, rooted, none-rooted}
 
@@ -177,19 +176,19 @@ module _ (b : Lists) (file : Text) where
   abbrev pub NoRemapping : Text → Type 0
   NoRemapping name = (r : Remapping) → Memᴰ r b.remappings → r.name ≡ name → starts_with file r.context ≡ true → ⊥
 
-  pub under_no_root : (get_package_root b file ≡ none) ↔ UnderNoRoot
+  pub under_no_root : (get_package_root b file ≡ None) ↔ UnderNoRoot
   under_no_root = (none-rooted b file, λ u. go u (get_package_root b file) refl)
     where
-      go : UnderNoRoot → (o : Option Text) → get_package_root b file ≡ o → o ≡ none
-      go u none e = refl
-      go u (some p) e = let r = rooted b file p e in absurd (u p r.listed r.prefix)
+      go : UnderNoRoot → (o : Option Text) → get_package_root b file ≡ o → o ≡ None
+      go u None e = refl
+      go u (Some p) e = let r = rooted b file p e in absurd (u p r.listed r.prefix)
 
-  pub no_remapping : (name : Text) → (remapping_for b file name ≡ none) ↔ NoRemapping name
+  pub no_remapping : (name : Text) → (remapping_for b file name ≡ None) ↔ NoRemapping name
   no_remapping name = (none-taken b file name, λ u. go u (remapping_for b file name) refl)
     where
-      go : NoRemapping name → (o : Option Remapping) → remapping_for b file name ≡ o → o ≡ none
-      go u none e = refl
-      go u (some r) e = let t = taken b file name r e in absurd (u r t.listed t.named t.prefix)
+      go : NoRemapping name → (o : Option Remapping) → remapping_for b file name ≡ o → o ≡ None
+      go u None e = refl
+      go u (Some r) e = let t = taken b file name r e in absurd (u r t.listed t.named t.prefix)
 
   module _ (name : Text) (parts : List Text) where
     -- 21: not `crate`, and no remapping
@@ -201,14 +200,14 @@ module _ (b : Lists) (file : Text) where
     pub record NoLibraryFile (m : Missing) : Type 0 where
       pub word : is_crate name ≡ false
       pub remapping : Remapping
-      pub takes : remapping_for b file name ≡ some remapping
+      pub takes : remapping_for b file name ≡ Some remapping
       pub lookup : build_and_verify_path b remapping.target parts ≡ missing m
 
     -- 23: `crate`, the lookup below the importer's package root finds nothing, and the importer isn't directly in that root (C4)
     pub record NoFile (m : Missing) : Type 0 where
       pub word : is_crate name ≡ true
       pub root : Text
-      pub roots : get_package_root b file ≡ some root
+      pub roots : get_package_root b file ≡ Some root
       pub lookup : build_and_verify_path b root parts ≡ missing m
       pub not_in_root : directly_in file root ≡ false
 
@@ -216,13 +215,13 @@ module _ (b : Lists) (file : Text) where
     pub record OwnFile : Type 0 where
       pub word : is_crate name ≡ false
       pub remapping : Remapping
-      pub takes : remapping_for b file name ≡ some remapping
+      pub takes : remapping_for b file name ≡ Some remapping
       pub path : Text
       pub rest : List Text
       pub lookup : build_and_verify_path b remapping.target parts ≡ found path rest
       pub root : Text
-      pub importers : get_package_root b file ≡ some root
-      pub its_own : get_package_root b path ≡ some root
+      pub importers : get_package_root b file ≡ Some root
+      pub its_own : get_package_root b path ≡ Some root
 
     -- 25: `crate`, and the importer lies under no root
     pub record NoRoot : Type 0 where
@@ -233,14 +232,14 @@ module _ (b : Lists) (file : Text) where
     pub record CrateFile (p : Text) (rest : List Text) : Type 0 where
       pub word : is_crate name ≡ true
       pub root : Text
-      pub roots : get_package_root b file ≡ some root
+      pub roots : get_package_root b file ≡ Some root
       pub lookup : build_and_verify_path b root parts ≡ found p rest
 
     -- .. or not found there, the importer directly in that root: to itself, the segments after `crate` left (C4) ..
     pub record Itself (p : Text) (rest : List Text) : Type 0 where
       pub word : is_crate name ≡ true
       pub root : Text
-      pub roots : get_package_root b file ≡ some root
+      pub roots : get_package_root b file ≡ Some root
       pub why : Missing
       pub lookup : build_and_verify_path b root parts ≡ missing why
       pub in_root : directly_in file root ≡ true
@@ -251,9 +250,9 @@ module _ (b : Lists) (file : Text) where
     pub record LibraryFile (p : Text) (rest : List Text) : Type 0 where
       pub word : is_crate name ≡ false
       pub remapping : Remapping
-      pub takes : remapping_for b file name ≡ some remapping
+      pub takes : remapping_for b file name ≡ Some remapping
       pub lookup : build_and_verify_path b remapping.target parts ≡ found p rest
-      pub not_own : (root : Text) → get_package_root b file ≡ some root → get_package_root b p ≡ some root → ⊥
+      pub not_own : (root : Text) → get_package_root b file ≡ Some root → get_package_root b p ≡ Some root → ⊥
 
     abbrev pub ResolvesTo : Text → List Text → Type 0
     ResolvesTo p rest = CrateFile p rest ⊎ (Itself p rest ⊎ LibraryFile p rest)
@@ -268,12 +267,12 @@ module _ (b : Lists) (file : Text) where
     Meets (fails no_root_fault) = NoRoot
 
 -- one root, or not
-one-root : (x y : Option Text) → same_root x y ≡ true → (root : Text) × ((x ≡ some root) × (y ≡ some root))
-one-root none y h = absurd (false_true h)
-one-root (some p) none h = absurd (false_true h)
-one-root (some p) (some q) h = (p, (refl, ap some (sym (same-eq p q h))))
+one-root : (x y : Option Text) → same_root x y ≡ true → (root : Text) × ((x ≡ Some root) × (y ≡ Some root))
+one-root None y h = absurd (false_true h)
+one-root (Some p) None h = absurd (false_true h)
+one-root (Some p) (Some q) h = (p, (refl, ap Some (sym (same-eq p q h))))
 
-two-roots : (x y : Option Text) → same_root x y ≡ false → (root : Text) → x ≡ some root → y ≡ some root → ⊥
+two-roots : (x y : Option Text) → same_root x y ≡ false → (root : Text) → x ≡ Some root → y ≡ Some root → ⊥
 two-roots x y h root e f = false_true (sym (rw (e, f) at h) ∙ same_refl root)
 
 module _ (b : Lists) (file name : Text) (parts : List Text) where
@@ -282,8 +281,8 @@ module _ (b : Lists) (file name : Text) (parts : List Text) where
   meets = go (is_crate name) refl
     where
       below : is_crate name ≡ true → (o : Option Text) → get_package_root b file ≡ o → Meets b file name parts (resolve_below b file parts o)
-      below c none e = record { word = c; nothing = none-rooted b file e }
-      below c (some root) e = at (build_and_verify_path b root parts) refl
+      below c None e = record { word = c; nothing = none-rooted b file e }
+      below c (Some root) e = at (build_and_verify_path b root parts) refl
         where
           at : (l : Lookup) → build_and_verify_path b root parts ≡ l → Meets b file name parts (or_itself root file parts l)
           at (found p rest) f = inl (record { word = c; root = root; roots = e; lookup = f })
@@ -294,8 +293,8 @@ module _ (b : Lists) (file name : Text) (parts : List Text) where
               in_it false d = record { word = c; root = root; roots = e; lookup = f; not_in_root = d }
 
       outside : is_crate name ≡ false → (o : Option Remapping) → remapping_for b file name ≡ o → Meets b file name parts (resolve_external_path b file parts o)
-      outside c none e = record { word = c; nothing = none-taken b file name e }
-      outside c (some r) e = at (build_and_verify_path b r.target parts) refl
+      outside c None e = record { word = c; nothing = none-taken b file name e }
+      outside c (Some r) e = at (build_and_verify_path b r.target parts) refl
         where
           at : (l : Lookup) → build_and_verify_path b r.target parts ≡ l → Meets b file name parts (external b file l)
           at (missing m) f = record { word = c; remapping = r; takes = e; lookup = f }
@@ -369,7 +368,7 @@ module _ (b : Lists) (file name : Text) (parts : List Text) where
   never_own-file u h = none-some (sym ((under_no_root b file).1 u) ∙ (own-file.0 h).importers)
 
   -- .. but what the lookup finds
-  pub outside-found : UnderNoRoot b file → is_crate name ≡ false → (r : Remapping) → remapping_for b file name ≡ some r → (p : Text) (rest : List Text)
+  pub outside-found : UnderNoRoot b file → is_crate name ≡ false → (r : Remapping) → remapping_for b file name ≡ Some r → (p : Text) (rest : List Text)
       → build_and_verify_path b r.target parts ≡ found p rest → resolve_path_internal b file (name ∷ parts) ≡ to p rest
   outside-found u c r t p rest f =
       (resolved p rest).1 (inr (inr (record { word = c; remapping = r; takes = t; lookup = f; not_own = λ root e i. none-some (sym ((under_no_root b file).1 u) ∙ e) })))

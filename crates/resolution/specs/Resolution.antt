@@ -1,6 +1,5 @@
 -- Steps 1 and 2: what a use resolves to. The names are those of resolution.rs. Assumes nothing.
-use Rattle.std.specs.Prelude.{ℕ, Bool, false, cond, ◌&&◌, ◌||◌, List, [], ◌∷◌, map, length}
-use Rattle.std.proofs.Math.Option.{Option, none, some}
+use Rattle.std.specs.Prelude.{ℕ, Bool, false, cond, ◌&&◌, ◌||◌, List, [], ◌∷◌, map, length, Option, None, Some}
 use Rattle.names.specs.Bytes.{same, member}
 use Rattle.names.specs.Prefix.{starts_with, directly_in, child, child_file}
 use Rattle.names.specs.Keywords.{is_crate}
@@ -84,17 +83,17 @@ or_itself root file parts (found p rest) = to p rest
 or_itself root file parts (missing m) = cond (directly_in file root) (to file parts) (fails (no_file_fault m))
 
 abbrev pub resolve_below : Lists → Text → List Text → Option Text → Resolved
-resolve_below b file parts none = fails no_root_fault
-resolve_below b file parts (some root) = or_itself root file parts (build_and_verify_path b root parts)
+resolve_below b file parts None = fails no_root_fault
+resolve_below b file parts (Some root) = or_itself root file parts (build_and_verify_path b root parts)
 
 unfoldable pub resolve_crate_path : Lists → Text → List Text → Resolved
 resolve_crate_path b file parts = resolve_below b file parts (get_package_root b file)
 
 -- whether both are the same root
 abbrev pub same_root : Option Text → Option Text → Bool
-same_root none y = false
-same_root (some p) none = false
-same_root (some p) (some q) = same p q
+same_root None y = false
+same_root (Some p) None = false
+same_root (Some p) (Some q) = same p q
 
 unfoldable pub check_local_file_imported_as_external : Lists → Text → Text → Bool
 check_local_file_imported_as_external b file p = same_root (get_package_root b file) (get_package_root b p)
@@ -104,8 +103,8 @@ external b file (found p rest) = cond (check_local_file_imported_as_external b f
 external b file (missing m) = fails (no_library_file_fault m)
 
 abbrev pub resolve_external_path : Lists → Text → List Text → Option Remapping → Resolved
-resolve_external_path b file parts none = fails unknown_library_fault
-resolve_external_path b file parts (some r) = external b file (build_and_verify_path b r.target parts)
+resolve_external_path b file parts None = fails unknown_library_fault
+resolve_external_path b file parts (Some r) = external b file (build_and_verify_path b r.target parts)
 
 unfoldable pub resolve_path_internal : Lists → Text → List Text → Resolved
 resolve_path_internal b file [] = fails empty_use_fault

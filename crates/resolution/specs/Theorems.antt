@@ -1,12 +1,11 @@
 -- What resolution promises of every bundle's lists. Assumes nothing.
-use Rattle.std.specs.Prelude.{ℕ, suc, ◌≤◌, ◌<◌, Bool, cond, ◌&&◌, ◌||◌, not, ◌⊎◌, ◌≡◌, eqb, leb, get_or}
+use Rattle.std.specs.Prelude.{ℕ, suc, ◌≤◌, ◌<◌, Bool, cond, ◌&&◌, ◌||◌, not, ◌⊎◌, ◌≡◌, eqb, leb, get_or, Option, None, Some}
 use Rattle.std.proofs.Common.{arith, inl, inr, sym, ap, ◌∙◌, length-append, eq-eqb, ne_eqb, eqb-true}
 use Rattle.std.proofs.Math.Bool.{true, false}
 use Rattle.std.proofs.Math.Logic.{⊎_elim}
 use Rattle.std.proofs.Math.Path.{refl}
 use mathlib.Core.List.Memᴰ
 use mathlib.Core.List.{List, [], ◌∷◌, ◌++◌, map, Memᴰ}
-use Rattle.std.proofs.Math.Option.{Option, none, some}
 use Rattle.std.proofs.Math.ListN.{length}
 use Rattle.names.specs.Bytes.{ascii, slash, same, member, all, all-each, same-eq, same_refl, different, and_left, and_right, false_true}
 use Rattle.names.specs.Path.{root, is_path, components, well_formed}
@@ -48,7 +47,7 @@ module _ (b : Lists) (file name : Text) where
   abbrev size : Remapping → ℕ
   size r = length r.context
 
-  pub taken : (r : Remapping) → remapping_for b file name ≡ some r → Taken r
+  pub taken : (r : Remapping) → remapping_for b file name ≡ Some r → Taken r
   unfolding remapping_for
   taken r h =
       let t : Best size (applies file name) b.remappings r = rw h at (found-tried size (applies file name) b.remappings) in
@@ -60,7 +59,7 @@ module _ (b : Lists) (file name : Text) where
       }
 
   -- where none is taken, none of that name has such a context
-  pub none-taken : remapping_for b file name ≡ none → (q : Remapping) → Memᴰ q b.remappings → q.name ≡ name → starts_with file q.context ≡ true → ⊥
+  pub none-taken : remapping_for b file name ≡ None → (q : Remapping) → Memᴰ q b.remappings → q.name ≡ name → starts_with file q.context ≡ true → ⊥
   unfolding remapping_for
   none-taken h q m e p =
       (rw h at (found-tried size (applies file name) b.remappings)) q m (applying file name q p e)
@@ -90,13 +89,13 @@ module _ (b : Lists) (file : Text) where
     pub prefix : starts_with file p ≡ true
     pub most : (q : Text) → Memᴰ q (package_roots b) → starts_with file q ≡ true → length q ≤ length p
 
-  pub rooted : (p : Text) → get_package_root b file ≡ some p → Rooted p
+  pub rooted : (p : Text) → get_package_root b file ≡ Some p → Rooted p
   unfolding get_package_root
   rooted p h =
       let t : Best length (starts_with file) (package_roots b) p = rw h at (found-tried length (starts_with file) (package_roots b)) in
       record { listed = t.among; prefix = t.passes; most = t.most }
 
-  pub none-rooted : get_package_root b file ≡ none → (q : Text) → Memᴰ q (package_roots b) → starts_with file q ≡ true → ⊥
+  pub none-rooted : get_package_root b file ≡ None → (q : Text) → Memᴰ q (package_roots b) → starts_with file q ≡ true → ⊥
   unfolding get_package_root
   none-rooted h = rw h at (found-tried length (starts_with file) (package_roots b))
 
@@ -126,12 +125,12 @@ same-roots b c e s = record {
 -- THE PRACTICE'S CASE, for all names: a context p never applies to a file below p with more bytes appended to its last
 -- component, as `/r/payroll/m.simf` and `/r/pay`. Nor does a package root.
 module _ (b : Lists) (p more : Text) (x : ℕ) (h : is_path p ≡ true) (n : p ≡ root → ⊥) (k : x ≡ slash → ⊥) where
-  pub payroll : (name : Text) (r : Remapping) → remapping_for b (p ++ (x ∷ more)) name ≡ some r → r.context ≡ p → ⊥
+  pub payroll : (name : Text) (r : Remapping) → remapping_for b (p ++ (x ∷ more)) name ≡ Some r → r.context ≡ p → ⊥
   payroll name r t e =
       let f = rw e at (taken b (p ++ (x ∷ more)) name r t).prefix in
       false_true (sym (not-below p more x h n k) ∙ f)
 
-  pub payroll_root : get_package_root b (p ++ (x ∷ more)) ≡ some p → ⊥
+  pub payroll_root : get_package_root b (p ++ (x ∷ more)) ≡ Some p → ⊥
   payroll_root t = false_true (sym (not-below p more x h n k) ∙ (rooted b (p ++ (x ∷ more)) p t).prefix)
 
 -- THE ARCHITECTS' CASE: with contexts `/` and p of one name, files below p take the second, all others the first
@@ -156,32 +155,32 @@ module _ (b : Lists) (name p : Text) (r q : Remapping) (h : is_path p ≡ true) 
   everywhere : starts_with file r.context ≡ true
   everywhere = rw a.first_context (starts_with_root file)
 
-  pub below-takes : starts_with file p ≡ true → remapping_for b file name ≡ some q
+  pub below-takes : starts_with file p ≡ true → remapping_for b file name ≡ Some q
   below-takes s = go (remapping_for b file name) refl
     where
       here : starts_with file q.context ≡ true
       here = rw a.second_context s
 
-      go : (o : Option Remapping) → remapping_for b file name ≡ o → o ≡ some q
-      go none e = absurd (none-taken b file name e r a.first a.first_name everywhere)
-      go (some x) e =
+      go : (o : Option Remapping) → remapping_for b file name ≡ o → o ≡ Some q
+      go None e = absurd (none-taken b file name e r a.first a.first_name everywhere)
+      go (Some x) e =
           let t = taken b file name x e in
           let shorter : (x ≡ r) → ⊥ = λ i.
           let m : length p ≤ length root = rw (a.second_context, i, a.first_context) at (t.most q a.second a.second_name here) in
           n (equal-prefixes file p root h root_path s (starts_with_root file) (omega (arith, some-length p h))) in
-          ⊎_elim (λ i. absurd (shorter i)) (λ i. ap some i) (a.others x t.listed t.named)
+          ⊎_elim (λ i. absurd (shorter i)) (λ i. ap Some i) (a.others x t.listed t.named)
 
-  pub others-take : starts_with file p ≡ false → remapping_for b file name ≡ some r
+  pub others-take : starts_with file p ≡ false → remapping_for b file name ≡ Some r
   others-take s = go (remapping_for b file name) refl
     where
       below : {c : Text} → c ≡ p → starts_with file c ≡ true → ⊥
       below e k = false_true (sym s ∙ rw e at k)
 
-      go : (o : Option Remapping) → remapping_for b file name ≡ o → o ≡ some r
-      go none e = absurd (none-taken b file name e r a.first a.first_name everywhere)
-      go (some x) e =
+      go : (o : Option Remapping) → remapping_for b file name ≡ o → o ≡ Some r
+      go None e = absurd (none-taken b file name e r a.first a.first_name everywhere)
+      go (Some x) e =
           let t = taken b file name x e in
-          ⊎_elim (λ i. ap some i) (λ i. absurd (below (ap (λ (r : Remapping). r.context) i ∙ a.second_context) t.prefix)) (a.others x t.listed t.named)
+          ⊎_elim (λ i. ap Some i) (λ i. absurd (below (ap (λ (r : Remapping). r.context) i ∙ a.second_context) t.prefix)) (a.others x t.listed t.named)
 
 -- WHAT A USE RESOLVES TO
 -- a segment can stand in a path: it has a byte, and no slash
@@ -286,8 +285,8 @@ found_below b base (part ∷ parts) p rest f k i h =
 -- THE WHOLE
 -- where a use is searched from: the importer's package root, or the target of the remapping taken
 abbrev target_of : Option Remapping → Option Text
-target_of none = none
-target_of (some r) = some r.target
+target_of None = None
+target_of (Some r) = Some r.target
 
 abbrev pub base_of : Lists → Text → Text → Option Text
 base_of b file name = cond (is_crate name) (get_package_root b file) (target_of (remapping_for b file name))
@@ -329,7 +328,7 @@ module _ (b : Lists) (file : Text) (parts : List Text) (p : Text) (rest : List T
 
   -- what a use resolves to is found below its base, or is the importer itself, directly in its package root
   record Came (name base : Text) : Type 0 where
-    from : base_of b file name ≡ some base
+    from : base_of b file name ≡ Some base
     how : (build_and_verify_path b base parts ≡ found p rest) ⊎ ((p ≡ file) × (directly_in file base ≡ true))
 
   came : (name : Text) → resolve_path_internal b file (name ∷ parts) ≡ to p rest → (base : Text) × Came name base
@@ -337,12 +336,12 @@ module _ (b : Lists) (file : Text) (parts : List Text) (p : Text) (rest : List T
   came name h = go (is_crate name) refl h
     where
       below : is_crate name ≡ true → (o : Option Text) → get_package_root b file ≡ o → resolve_below b file parts o ≡ to p rest → (base : Text) × Came name base
-      below c none e h = absurd (refused h)
-      below c (some base) e h = (base, record { from = rw (c, e); how = crate_cases base (build_and_verify_path b base parts) h })
+      below c None e h = absurd (refused h)
+      below c (Some base) e h = (base, record { from = rw (c, e); how = crate_cases base (build_and_verify_path b base parts) h })
 
       outside : is_crate name ≡ false → (o : Option Remapping) → remapping_for b file name ≡ o → resolve_external_path b file parts o ≡ to p rest → (base : Text) × Came name base
-      outside c none e h = absurd (refused h)
-      outside c (some r) e h =
+      outside c None e h = absurd (refused h)
+      outside c (Some r) e h =
           (r.target, record { from = rw (c, e); how = inl (external_cases (build_and_verify_path b r.target parts) h).0 })
 
       go : (t : Bool) → is_crate name ≡ t → cond t (resolve_below b file parts (get_package_root b file)) (resolve_external_path b file parts (remapping_for b file name)) ≡ to p rest → (base : Text) × Came name base
@@ -357,7 +356,7 @@ module _ (b : Lists) (file : Text) (parts : List Text) (p : Text) (rest : List T
         ⊎_elim (λ f. found-listed b c.0 parts p rest f) (λ i. rw i.0 l) c.1.how
 
     -- it lies below the base it was searched from
-    pub resolved-below : Paths b → all is_identifier parts ≡ true → (base : Text) × ((base_of b file name ≡ some base) × (starts_with p base ≡ true))
+    pub resolved-below : Paths b → all is_identifier parts ≡ true → (base : Text) × ((base_of b file name ≡ Some base) × (starts_with p base ≡ true))
     unfolding directly_in
     resolved-below q i =
         let c = came name h in
@@ -366,25 +365,25 @@ module _ (b : Lists) (file : Text) (parts : List Text) (p : Text) (rest : List T
         itself : (base : Text) → (p ≡ file) × (directly_in file base ≡ true) → starts_with p base ≡ true
         itself base j = rw j.0 (and_left (starts_with file base) _ j.1)
 
-        rooted_base : (base : Text) → base_of b file name ≡ some base → Memᴰ base (package_roots b)
+        rooted_base : (base : Text) → base_of b file name ≡ Some base → Memᴰ base (package_roots b)
         rooted_base base e = go (is_crate name) e
           where
-            target : (o : Option Remapping) → remapping_for b file name ≡ o → target_of o ≡ some base → Memᴰ base (package_roots b)
-            target none k e = absurd (none-some e)
-            target (some r) k e = let x : r.target ≡ base = cc in rw (← x) (target-root b r (taken b file name r k).listed)
+            target : (o : Option Remapping) → remapping_for b file name ≡ o → target_of o ≡ Some base → Memᴰ base (package_roots b)
+            target None k e = absurd (none-some e)
+            target (Some r) k e = let x : r.target ≡ base = cc in rw (← x) (target-root b r (taken b file name r k).listed)
 
-            go : (t : Bool) → cond t (get_package_root b file) (target_of (remapping_for b file name)) ≡ some base → Memᴰ base (package_roots b)
+            go : (t : Bool) → cond t (get_package_root b file) (target_of (remapping_for b file name)) ≡ Some base → Memᴰ base (package_roots b)
             go true e = (rooted b file base e).listed
             go false e = target (remapping_for b file name) refl e
 
     -- and the importer's own package root never comes back from an external use
-    pub never_own : is_crate name ≡ false → (base : Text) → get_package_root b file ≡ some base → get_package_root b p ≡ some base → ⊥
+    pub never_own : is_crate name ≡ false → (base : Text) → get_package_root b file ≡ Some base → get_package_root b p ≡ Some base → ⊥
     unfolding resolve_path_internal check_local_file_imported_as_external
     never_own c base e k = outside (remapping_for b file name) (rw c at h)
       where
         outside : (o : Option Remapping) → resolve_external_path b file parts o ≡ to p rest → ⊥
-        outside none h = refused h
-        outside (some r) h =
+        outside None h = refused h
+        outside (Some r) h =
             let x : same_root (get_package_root b file) (get_package_root b p) ≡ false = (external_cases (build_and_verify_path b r.target parts) h).1 in
             false_true (sym (rw (e, k) at x) ∙ same_refl base)
 

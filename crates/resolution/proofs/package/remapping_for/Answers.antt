@@ -1,19 +1,23 @@
 -- `remapping_for` meets its contract. Assumes nothing.
-use native.Mathlib.Omega.{arith}
-use Rattle.resolution.specs.TakenLaws.{taking_none, taking_one, taking_all, can-within}
+use Rattle.std.proofs.Common.{◌<◌, arith, length, sym, ◌∙◌}
+use Rattle.bundle.specs.Decode.{decode}
+use Rattle.resolution.specs.TakenLaws.{taking_none, taking-other, taking-new, taking_all, can-within}
 use Rattle.resolution.proofs.package.remapping_for.Goals as goal
-
-pub remapping_count-n-requires : goal.remapping_count-n-requires
-remapping_count-n-requires c = c.requires.0.card.above.size
+use Rattle.resolution.proofs.package.remapping_for.Goals.{then-remapping_applies, else-remapping_applies}
 
 pub loop-j-init : goal.loop-j-init
 loop-j-init c = taking_none _ _ _
 
-pub remapping_step-best-requires : goal.remapping_step-best-requires
-remapping_step-best-requires c = (c.requires.0, (c.requires.1, (omega (arith, c.loop-j-test.true, c.remapping_count-n.ensures, c.requires.0.card.remappings), can-within c.requires.0.card _ c.requires.1 c.args.name.now c.loop-j.best c.requires.0.few c.loop-j.invariant.can)))
+pub longer-requires : goal.longer-requires
+longer-requires c = (c.requires.0.card.above, (can-within c.requires.0.card _ c.requires.1 c.args.name.now c.loop-j.best c.requires.0.few c.loop-j.invariant.can, omega (arith, c.requires.0.card.remappings, c.requires.0.few)))
 
 pub loop-j-preserved : goal.loop-j-preserved
-loop-j-preserved c = taking_one c.requires.0.card c.requires.1 c.loop-j.invariant (omega (arith, c.loop-j-test.true, c.remapping_count-n.ensures, c.requires.0.card.remappings)) _ c.remapping_step-best.ensures
+loop-j-preserved c =
+    let h : c.loop-j.j < length (decode c.args.s.now).remappings = omega (arith, c.requires.0.card.remappings) in
+    elim c.if-remapping_applies.branch [
+      | then-remapping_applies w ↦ rw (w.best-is, w.longer.ensures) (taking-new c.requires.0.card c.requires.1 c.loop-j.invariant h (sym c.remapping_applies.ensures ∙ w.if-remapping_applies.true))
+      | else-remapping_applies w ↦ rw w.best-is (taking-other c.requires.0.card c.requires.1 c.loop-j.invariant h (sym c.remapping_applies.ensures ∙ w.if-remapping_applies.false))
+    ]
 
 pub returns : goal.returns
-returns c = taking_all c.requires.0.card c.requires.1 c.loop-j.invariant (omega (arith, c.loop-j-test.false, c.remapping_count-n.ensures, c.requires.0.card.remappings))
+returns c = taking_all c.requires.0.card c.requires.1 c.loop-j.invariant (omega (arith, c.requires.0.card.remappings))

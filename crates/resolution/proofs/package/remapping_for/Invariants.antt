@@ -1,11 +1,7 @@
 -- `remapping_for` meets its contract. Assumes nothing.
-use Prim.Native.Nat.{◌-◌}
 use Rattle.resolution.specs.Indices.{path_in}
 use Rattle.resolution.specs.TakenLaws.{Taking}
 use Rattle.resolution.proofs.package.remapping_for.Given as goal
 
 abbrev pub invariant-loop-j : goal.invariant-loop-j
 invariant-loop-j l = Taking l.s (path_in l.s l.f) l.name l.best l.j
-
-abbrev pub decreases-loop-j : goal.decreases-loop-j
-decreases-loop-j l = l.n - l.j

@@ -1,28 +1,22 @@
 -- `resolve_crate_path` meets its contract. Assumes nothing.
-use native.Mathlib.Omega.{arith}
-use mathlib.Core.Path.{sym, ◌∙◌}
-use Rattle.bundle.specs.ListLaws.{each-length}
-use Rattle.resolution.specs.CardLaws.{node-small, root_none, root_at, root-is-folder, directly}
-use Rattle.resolution.specs.UseLaws.{told-by, no_root, crate_found, crate_nothing}
+use Rattle.std.proofs.Common.{arith, sym, ◌∙◌, refl}
+use Rattle.resolution.specs.CardLaws.{root_is, root-is-folder, directly}
+use Rattle.resolution.specs.UseLaws.{no_root, crate_found, crate_itself}
 use Rattle.resolution.proofs.uses.resolve_crate_path.Goals as goal
 
-pub nearest_marked-root-requires : goal.nearest_marked-root-requires
-nearest_marked-root-requires c = (c.requires.0.above, node-small c.requires.0 _ c.requires.1.listed)
+pub returns-in_default : goal.returns-in_default
+returns-in_default c = no_root c.requires.0 _ _ (root_is c.requires.0 _ c.requires.1.listed _ (sym c.in_default.is ∙ c.nearest_marked.ensures))
 
-pub build_and_verify_path-lookup-requires : goal.build_and_verify_path-lookup-requires
-build_and_verify_path-lookup-requires c = (c.requires.0, (root-is-folder c.requires.0 _ c.requires.1.listed _ c.nearest_marked-root.ensures _ c.in-At.is, c.requires.2.0), c.requires.2.1)
+pub build_and_verify_path-requires : goal.build_and_verify_path-requires
+build_and_verify_path-requires c = (c.requires.0, root-is-folder c.requires.0 _ c.requires.1.listed _ (sym c.in-Some.is ∙ c.nearest_marked.ensures) _ refl)
 
-pub resolved-requires : goal.resolved-requires
-resolved-requires c = (c.requires.0.above.size, omega (arith, (told-by c.requires.0 _ _ _ _ c.in-At-lookup.is c.build_and_verify_path-lookup.ensures).1))
+pub returns-in-Some-build_and_verify_path : goal.returns-in-Some-build_and_verify_path
+returns-in-Some-build_and_verify_path c =
+    let r = root_is c.requires.0 _ c.requires.1.listed _ (sym c.in-Some.is ∙ c.nearest_marked.ensures) in
+    c.resolved.ensures ∙ crate_found c.requires.0 _ _ _ r _ c.in-Some-build_and_verify_path.ensures
 
-pub itself-requires : goal.itself-requires
-itself-requires c = (c.requires.0.above.size, (omega (arith, c.requires.1.file), node-small c.requires.0 _ c.requires.1.listed))
-
-pub returns-in-Nothing : goal.returns-in-Nothing
-returns-in-Nothing c = no_root c.requires.0 _ _ (root_none c.requires.0 _ c.requires.1.listed _ c.nearest_marked-root.ensures c.in-Nothing.is)
-
-pub returns-in-At-lookup : goal.returns-in-At-lookup
-returns-in-At-lookup c = c.resolved.ensures ∙ crate_found c.requires.0 _ _ _ (root_at c.requires.0 _ c.requires.1.listed _ c.nearest_marked-root.ensures _ c.in-At.is) _ _ _ c.in-At-lookup.is c.build_and_verify_path-lookup.ensures
-
-pub returns-in-Nothing-lookup : goal.returns-in-Nothing-lookup
-returns-in-Nothing-lookup c = c.itself.ensures ∙ crate_nothing c.requires.0 _ _ _ _ c.requires.1 (sym (each-length _ _ _ _)) (root_at c.requires.0 _ c.requires.1.listed _ c.nearest_marked-root.ensures _ c.in-At.is) (directly c.requires.0 _ c.requires.1.listed _ c.nearest_marked-root.ensures _ (λ z. omega (arith, c.requires.1.file)) c.in-At.is) _ c.in-Nothing-lookup.is c.build_and_verify_path-lookup.ensures
+pub returns-in-None : goal.returns-in-None
+returns-in-None c =
+    let m = sym c.in-Some.is ∙ c.nearest_marked.ensures in
+    rw c.len-n.ensures at c.itself.ensures ∙ crate_itself c.requires.0 _ _ _ c.requires.1 (root_is c.requires.0 _ c.requires.1.listed _ m)
+    (directly c.requires.0 _ c.requires.1.listed _ m _ (λ z. omega (arith, c.requires.1.file)) refl) c.in-None.ensures
