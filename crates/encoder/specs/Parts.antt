@@ -39,10 +39,6 @@ module _ (w out : List ℕ) (fits : length w ≤ length out) where
       ∙ (ap (λ (k : List ℕ). k ++ last) t
       ∙ (ap (λ (k : List ℕ). w ++ k) (l ∙ ap (started x) (lent_is cur a le ∙ d)) ∙ more-filled x))
 
--- nothing so far
-pub nothing-filled : (out : List ℕ) → out ≡ started [] out
-nothing-filled out = refl
-
 -- the first n as they were
 pub kept-start : (n : ℕ) (out : List ℕ) → n ≤ length out → out ≡ started (take n out) out
 kept-start n out h =
@@ -141,18 +137,7 @@ module _ (all rest : List ℕ) (limit sum : ℕ) (f : Counted all rest limit sum
 abbrev pub head_bytes : ℕ → ℕ → ℕ → List ℕ
 head_bytes n k v = (n / 256) ∷ (n % 256) ∷ k ∷ v ∷ []
 
--- the first of them set, in order
-pub set_four : (out o₁ o₂ o₃ : List ℕ) (a b c d : ℕ) → 4 ≤ length out → o₁ ≡ set (set out 0 a) 1 b → o₂ ≡ set o₁ 2 c → o₃ ≡ set o₂ 3 d → o₃ ≡ (a ∷ b ∷ c ∷ d ∷ []) ++ drop 4 out
-set_four out o₁ o₂ o₃ a b c d h e₁ e₂ e₃ =
-    e₃ ∙ (ap (λ (l : List ℕ). set l 3 d) (e₂ ∙ ap (λ (l : List ℕ). set l 2 c) e₁) ∙ go out h)
-  where
-    go : (out : List ℕ) → 4 ≤ length out → set (set (set (set out 0 a) 1 b) 2 c) 3 d ≡ (a ∷ b ∷ c ∷ d ∷ []) ++ drop 4 out
-    go [] h = absurd (omega arith)
-    go (_ ∷ []) h = absurd (omega arith)
-    go (_ ∷ _ ∷ []) h = absurd (omega arith)
-    go (_ ∷ _ ∷ _ ∷ []) h = absurd (omega arith)
-    go (_ ∷ _ ∷ _ ∷ _ ∷ out) h = refl
-
+-- three numbers set at the start, in order
 pub set_three : (out o₁ o₂ : List ℕ) (a b c : ℕ) → 3 ≤ length out → o₁ ≡ set out 0 a → o₂ ≡ set (set o₁ 1 b) 2 c → o₂ ≡ (a ∷ b ∷ c ∷ []) ++ drop 3 out
 set_three out o₁ o₂ a b c h e₁ e₂ = e₂ ∙ (ap (λ (l : List ℕ). set (set l 1 b) 2 c) e₁ ∙ go out h)
   where
@@ -205,6 +190,21 @@ module _ {w x out cur : List ℕ} {a : ℕ} (f : Front w x out cur a) where
       → (a + r ≡ length (w ++ x)) × (put_mid a (length cur - a) cur last ≡ started (w ++ x) out)
   front-done last r h = (front-sum r h.0, front-all last h.1)
 
+-- two parts come behind the front: the first is written, and then it belongs to the front
+module _ (x y : List ℕ) {w out cur : List ℕ} {a : ℕ} (f : Front w (x ++ y) out cur a) where
+  pub front-part : length x ≤ length (mid_of a (length cur - a) cur)
+  front-part = let r = front-room f in omega (arith, length-append x y)
+
+  pub front_next : (last : List ℕ) (r : ℕ) → (r ≡ length x) × (last ≡ started x (mid_of a (length cur - a) cur)) → Front (w ++ x) y out (put_mid a (length cur - a) cur last) (a + r)
+  front_next last r h =
+      let n = f.room in
+      let is = f.is in
+      record {
+        starts = then-filled w out (omega (arith, length-append w (x ++ y))) x cur last a f.starts f.is h.1;
+        is = omega (arith, length-append w x);
+        room = rw append_assoc n;
+      }
+
 -- a front that a function wrote, with what is to come
 pub front_of : (w x out cur all : List ℕ) (a : ℕ) → (a ≡ length w) × (cur ≡ started w out) → all ≡ w ++ x → length all ≤ length out → Front w x out cur a
 front_of w x out cur all a h e r = record { starts = h.1; is = h.0; room = let l = ap length e in omega arith }
@@ -213,9 +213,12 @@ front_of w x out cur all a h e r = record { starts = h.1; is = h.0; room = let l
 pub put_first : (out cur : List ℕ) (v : ℕ) → 0 < length out → cur ≡ set out 0 v → cur ≡ started (v ∷ []) out
 put_first out cur v h e = e ∙ put_one [] out 0 refl v h
 
--- two numbers behind the first two
-pub put-kind : (out o₁ o₂ : List ℕ) (k v : ℕ) → 4 ≤ length out → o₁ ≡ set out 2 k → o₂ ≡ set o₁ 3 v → o₂ ≡ started (take 2 out ++ (k ∷ v ∷ [])) out
-put-kind out o₁ o₂ k v h e₁ e₂ = e₂ ∙ (ap (λ (l : List ℕ). set l 3 v) e₁ ∙ go out h)
+-- two numbers behind the first two, and what comes behind them
+pub start_front : (out x : List ℕ) (k v : ℕ) → 4 + length x ≤ length out → Front (take 2 out ++ (k ∷ v ∷ [])) x out (set (set out 2 k) 3 v) 4
+start_front out x k v h =
+    let l = length-take-le 2 out (omega arith) in
+    let four : 4 ≡ length (take 2 out ++ (k ∷ v ∷ [])) = omega (arith, length-append (take 2 out) (k ∷ v ∷ [])) in
+    record { starts = go out (omega arith); is = four; room = omega (arith, length-append (take 2 out ++ (k ∷ v ∷ [])) x) }
   where
     go : (out : List ℕ) → 4 ≤ length out → set (set out 2 k) 3 v ≡ started (take 2 out ++ (k ∷ v ∷ [])) out
     go [] h = absurd (omega arith)
@@ -240,7 +243,3 @@ put-length body out cur final n k v h e f = headed ((n / 256) ∷ (n % 256) ∷ 
 -- the whole head set at last
 pub put_whole : (body out cur final : List ℕ) (n k v : ℕ) → 4 ≤ length out → cur ≡ started (take 4 out ++ body) out → final ≡ head_bytes n k v ++ drop 4 cur → final ≡ started (head_bytes n k v ++ body) out
 put_whole body out cur final n k v h e f = headed (head_bytes n k v) body out 4 refl h cur final e f
-
--- how long the start of an item is
-pub start_four : (out : List ℕ) (k v : ℕ) → 4 ≤ length out → 4 ≡ length (take 2 out ++ (k ∷ v ∷ []))
-start_four out k v h = let l = length-take-le 2 out (omega arith) in omega (arith, length-append (take 2 out) (k ∷ v ∷ []))

@@ -6,7 +6,7 @@ ghost use Rattle.bundle.specs.Limits.{capacity, module_kind};
 ghost use Rattle.bundle.specs.declared.Width.TheVariants.{Byte};
 ghost use Rattle.encoder.specs.Started.{started};
 
-use crate::bytes::{put, put_string};
+use crate::bytes::put_string;
 use bundle::limits::MODULE;
 
 // The start of an item but for its length: the kind, the visibility and the name.
@@ -14,8 +14,8 @@ pub fn put_start(out: &mut [u8], kind: usize, visibility: usize, name: &[u8]) ->
     requires { ((kind < 256) × (visibility < 256)) × ((length name.now < capacity Byte) × (4 + length (string name.now) ≤ length out.old)) }
     ensures { (result ≡ 4 + length (string name.now)) × (out.new ≡ started (take 2 out.old ++ (kind ∷ visibility ∷ string name.now)) out.old) }
 {
-    put(out, 2, kind);
-    put(out, 3, visibility);
+    out[2] = kind as u8;
+    out[3] = visibility as u8;
     4 + put_string(&mut out[4..], name)
 }
 
@@ -25,7 +25,5 @@ pub fn put_unit_start(out: &mut [u8], u: usize) -> usize
     ensures { (result ≡ 4 + length (string (unit_name u))) × (out.new ≡ started (take 2 out.old ++ (module_kind ∷ 0 ∷ string (unit_name u))) out.old) }
 {
     let unit = names::unit_name(u as u64);
-    let bytes = unit.bytes;
-    let n = unit.len;
-    put_start(out, MODULE, 0, &bytes[..n])
+    put_start(out, MODULE, 0, &unit.bytes[..unit.len])
 }

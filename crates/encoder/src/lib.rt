@@ -4,7 +4,9 @@
 mod bytes;
 mod heads;
 mod segments;
+mod strings;
 
-pub use bytes::{put, put_head, put_string, put_strings, put_two, strings_end, strings_length};
+pub use bytes::{put_head, put_string, put_two};
 pub use heads::{put_start, put_unit_start};
 pub use segments::{put_segments, put_unit};
+pub use strings::Strings;

@@ -10,9 +10,8 @@ use Rattle.bundle.specs.Theorems.{complete}
 use Rattle.linker.specs.Link.{link_bundle}
 use Rattle.linker.specs.Call.{answer_to, report_to, image_to, entries_to, TreeTo, link_answer, link_report, link_image, link_entries, LinkTree}
 use Rattle.scope_tree.specs.declared.Tree.{Tree}
-use Rattle.remapping_lines.specs.Lines.{lines_answer, lines_buffer}
+use Rattle.remapping_lines.specs.Lines.{Section, lines_answer, lines_buffer}
 use Rattle.remapping_lines.specs.Theorems.{meant, with_section, with_remappings, same_bytes, written, accepted-remappings}
-use Rattle.remapping_lines.specs.declared.Lines.TheVariants.{Section}
 
 -- b with what the operation wrote of a list at its remappings' place, and b with the remappings meant, written by the encoder
 module _ (b : Bundle) (list : Text) (out : List ℕ) (n : ℕ) (told : lines_answer list (length out) ≡ Section n) where

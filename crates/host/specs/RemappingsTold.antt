@@ -1,8 +1,7 @@
 -- How the answer to a remapping list is told in numbers. Assumes nothing.
 use Rattle.std.specs.Prelude.{ℕ, ◌≡◌, refl}
 use Rattle.std.proofs.Common.{sym, ◌∙◌}
-use Rattle.remapping_lines.specs.declared.Lines.{Lines}
-use Rattle.remapping_lines.specs.declared.Lines.TheVariants.{Section, Refused}
+use Rattle.remapping_lines.specs.Lines.{Lines, Section, Refused}
 
 -- 0 for a section, else the number of a refusal
 abbrev pub lines_number : Lines → ℕ

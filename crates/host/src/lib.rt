@@ -84,15 +84,14 @@ pub extern "C" fn gontsamy_remappings(list: &[u8], out: &mut [u8], told: &mut us
     ensures out_after { out.new ≡ lines_buffer list.now out.old }
     ensures told_after { told.new ≡ lines_told (lines_answer list.now (list_n_length out.old)) }
 {
-    let lines = remapping_lines::read_lines(list, out);
-    match lines {
-        remapping_lines::Lines::Section(n) => {
+    match remapping_lines::read_lines(list, out) {
+        Ok(n) => {
             *told = n;
             0
         }
-        remapping_lines::Lines::Refused(n, p) => {
-            *told = p;
-            n
+        Err(refusal) => {
+            *told = refusal.place;
+            u8::from(refusal.cause)
         }
     }
 }

@@ -14,8 +14,8 @@ use Rattle.bundle.specs.Results.{Refused as Fault}
 use Rattle.encoder.specs.Started.{started}
 use Rattle.encoder.specs.Parts.{Front, put_first}
 use Rattle.remapping_lines.specs.Lines.{Line, lines_of, remapping_of, lines_verdict, verdict, remappings_of, section, lines_answer, lines_buffer}
-use Rattle.remapping_lines.specs.declared.Lines.TheVariants.{Section, Refused}
-use Rattle.remapping_lines.specs.declared.Tested.TheVariants.{Counted, Bad}
+use Rattle.remapping_lines.specs.Lines.{Section, Refused}
+use Rattle.remapping_lines.specs.Testing.{Counted, Bad}
 use Rattle.remapping_lines.specs.Testing.{bad-counted, bad-number, bad-place, counted-count, counted-size, line_bytes, lines-pass, passed, tally, tally-is}
 use Rattle.remapping_lines.specs.Writing.{Accepted, AllPass, list_bytes}
 
@@ -90,9 +90,9 @@ module _ (s : Text) (n size : ℕ) (g : Ready s n size) (out : List ℕ) where
     section-held = rw (g.accepted, fits)
 
     -- the count stands, and the remappings go behind it
-    pub section-front : (cur : List ℕ) → cur ≡ set out 0 n → Front (n ∷ []) (list_bytes s) out cur 1
-    section-front cur e = record {
-      starts = put_first out cur n (let l = g.long in let b = ap length g.bytes in omega arith) e;
+    pub section-front : Front (n ∷ []) (list_bytes s) out (set out 0 n) 1
+    section-front = record {
+      starts = put_first out (set out 0 n) n (let l = g.long in let b = ap length g.bytes in omega arith) refl;
       is = refl;
       room = let l = g.long in let b = ap length g.bytes in omega arith;
     }

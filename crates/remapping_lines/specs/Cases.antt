@@ -6,8 +6,8 @@ use Rattle.names.specs.Path.{onto, split, components, is_component, well_formed,
 use Rattle.bundle.specs.Bundle.{Text}
 use Rattle.bundle.specs.Encode.{string, joined, counted, remapping}
 use Rattle.remapping_lines.specs.Lines.{line_feed, has, before, behind, pieces, dropped, placed, content, context_in, prefix_in, name_in, target_in, remapping_of, name_place, line_verdict, lines_verdict, verdict, remappings_of, section, lines_answer, lines_buffer}
-use Rattle.remapping_lines.specs.declared.Lines.{Lines}
-use Rattle.remapping_lines.specs.declared.Lines.TheVariants.{Section, Refused}
+use Rattle.remapping_lines.specs.Lines.{Lines}
+use Rattle.remapping_lines.specs.Lines.{Section, Refused}
 
 -- a buffer of n bytes
 unfoldable pub buffer : ℕ → List ℕ

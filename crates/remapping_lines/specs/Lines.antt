@@ -11,8 +11,6 @@ use Rattle.bundle.specs.Results.{Checked}
 use Rattle.bundle.specs.Results.{Ok}
 use Rattle.bundle.specs.Results.{Refused as Fault}
 use Rattle.encoder.specs.Started.{started}
-use Rattle.remapping_lines.specs.declared.Lines.{Lines}
-use Rattle.remapping_lines.specs.declared.Lines.TheVariants.{Section, Refused}
 
 abbrev pub line_feed : ℕ
 line_feed = 0x0a
@@ -132,6 +130,11 @@ remappings_of ls = map (λ l. remapping_of l.text) ls
 
 unfoldable pub section : Text → List ℕ
 section s = counted remapping (remappings_of (lines_of s))
+
+-- what a list is answered: the section's length, or a number and a place
+pub data Lines : Type 0 where
+  Section : ℕ → Lines
+  Refused : ℕ → ℕ → Lines
 
 -- THE ANSWER: a refused line's number and place; then 14 at place 0 where the section has no room; then its length
 unfoldable pub lines_answer : Text → ℕ → Lines

@@ -9,7 +9,7 @@ use Rattle.bundle.specs.Bundle.{Text}
 use Rattle.bundle.specs.Form.{Every}
 use Rattle.bundle.specs.Stand.{Stands, at-append}
 use Rattle.remapping_lines.specs.Lines.{line_feed, has, before, behind, pieces, dropped, Line, placed, content, lines_of}
-use Rattle.remapping_lines.specs.Splitting.{pieces-is}
+use Rattle.remapping_lines.specs.Splitting.{pieces-is, front-piece, one_piece}
 
 -- t splits into l and r at a byte c, and there is none earlier
 pub record Split (c : ℕ) (t l r : Text) : Type 0 where
@@ -82,25 +82,6 @@ pieces-glued c (b ∷ t) = go (eqb b c) refl (pieces-glued c t)
         rw (pieces-is c t) (more (before c t) (cond (has c t) (pieces c (behind c t)) []) ∙ ap (λ (x : Text). b ∷ x) k)
 
 -- there are no other such pieces
-front-piece : (c : ℕ) (t r : Text) → has c t ≡ false → pieces c (t ++ (c ∷ r)) ≡ t ∷ pieces c r
-unfolding pieces has onto
-front-piece c [] r h = rw (eq-eqb c c refl)
-front-piece c (b ∷ t) r h = go (eqb b c) refl h (front-piece c t r)
-  where
-    go : (q : Bool) → eqb b c ≡ q → (q || has c t) ≡ false → (has c t ≡ false → pieces c (t ++ (c ∷ r)) ≡ t ∷ pieces c r)
-        → cond q ([] ∷ pieces c (t ++ (c ∷ r))) (onto b (pieces c (t ++ (c ∷ r)))) ≡ (b ∷ t) ∷ pieces c r
-    go true e h f = absurd (false_true (sym h))
-    go false e h f = rw (f h)
-
-one_piece : (c : ℕ) (t : Text) → has c t ≡ false → pieces c t ≡ t ∷ []
-unfolding pieces has onto
-one_piece c [] h = refl
-one_piece c (b ∷ t) h = go (eqb b c) h (one_piece c t)
-  where
-    go : (q : Bool) → (q || has c t) ≡ false → (has c t ≡ false → pieces c t ≡ t ∷ []) → cond q ([] ∷ pieces c t) (onto b (pieces c t)) ≡ (b ∷ t) ∷ []
-    go true h f = absurd (false_true (sym h))
-    go false h f = rw (f h)
-
 pub pieces-only : (c : ℕ) (t : Text) (ts : List Text) → Every (Without c) (t ∷ ts) → pieces c (glued c (t ∷ ts)) ≡ t ∷ ts
 unfolding glued Every
 pieces-only c t [] h = one_piece c t h.0

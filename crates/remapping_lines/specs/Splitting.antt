@@ -1,90 +1,50 @@
 -- Laws of splitting: the first byte of a kind in a text, the pieces between them, lines, one slash at the end. Assumes nothing.
 use Prim.Native.Nat.{ℕ, zero, suc, ◌+◌, ◌-◌, ◌≤◌, ◌<◌, suc-le-suc}
-use Rattle.std.proofs.Common.{not-suc-le-zero, le_of_suc-le-suc, add-one, ◌∙◌, drop_of_length-le, eq-eqb, ne_eqb, eqb-true, ltb-true, lt-ltb, le-ltb}
+use Rattle.std.proofs.Common.{not-suc-le-zero, le_of_suc-le-suc, append-nil, length-append, eq-eqb, ne_eqb, eqb-true}
 use native.Mathlib.Omega.{arith}
 use Rattle.std.specs.Prelude.{Bool, ◌||◌, ◌≡◌, eqb, get_or}
+use Rattle.std.specs.Prelude.{Some}
+use Rattle.std.specs.Bool.{MatchBool}
+use Rattle.std.specs.Borrow.{Bor}
+use Rattle.std.specs.Fn.{ComputesKey}
+use Rattle.std.specs.Slice.Iter.{split_steps}
+use Rattle.std.specs.declared.slice.Split.{Split}
+use denote.Param.Members.{Mut}
+use Rattle.std.specs.List.{AllWithin, HoldsAt, IsFirstMatchOrLen}
 use Rattle.std.proofs.Math.Bool.{true, false, cond}
 use Rattle.std.proofs.Math.Path.{refl, sym, ap}
 use mathlib.Core.List.{List, [], ◌∷◌, ◌++◌}
-use Rattle.std.proofs.Math.Dec.{ltb, leb-suc-suc}
 use Rattle.std.proofs.Math.ListN.{length, take, drop}
-use Rattle.names.specs.Bytes.{slash, same, all, different, false_true, rest-is}
-use Rattle.names.specs.Path.{onto, root, components, well_formed, is_path}
+use Rattle.names.specs.Bytes.{slash, same, different, false_true}
+use Rattle.names.specs.Path.{onto, root}
 use Rattle.bundle.specs.Bundle.{Text}
-use Rattle.remapping_lines.specs.Lines.{line_feed, equals, right, has, before, behind, pieces, dropped, Line, placed, content, lines_from, context_in, colon, prefix_in, name_place, name_in, target_in}
+use Rattle.remapping_lines.specs.Lines.{has, before, behind, pieces, dropped, Line, placed, content, colon, prefix_in, name_place, target_in}
 
--- THE FIRST c, byte by byte
+-- AT THE FIRST c: it stands at i, and before and behind it is what splitting gives
+pub record FoundAt (c : ℕ) (t : Text) (i : ℕ) : Type 0 where
+  pub there : has c t ≡ true
+  pub front : take i t ≡ before c t
+  pub back : drop (i + 1) t ≡ behind c t
+
 module _ (c : ℕ) where
-  pub first_found : (t : Text) (i : ℕ) → i < length t → ((k : ℕ) → k < i → get_or t k 0 ≡ c → ⊥) → get_or t i 0 ≡ c → length (before c t) ≡ i
-  unfolding before
-  first_found [] i h f e = absurd (not-suc-le-zero h)
-  first_found (b ∷ t) zero h f e = simp (eq-eqb _ _ e)
-  first_found (b ∷ t) (suc i) h f e =
-      let r = first_found t i (le_of_suc-le-suc h) (λ k l. f (suc k) (suc-le-suc l)) e in
-      simp (ne_eqb _ _ (f 0 (omega arith)), r)
-
-  pub first-none : (t : Text) → ((k : ℕ) → k < length t → get_or t k 0 ≡ c → ⊥) → length (before c t) ≡ length t
-  unfolding before
-  first-none [] f = refl
-  first-none (b ∷ t) f =
-      let r = first-none t (λ k l. f (suc k) (suc-le-suc l)) in
-      simp (ne_eqb _ _ (f 0 (omega arith)), r)
-
-  pub before-few : (t : Text) → length (before c t) ≤ length t
-  unfolding before
-  before-few [] = omega arith
-  before-few (b ∷ t) = go (eqb b c) (before-few t)
-    where
-      go : (q : Bool) → length (before c t) ≤ length t → length (cond q [] (b ∷ before c t)) ≤ suc (length t)
-      go true h = omega arith
-      go false h = omega arith
-
-  -- there is one where it stands before the end
-  pub has-is : (t : Text) → has c t ≡ ltb (length (before c t)) (length t)
-  unfolding has before
-  has-is [] = refl
-  has-is (b ∷ t) = go (eqb b c) (has-is t)
-    where
-      go : (q : Bool) → has c t ≡ ltb (length (before c t)) (length t) → (q || has c t) ≡ ltb (length (cond q [] (b ∷ before c t))) (suc (length t))
-      go true h = sym (lt-ltb 0 (suc (length t)) (omega arith))
-      go false h = h ∙ sym (leb-suc-suc (suc (length (before c t))) (length t))
-
-  pub before-is : (t : Text) → take (length (before c t)) t ≡ before c t
-  unfolding before
-  before-is [] = refl
-  before-is (b ∷ t) = go (eqb b c) (before-is t)
-    where
-      go : (q : Bool) → take (length (before c t)) t ≡ before c t → take (length (cond q [] (b ∷ before c t))) (b ∷ t) ≡ cond q [] (b ∷ before c t)
-      go true h = refl
-      go false h = ap (λ (l : Text). b ∷ l) h
-
-  pub behind-is : (t : Text) → drop (suc (length (before c t))) t ≡ behind c t
-  unfolding before behind
-  behind-is [] = refl
-  behind-is (b ∷ t) = go (eqb b c) (behind-is t)
-    where
-      go : (q : Bool) → drop (suc (length (before c t))) t ≡ behind c t → drop (suc (length (cond q [] (b ∷ before c t)))) (b ∷ t) ≡ cond q t (behind c t)
-      go true h = refl
-      go false h = h
+  pub found_at : (t : Text) (i : ℕ) → i < length t → ((k : ℕ) → k < i → get_or t k 0 ≡ c → ⊥) → get_or t i 0 ≡ c → FoundAt c t i
+  unfolding has before behind
+  found_at [] i h f e = absurd (not-suc-le-zero h)
+  found_at (b ∷ t) zero h f e = record { there = rw (eq-eqb b c e); front = rw (eq-eqb b c e); back = rw (eq-eqb b c e) }
+  found_at (b ∷ t) (suc i) h f e =
+      let r = found_at t i (le_of_suc-le-suc h) (λ k l. f (suc k) (suc-le-suc l)) e in
+      let n = ne_eqb b c (f 0 (omega arith)) in
+      let p : suc i + 1 ≡ suc (i + 1) = omega arith in
+      record { there = rw n r.there; front = rw n (ap (λ (l : Text). b ∷ l) r.front); back = rw (n, p) r.back }
 
   -- without one all of it stands before
-  pub before-all : (t : Text) → has c t ≡ false → before c t ≡ t
+  pub found_none : (t : Text) → ((k : ℕ) → k < length t → get_or t k 0 ≡ c → ⊥) → (has c t ≡ false) × (before c t ≡ t)
   unfolding has before
-  before-all [] h = refl
-  before-all (b ∷ t) h = go (eqb b c) h (before-all t)
-    where
-      go : (q : Bool) → (q || has c t) ≡ false → (has c t ≡ false → before c t ≡ t) → cond q [] (b ∷ before c t) ≡ b ∷ t
-      go true h f = absurd (false_true (sym h))
-      go false h f = ap (λ (l : Text). b ∷ l) (f h)
-
-  pub behind-none : (t : Text) → has c t ≡ false → behind c t ≡ []
-  unfolding has behind
-  behind-none [] h = refl
-  behind-none (b ∷ t) h = go (eqb b c) h (behind-none t)
-    where
-      go : (q : Bool) → (q || has c t) ≡ false → (has c t ≡ false → behind c t ≡ []) → cond q t (behind c t) ≡ []
-      go true h f = absurd (false_true (sym h))
-      go false h f = f h
+  found_none [] f = (refl, refl)
+  found_none (b ∷ t) f =
+      let r = found_none t (λ k l. f (suc k) (suc-le-suc l)) in
+      let n = ne_eqb b c (f 0 (omega arith)) in
+      (rw n r.0, rw n (ap (λ (l : Text). b ∷ l) r.1))
 
   -- THE PIECES: the first, and those of what follows
   pub pieces-is : (t : Text) → pieces c t ≡ before c t ∷ cond (has c t) (pieces c (behind c t)) []
@@ -97,22 +57,67 @@ module _ (c : ℕ) where
       go true h = refl
       go false h = rw h
 
--- by where it stands, as the code asks
-module _ (c : ℕ) (t : Text) (k : ℕ) (is : k ≡ length (before c t)) where
-  pub it_has : k < length t → has c t ≡ true
-  it_has h = has-is c t ∙ lt-ltb (length (before c t)) (length t) (omega arith)
+  -- of a text with one, and of one without
+  pub front-piece : (t r : Text) → has c t ≡ false → pieces c (t ++ (c ∷ r)) ≡ t ∷ pieces c r
+  unfolding pieces has onto
+  front-piece [] r h = rw (eq-eqb c c refl)
+  front-piece (b ∷ t) r h = go (eqb b c) refl h (front-piece t r)
+    where
+      go : (q : Bool) → eqb b c ≡ q → (q || has c t) ≡ false → (has c t ≡ false → pieces c (t ++ (c ∷ r)) ≡ t ∷ pieces c r)
+          → cond q ([] ∷ pieces c (t ++ (c ∷ r))) (onto b (pieces c (t ++ (c ∷ r)))) ≡ (b ∷ t) ∷ pieces c r
+      go true e h f = absurd (false_true (sym h))
+      go false e h f = rw (f h)
 
-  pub it_has-none : length t ≤ k → has c t ≡ false
-  it_has-none h = has-is c t ∙ le-ltb (length (before c t)) (length t) (omega arith)
+  pub one_piece : (t : Text) → has c t ≡ false → pieces c t ≡ t ∷ []
+  unfolding pieces has onto
+  one_piece [] h = refl
+  one_piece (b ∷ t) h = go (eqb b c) h (one_piece t)
+    where
+      go : (q : Bool) → (q || has c t) ≡ false → (has c t ≡ false → pieces c t ≡ t ∷ []) → cond q ([] ∷ pieces c t) (onto b (pieces c t)) ≡ (b ∷ t) ∷ []
+      go true h f = absurd (false_true (sym h))
+      go false h f = rw (f h)
 
-  pub has-place : has c t ≡ true → k < length t
-  has-place h = let l = ltb-true (length (before c t)) (length t) (sym (has-is c t) ∙ h) in omega arith
+  -- AS `split` GIVES THEM: what is left after a call, and the piece that it gave
+  abbrev pub left_pieces : Bool → Text → List Text
+  left_pieces true rest = []
+  left_pieces false rest = pieces c rest
 
-  pub part-before : take k t ≡ before c t
-  part-before = ap (λ (n : ℕ). take n t) is ∙ before-is c t
+  none_before : (x r : Text) → AllWithin (λ b. eqb b c ≡ false) (x ++ r) 0 (length x) → has c x ≡ false
+  unfolding has
+  none_before [] r f = refl
+  none_before (b ∷ x) r f =
+      let n = f 0 0 (omega arith) (omega arith) in
+      rw n (none_before x r (λ k d l u. f (suc k) d (omega arith) (omega arith)))
 
-  pub part-behind : drop (k + 1) t ≡ behind c t
-  part-behind = ap (λ (n : ℕ). drop n t) (add-one k ∙ ap suc is) ∙ behind-is c t
+  first_after : (x r : Text) (y : ℕ) → HoldsAt (λ b. eqb b c ≡ true) (x ++ (y ∷ r)) (length x) → y ≡ c
+  first_after [] r y f = eqb-true y c (f 0)
+  first_after (b ∷ x) r y f = first_after x r y (λ d. f d)
+
+  pub given-piece : (s x r : Text) (done : Bool) → MatchBool done (s ≡ x) ((y : ℕ) × (s ≡ x ++ (y ∷ r))) → IsFirstMatchOrLen (λ b. eqb b c) s (length x)
+      → pieces c s ≡ x ∷ left_pieces done r
+  given-piece s x r true e f =
+      let g : AllWithin (λ b. eqb b c ≡ false) x 0 (length x) = rw e at f.0 in
+      rw e (one_piece x (none_before x [] (rw append-nil g)))
+  given-piece s x r false e f =
+      let y = first_after x r e.0 (rw e.1 at (f.1 (rw e.1 (omega (arith, length-append x (e.0 ∷ r)))))) in
+      rw (e.1, y) (front-piece x r (none_before x (e.0 ∷ r) (rw e.1 at f.0)))
+
+  -- by a closure that asks for c
+  pub given_step : {F : Type 0} (g : Mut F (Bor ℕ × Unit {0}) Bool) (s t : Split ℕ F) (x : Bor Text) → split_steps g s (Some x) t → ComputesKey g (λ b. eqb b c) s.pred
+      → left_pieces s.done s.rest.now ≡ x.now ∷ left_pieces t.done t.rest.now
+  given_step g s t x h k = rw h.0 (given-piece s.rest.now x.now t.rest.now t.done h.1 (h.2 (λ b. eqb b c) k).1)
+
+-- how far on the pieces that are left begin
+abbrev pub Within : ℕ → ℕ → Bool → Text → Type 0
+Within n at done rest = MatchBool done (at ≤ n + 1) (at + length rest ≤ n)
+
+pub within_step : {F : Type 0} (g : Mut F (Bor ℕ × Unit {0}) Bool) (s t : Split ℕ F) (x : Bor Text) (n at : ℕ) → split_steps g s (Some x) t → Within n at s.done s.rest.now
+    → Within n (at + (length x.now + 1)) t.done t.rest.now
+within_step g s t x n at h w = go t.done h.1 (rw h.0 at w)
+  where
+    go : (done : Bool) → MatchBool done (s.rest.now ≡ x.now) ((y : ℕ) × (s.rest.now ≡ x.now ++ (y ∷ t.rest.now))) → at + length s.rest.now ≤ n → Within n (at + (length x.now + 1)) done t.rest.now
+    go true e k = omega (arith, ap length e)
+    go false e k = omega (arith, ap length e.1, length-append x.now (e.0 ∷ t.rest.now))
 
 -- LINES: the first, and those of what follows
 abbrev pub piece : ℕ → Text → List Line
@@ -126,25 +131,9 @@ content-cons l ls = go (eqb (length l.text) 0)
     go true = refl
     go false = refl
 
-no_lines : (p : ℕ) → lines_from p [] ≡ []
-unfolding content placed pieces
-no_lines p = refl
-
-pub lines_step : (at : ℕ) (s : Text) → lines_from at s ≡ piece at (before line_feed s) ++ lines_from (at + length (before line_feed s) + 1) (behind line_feed s)
-unfolding placed content
-lines_step at s =
-    ap (λ (ts : List Text). content (placed at ts)) (pieces-is line_feed s)
-    ∙ (content-cons (record { place = at; text = before line_feed s }) (placed (at + length (before line_feed s) + 1) (cond (has line_feed s) (pieces line_feed (behind line_feed s)) []))
-    ∙ ap (λ (ls : List Line). piece at (before line_feed s) ++ ls) (go (has line_feed s) refl))
-  where
-    go : (q : Bool) → has line_feed s ≡ q → content (placed (at + length (before line_feed s) + 1) (cond q (pieces line_feed (behind line_feed s)) []))
-        ≡ lines_from (at + length (before line_feed s) + 1) (behind line_feed s)
-    go true h = refl
-    go false h = sym (ap (lines_from (at + length (before line_feed s) + 1)) (behind-none line_feed s h) ∙ no_lines (at + length (before line_feed s) + 1))
-
--- nothing is left
-pub lines_end : (at : ℕ) (s : Text) (k : ℕ) → length s ≤ k → lines_from at (drop k s) ≡ []
-lines_end at s k h = ap (lines_from at) (drop_of_length-le s h) ∙ no_lines at
+pub pieces_step : (at : ℕ) (t : Text) (ts : List Text) → content (placed at (t ∷ ts)) ≡ piece at t ++ content (placed (at + length t + 1) ts)
+unfolding placed
+pieces_step at t ts = content-cons (record { place = at; text = t }) (placed (at + length t + 1) ts)
 
 -- a piece is a line, or empty and skipped
 pub piece-none : (at : ℕ) (t : Text) → length t ≡ 0 → piece at t ≡ []
@@ -156,78 +145,60 @@ unfolding content placed
 piece-one at t h = rw (ne_eqb (length t) 0 (λ e. omega arith))
 
 -- ONE SLASH AT THE END, by the last byte
-pub dropped-none : (t : Text) → length t ≡ 0 → t ≡ dropped t
+by_last : (t : Text) (m : ℕ) → length t ≡ suc m → dropped t ≡ cond (eqb (get_or t m 0) slash) (take m t) t
 unfolding dropped
-dropped-none [] h = refl
-dropped-none (b ∷ t) h = absurd (omega arith)
-
-pub dropped-kept : (t : Text) (m : ℕ) → length t ≡ suc m → (get_or t m 0 ≡ slash → ⊥) → t ≡ dropped t
-unfolding dropped
-dropped-kept [] m n f = absurd (omega arith)
-dropped-kept (b ∷ []) zero n f = rw (ne_eqb b slash f)
-dropped-kept (b ∷ []) (suc m) n f = absurd (omega arith)
-dropped-kept (b ∷ (d ∷ t)) zero n f = absurd (omega arith)
-dropped-kept (b ∷ (d ∷ t)) (suc m) n f = ap (λ (l : Text). b ∷ l) (dropped-kept (d ∷ t) m (omega arith) f)
-
-pub dropped-slash : (t : Text) (m : ℕ) → length t ≡ suc m → get_or t m 0 ≡ slash → take m t ≡ dropped t
-unfolding dropped
-dropped-slash [] m n e = absurd (omega arith)
-dropped-slash (b ∷ []) zero n e = rw (eq-eqb b slash e)
-dropped-slash (b ∷ []) (suc m) n e = absurd (omega arith)
-dropped-slash (b ∷ (d ∷ t)) zero n e = absurd (omega arith)
-dropped-slash (b ∷ (d ∷ t)) (suc m) n e = ap (λ (l : Text). b ∷ l) (dropped-slash (d ∷ t) m (omega arith) e)
-
--- THE HALVES
-module _ (l : Text) (k : ℕ) (is : k ≡ length (before colon l)) where
-  pub context-whole : length l ≤ k → context_in l ≡ root
-  unfolding context_in
-  context-whole h = rw (it_has-none colon l k is h)
-
-  pub context-part : k < length l → take k l ≡ context_in l
-  unfolding context_in
-  context-part h = rw (it_has colon l k is h) (part-before colon l k is)
-
-  pub place-whole : length l ≤ k → 0 ≡ name_place l
-  unfolding name_place
-  place-whole h = rw (it_has-none colon l k is h)
-
-  pub place_part : k < length l → k + 1 ≡ name_place l
-  unfolding name_place
-  place_part h = rw (it_has colon l k is h) (ap (λ (n : ℕ). n + 1) is)
-
--- `/` is a path
-pub root-is-path : is_path root ≡ true
-unfolding is_path components well_formed all same
-root-is-path = refl
-
-prefix-is : (l : Text) → drop (name_place l) l ≡ prefix_in l
-unfolding name_place prefix_in
-prefix-is l = go (has colon l)
+by_last [] m h = absurd (omega arith)
+by_last (b ∷ []) zero h = refl
+by_last (b ∷ []) (suc m) h = absurd (omega arith)
+by_last (b ∷ (d ∷ t)) zero h = absurd (omega arith)
+by_last (b ∷ (d ∷ t)) (suc m) h = rw (by_last (d ∷ t) m (omega arith)) (go (eqb (get_or (d ∷ t) m 0) slash))
   where
-    go : (q : Bool) → drop (cond q (length (before colon l) + 1) 0) l ≡ cond q (behind colon l) l
-    go true = ap (λ (n : ℕ). drop n l) (add-one (length (before colon l))) ∙ behind-is colon l
+    go : (q : Bool) → b ∷ cond q (take m (d ∷ t)) (d ∷ t) ≡ cond q (b ∷ take m (d ∷ t)) (b ∷ (d ∷ t))
+    go true = refl
     go false = refl
 
--- the name, as what is left from where the prefix starts
-pub name-is : (l : Text) (k : ℕ) → k ≡ name_place l → dropped (take (length l - k) (drop k l)) ≡ name_in l
-unfolding name_in
-name-is l k e = ap dropped (rest-is l k ∙ (ap (λ (n : ℕ). drop n l) e ∙ prefix-is l))
+pub dropped_some : (t : Text) → 0 < length t → dropped t ≡ cond (eqb (get_or t (length t - 1) 0) slash) (take (length t - 1) t) t
+dropped_some t h = by_last t (length t - 1) (omega arith)
 
--- a text of one byte is `/`, or has no slash to drop
-pub target_one : (r : Text) → length r ≡ 1 → r ≡ target_in r
-unfolding target_in dropped same
-target_one [] h = absurd (omega arith)
-target_one (b ∷ []) h = go (eqb b slash) refl
+pub dropped_none : (t : Text) → length t < 1 → dropped t ≡ t
+unfolding dropped
+dropped_none [] h = refl
+dropped_none (b ∷ t) h = absurd (omega arith)
+
+-- THE HALVES
+split-length : (c : ℕ) (t : Text) → has c t ≡ true → length t ≡ length (before c t) + 1 + length (behind c t)
+unfolding has before behind
+split-length c [] h = absurd (false_true h)
+split-length c (b ∷ t) h = go (eqb b c) h (split-length c t)
   where
-    go : (q : Bool) → eqb b slash ≡ q → b ∷ [] ≡ cond (same (b ∷ []) root) root (cond (eqb b slash) [] (b ∷ []))
-    go true e = let x = eqb-true b slash e in rw x refl
-    go false e = rw e refl
-target_one (b ∷ (d ∷ r)) h = absurd (omega arith)
+    go : (q : Bool) → (q || has c t) ≡ true → (has c t ≡ true → length t ≡ length (before c t) + 1 + length (behind c t))
+        → suc (length t) ≡ length (cond q [] (b ∷ before c t)) + 1 + length (cond q t (behind c t))
+    go true h f = omega arith
+    go false h f = let e = f h in omega arith
 
-pub target-dropped : (r : Text) → (length r ≡ 1 → ⊥) → dropped r ≡ target_in r
+-- the prefix is what the left half has from its place on
+pub prefix_place : (l : Text) → name_place l + length (prefix_in l) ≡ length l
+unfolding name_place prefix_in
+prefix_place l = go (has colon l) refl
+  where
+    go : (q : Bool) → has colon l ≡ q → cond q (length (before colon l) + 1) 0 + length (cond q (behind colon l) l) ≡ length l
+    go true h = sym (split-length colon l h)
+    go false h = omega arith
+
+pub before_few : (c : ℕ) (t : Text) → length (before c t) ≤ length t
+unfolding before
+before_few c [] = omega arith
+before_few c (b ∷ t) = go (eqb b c) (before_few c t)
+  where
+    go : (q : Bool) → length (before c t) ≤ length t → length (cond q [] (b ∷ before c t)) ≤ suc (length t)
+    go true h = omega arith
+    go false h = omega arith
+
+-- the right half is `/`, or drops its slash
+pub target-root : (r : Text) → r ≡ root → r ≡ target_in r
+unfolding target_in same
+target-root r e = rw e
+
+pub target-dropped : (r : Text) → (r ≡ root → ⊥) → dropped r ≡ target_in r
 unfolding target_in
-target-dropped r f = rw (different r root (λ e. f (ap length e)))
-
--- the right half, as what is left behind the `=`
-pub right-part : (t : Text) (k : ℕ) → k ≡ length (before equals t) → target_in (take (length t - (k + 1)) (drop (k + 1) t)) ≡ target_in (right t)
-right-part t k e = ap target_in (rest-is t (k + 1) ∙ part-behind equals t k e)
+target-dropped r f = rw (different r root f)

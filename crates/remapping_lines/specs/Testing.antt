@@ -1,15 +1,15 @@
 -- The first pass over a list: lines are tested and counted. Assumes nothing.
-use Rattle.std.specs.Prelude.{ℕ, suc, ◌+◌, ◌-◌, ◌*◌, ◌≤◌, ◌<◌, Bool, ◌≡◌, List, [], ◌∷◌, ◌++◌, ltb, take, drop}
+use Rattle.std.specs.Prelude.{ℕ, suc, ◌+◌, ◌≤◌, ◌<◌, Bool, ◌≡◌, List, [], ◌∷◌, ◌++◌, ltb}
 use native.Mathlib.Omega.{arith}
 use Rattle.std.proofs.Math.Bool.{true, false}
-use Rattle.std.proofs.Math.Path.{refl, sym, ap}
-use Rattle.std.proofs.Common.{◌∙◌, drop-drop}
+use Rattle.std.proofs.Math.Path.{refl, ap}
+use Rattle.std.proofs.Common.{◌∙◌}
 use Rattle.std.proofs.Math.Dec.{leb}
 use Rattle.std.proofs.Math.ListN.{length, length-append}
-use borrow.Author.Tests.{ltb-true, lt-ltb, le-ltb, le-leb, lt-leb, leb-true}
+use borrow.Author.Tests.{ltb-true, leb-true}
 use Rattle.names.specs.Path.{is_path}
 use Rattle.names.specs.PathTheorems.{form as path-form}
-use Rattle.bundle.specs.Bundle.{Text}
+use Rattle.bundle.specs.Bundle.{Text, Remapping}
 use Rattle.bundle.specs.Limits.{capacity, remapping_limit, remapping_size}
 use Rattle.bundle.specs.Encode.{string, joined, remapping}
 use Rattle.bundle.specs.declared.Width.TheVariants.{Byte}
@@ -20,12 +20,14 @@ use Rattle.bundle.specs.Conflicts.{or_else}
 use Rattle.bundle.specs.Answers.{refused-ok, both_ok}
 use Rattle.bundle.specs.Form.{Every, FormedRemapping}
 use Rattle.encoder.specs.Strings.{string-length}
-use Rattle.remapping_lines.specs.Lines.{line_feed, equals, name_size, has, before, behind, Line, lines_from, left, right, context_in, name_in, target_in, name_place, target_place, remapping_of, unless, line_verdict, lines_verdict, remappings_of}
-use Rattle.remapping_lines.specs.Splitting.{piece, piece-none, piece-one, lines_step, it_has, it_has-none, part-before, part-behind, right-part}
-use Rattle.remapping_lines.specs.declared.Tested.{Tested}
-use Rattle.remapping_lines.specs.declared.Tested.TheVariants.{Counted, Bad}
+use Rattle.remapping_lines.specs.Lines.{equals, name_size, has, Line, left, right, context_in, name_in, target_in, remapping_of, unless, line_verdict, lines_verdict, remappings_of, placed, content}
+use Rattle.remapping_lines.specs.Splitting.{piece, piece-none, piece-one, pieces_step}
 
--- ANSWERS of the test
+-- ANSWERS of the test: how many lines have content and how many bytes their section takes; or a number and a place
+pub data Tested : Type 0 where
+  Counted : ℕ → ℕ → Tested
+  Bad : ℕ → ℕ → Tested
+
 pub counted-count : {n z m y : ℕ} → Counted n z ≡ Counted m y → n ≡ m
 counted-count e = cc
 
@@ -60,6 +62,15 @@ unfoldable pub tally : ℕ → ℕ → List Line → Tested
 tally n size [] = Counted n size
 tally n size (l ∷ ls) = and_tally (tally_line n size l) (λ m z. tally m z ls)
 
+-- how long they are: three length bytes, and what they count
+pub remapping_length : (r : Remapping) → length (remapping r) ≡ 3 + length r.context + length r.name + length r.target
+unfolding remapping
+remapping_length r = omega (arith, length-append (string r.context) (string r.name ++ string r.target), length-append (string r.name) (string r.target), string-length r.context, string-length r.name, string-length r.target)
+
+-- a path is short
+pub path_short : (t : Text) → is_path t ≡ true → length t < capacity Byte
+path_short t h = let s = (path-form t h).short in omega arith
+
 -- of what stands between two line feeds, at a place
 unfoldable pub tally_piece : ℕ → ℕ → ℕ → Text → Tested
 tally_piece at n size t = tally n size (piece at t)
@@ -74,109 +85,34 @@ tally-append n size (l ∷ xs) ys = go (tally_line n size l) (λ m z. tally-appe
     go (Counted m z) f = f m z
     go (Bad w p) f = refl
 
--- the first line of what is left, then the others
-pub tally-step : (at n size : ℕ) (s : Text) → tally n size (lines_from at s)
-    ≡ and_tally (tally_piece at n size (before line_feed s)) (λ m z. tally m z (lines_from (at + length (before line_feed s) + 1) (behind line_feed s)))
+-- the first piece of what is left, then the others
+pub tally-step : (n size at : ℕ) (t : Text) (ts : List Text) → tally n size (content (placed at (t ∷ ts))) ≡ and_tally (tally_piece at n size t) (λ m z. tally m z (content (placed (at + length t + 1) ts)))
 unfolding tally_piece
-tally-step at n size s = ap (tally n size) (lines_step at s) ∙ tally-append n size (piece at (before line_feed s)) (lines_from (at + length (before line_feed s) + 1) (behind line_feed s))
+tally-step n size at t ts = ap (tally n size) (pieces_step at t ts) ∙ tally-append n size (piece at t) (content (placed (at + length t + 1) ts))
 
-pub tally-none : (n size : ℕ) (ls : List Line) → ls ≡ [] → Counted n size ≡ tally n size ls
-unfolding tally
-tally-none n size ls e = rw e
+pub tally_bad : (n size at : ℕ) (t : Text) (ts left : List Text) (w p : ℕ) → left ≡ t ∷ ts → Bad w p ≡ tally_piece at n size t → Bad w p ≡ tally n size (content (placed at left))
+tally_bad n size at t ts left w p e h = rw (e, tally-step n size at t ts, ← h)
 
--- TEST BY TEST, as the code has them: e is where the first `=` stands, or the length
-module _ (at n size : ℕ) (t : Text) where
-  pub test-empty : length t ≡ 0 → Counted n size ≡ tally_piece at n size t
-  unfolding tally_piece
-  test-empty h = tally-none n size (piece at t) (piece-none at t h)
+pub tally_counted : (n size at : ℕ) (t : Text) (ts left : List Text) (m z : ℕ) → left ≡ t ∷ ts → Counted m z ≡ tally_piece at n size t
+    → tally n size (content (placed at left)) ≡ tally m z (content (placed (at + (length t + 1)) ts))
+tally_counted n size at t ts left m z e h =
+    let p : at + length t + 1 ≡ at + (length t + 1) = omega arith in
+    rw (e, tally-step n size at t ts, ← h, p)
 
-  module _ (some : 0 < length t) where
-    abbrev line : Line
-    line = record { place = at; text = t }
+-- an empty piece, and one that is a line
+pub tally_empty : (at n size : ℕ) (t : Text) → length t ≡ 0 → tally_piece at n size t ≡ Counted n size
+unfolding tally_piece tally
+tally_empty at n size t h = rw (piece-none at t h)
 
-    one : tally_piece at n size t ≡ tally_line n size line
-    unfolding tally_piece tally
-    one = ap (tally n size) (piece-one at t some) ∙ go (tally_line n size line)
-      where
-        go : (r : Tested) → and_tally r (λ m z. Counted m z) ≡ r
-        go (Counted m z) = refl
-        go (Bad w p) = refl
+pub tally_some : (at n size : ℕ) (t : Text) → 0 < length t → tally_piece at n size t ≡ tally_line n size (record { place = at; text = t })
+unfolding tally_piece tally
+tally_some at n size t h = ap (tally n size) (piece-one at t h) ∙ go (tally_line n size (record { place = at; text = t }))
+  where
+    go : (r : Tested) → and_tally r (λ m z. Counted m z) ≡ r
+    go (Counted m z) = refl
+    go (Bad w p) = refl
 
-    pub test-many : remapping_limit ≤ n → Bad 3 at ≡ tally_piece at n size t
-    unfolding line_verdict
-    test-many h = sym (one ∙ rw (le-ltb n remapping_limit h))
-
-    module _ (few : n < remapping_limit) (e : ℕ) (is : e ≡ length (before equals t)) where
-      pub test-unsplit : length t ≤ e → Bad 52 at ≡ tally_piece at n size t
-      unfolding line_verdict
-      test-unsplit h = sym (one ∙ rw (lt-ltb n remapping_limit few, it_has-none equals t e is h))
-
-      -- the left half, and whether its context is a path
-      module _ (inside : e < length t) (c : Bool) (c-is : c ≡ is_path (context_in (take e t))) where
-        split : has equals t ≡ true
-        split = it_has equals t e is inside
-
-        half : take e t ≡ left t
-        half = part-before equals t e is
-
-        context-told : (q : Bool) → c ≡ q → is_path (context_in (left t)) ≡ q
-        context-told q h = ap (λ (x : Text). is_path (context_in x)) (sym half) ∙ (sym c-is ∙ h)
-
-        pub test-context : c ≡ false → Bad 4 at ≡ tally_piece at n size t
-        unfolding line_verdict remapping_of
-        test-context h = sym (one ∙ rw (lt-ltb n remapping_limit few, split, context-told false h))
-
-        -- the target, and whether it is one
-        module _ (good : c ≡ true) (to : Text) (to_is : to ≡ target_in (take (length t - (e + 1)) (drop (e + 1) t))) (d : Bool) (d-is : d ≡ is_path to) where
-          target-same : to ≡ target_in (right t)
-          target-same = to_is ∙ right-part t e is
-
-          target_told : (q : Bool) → d ≡ q → is_path (target_in (right t)) ≡ q
-          target_told q h = ap is_path (sym target-same) ∙ (sym d-is ∙ h)
-
-          pub test-target : d ≡ false → Bad 4 (at + (e + 1)) ≡ tally_piece at n size t
-          unfolding line_verdict remapping_of
-          test-target h =
-              let p : at + (e + 1) ≡ at + target_place t = omega arith in
-              sym (one ∙ rw (lt-ltb n remapping_limit few, split, context-told true good, target_told false h, p))
-
-          -- the name
-          module _ (found : d ≡ true) (name : Text) (name-is : name ≡ name_in (take e t)) where
-            name-same : length name ≡ length (name_in (left t))
-            name-same = ap length (name-is ∙ ap name_in half)
-
-            pub test-name : (p : ℕ) → p ≡ name_place (take e t) → name_size < length name → Bad 12 (at + p) ≡ tally_piece at n size t
-            unfolding line_verdict remapping_of
-            test-name p p-is h =
-                let l = name-same in
-                let k : leb (length (name_in (left t))) name_size ≡ false = lt-leb (length (name_in (left t))) name_size (omega arith) in
-                let q : at + p ≡ at + name_place (left t) = ap (λ (m : ℕ). at + m) (p-is ∙ ap name_place half) in
-                sym (one ∙ rw (lt-ltb n remapping_limit few, split, context-told true good, target_told true found, k, q))
-
-            -- the line passes: what it adds is short
-            module _ (m : ℕ) (m-is : m ≡ length (context_in (take e t))) (short : length name ≤ name_size) where
-              context-length : m ≡ length (context_in (left t))
-              context-length = m-is ∙ ap (λ (x : Text). length (context_in x)) half
-
-              pub added-few : 3 + m + length name + length to ≤ remapping_size
-              added-few =
-                  let a = context-length in
-                  let b = ap length target-same in
-                  let x = (path-form (context_in (left t)) (context-told true good)).short in
-                  let y = (path-form (target_in (right t)) (target_told true found)).short in
-                  omega arith
-
-              pub test_good : Counted (n + 1) (size + (3 + m + length name + length to)) ≡ tally_piece at n size t
-              unfolding line_verdict remapping_of remapping
-              test_good =
-                  let c' = context_in (left t) in
-                  let d' = name_in (left t) in
-                  let g' = target_in (right t) in
-                  let a = context-length in
-                  let b = ap length target-same in
-                  let l = name-same in
-                  let k : size + (3 + m + length name + length to) ≡ size + length (string c' ++ (string d' ++ string g')) = omega (arith, length-append (string c') (string d' ++ string g'), length-append (string d') (string g'), string-length c', string-length d', string-length g') in
-                  sym (one ∙ rw (lt-ltb n remapping_limit few, split, context-told true good, target_told true found, le-leb (length d') name_size (omega arith), k))
+pub ruleset tests = (tally_some, tally_empty, remapping_length, path_short)
 
 -- WHAT A LINE THAT PASSES IS: split, and its remapping in form
 pub record Passes (t : Text) : Type 0 where
@@ -217,13 +153,11 @@ abbrev pub line_bytes : List Line → List ℕ
 line_bytes ls = joined remapping (remappings_of ls)
 
 pub remapping-few : (t : Text) → FormedRemapping (remapping_of t) → length (remapping_bytes t) ≤ remapping_size
-unfolding remapping
 remapping-few t f =
-    let r = remapping_of t in
-    let c = (path-form r.context f.0).short in
+    let c = path_short (remapping_of t).context f.0 in
     let n = f.1.0 in
-    let g = (path-form r.target f.1.1).short in
-    omega (arith, length-append (string r.context) (string r.name ++ string r.target), length-append (string r.name) (string r.target), string-length r.context, string-length r.name, string-length r.target)
+    let g = path_short (remapping_of t).target f.1.1 in
+    omega (arith, remapping_length (remapping_of t))
 
 -- and of its parts
 pub record Lengths (t : Text) : Type 0 where
@@ -233,70 +167,7 @@ pub record Lengths (t : Text) : Type 0 where
 
 pub part-lengths : (t : Text) → FormedRemapping (remapping_of t) → Lengths t
 unfolding remapping_of
-part-lengths t f =
-    let c = (path-form (context_in (left t)) f.0).short in
-    let g = (path-form (target_in (right t)) f.1.1).short in
-    record {
-      context = omega arith;
-      name = f.1.0;
-      target = omega arith;
-    }
-
-pub record Within (m z : ℕ) : Type 0 where
-  pub count : m ≤ remapping_limit
-  pub size : z ≤ 1 + remapping_size * m
-
--- the count and the size stay within their limits
-pub tally-within : (n size : ℕ) (ls : List Line) (m z : ℕ) → Within n size → tally n size ls ≡ Counted m z → Within m z
-unfolding tally
-tally-within n size [] m z k h = record { count = let c = k.count in let e = counted-count h in omega arith; size = let c = k.size in let e = counted-count h in let f = counted-size h in omega arith }
-tally-within n size (l ∷ ls) m z k h =
-    go (line_verdict n l) refl h (λ w. tally-within (n + 1) (size + length (remapping_bytes l.text)) ls m z w)
-  where
-    go : (v : Checked) → line_verdict n l ≡ v → and_tally (passed v (Counted (n + 1) (size + length (remapping_bytes l.text)))) (λ m z. tally m z ls) ≡ Counted m z
-        → (Within (n + 1) (size + length (remapping_bytes l.text)) → tally (n + 1) (size + length (remapping_bytes l.text)) ls ≡ Counted m z → Within m z) → Within m z
-    go Ok e h f =
-        let b = line-passes n l e in
-        let few = b.0 in
-        let r = remapping-few l.text b.1.formed in
-        let s = k.size in
-        f (record { count = omega arith; size = omega arith }) h
-    go (Fault w p) e h f = absurd (bad-counted h)
-
-pub piece-within : (at n size : ℕ) (t : Text) (m z : ℕ) → Within n size → tally_piece at n size t ≡ Counted m z → Within m z
-unfolding tally_piece
-piece-within at n size t m z k h = tally-within n size (piece at t) m z k h
-
--- ONE TURN: rest is what is left of s from `at` on, and k of it stand before the next line feed
-module _ (s : Text) (at : ℕ) (rest : Text) (is : rest ≡ drop at s) (k : ℕ) (e : k ≡ length (before line_feed rest)) where
-  abbrev first : Text
-  first = take k rest
-
-  pub first-is : first ≡ before line_feed rest
-  first-is = part-before line_feed rest k e
-
-  next-is : behind line_feed rest ≡ drop (at + (k + 1)) s
-  next-is = sym (part-behind line_feed rest k e) ∙ (ap (λ (r : Text). drop (k + 1) r) is ∙ drop-drop (k + 1) at s)
-
-  pub next-lines : lines_from (at + length (before line_feed rest) + 1) (behind line_feed rest) ≡ lines_from (at + (k + 1)) (drop (at + (k + 1)) s)
-  next-lines =
-      let p : at + length (before line_feed rest) + 1 ≡ at + (k + 1) = omega arith in
-      ap (λ (m : ℕ). lines_from m (behind line_feed rest)) p ∙ ap (lines_from (at + (k + 1))) next-is
-
-  turn : (n size : ℕ) (r : Tested) → r ≡ tally_piece at n size first → tally n size (lines_from at (drop at s)) ≡ and_tally r (λ m z. tally m z (lines_from (at + (k + 1)) (drop (at + (k + 1)) s)))
-  turn n size r h =
-      ap (λ (x : Text). tally n size (lines_from at x)) (sym is)
-      ∙ (tally-step at n size rest
-      ∙ (ap (λ (x : Text). and_tally (tally_piece at n size x) (λ m z. tally m z (lines_from (at + length (before line_feed rest) + 1) (behind line_feed rest)))) (sym first-is)
-      ∙ (ap (λ (ls : List Line). and_tally (tally_piece at n size first) (λ m z. tally m z ls)) next-lines
-      ∙ ap (λ (x : Tested). and_tally x (λ m z. tally m z (lines_from (at + (k + 1)) (drop (at + (k + 1)) s)))) (sym h))))
-
-  pub turn-bad : (n size : ℕ) (r : Tested) (w p : ℕ) → r ≡ tally_piece at n size first → r ≡ Bad w p → Bad w p ≡ tally n size (lines_from at (drop at s))
-  turn-bad n size r w p h b = sym (turn n size r h ∙ rw b)
-
-  pub turn-counted : (n size : ℕ) (r : Tested) (m z : ℕ) → r ≡ tally_piece at n size first → r ≡ Counted m z
-      → tally n size (lines_from at (drop at s)) ≡ tally m z (lines_from (at + (k + 1)) (drop (at + (k + 1)) s))
-  turn-counted n size r m z h b = turn n size r h ∙ rw b
+part-lengths t f = record { context = path_short (context_in (left t)) f.0; name = f.1.0; target = path_short (target_in (right t)) f.1.1 }
 
 -- WHAT THE TEST COMES TO: the verdict, and of lines that pass their count and the length of their bytes
 pub tally-is : (n size : ℕ) (ls : List Line) → tally n size ls ≡ passed (lines_verdict n ls) (Counted (n + length ls) (size + length (line_bytes ls)))

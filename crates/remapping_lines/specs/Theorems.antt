@@ -34,7 +34,7 @@ use Rattle.remapping_lines.specs.Lines.{equals, name_size, has, Line, lines_of, 
 use Rattle.remapping_lines.specs.Testing.{Passes, line_bytes, lines-pass, remapping-few}
 use Rattle.remapping_lines.specs.Writing.{AllPass, Accepted, list_bytes}
 use Rattle.remapping_lines.specs.Answers.{meant-length, section-is}
-use Rattle.remapping_lines.specs.declared.Lines.TheVariants.{Section, Refused}
+use Rattle.remapping_lines.specs.Lines.{Section, Refused}
 
 -- A LINE'S REFUSALS after n lines with content, each with its number and place, where those before it don't hold
 pub data Refusal (n : ℕ) (l : Line) : ℕ → ℕ → Type 0 where

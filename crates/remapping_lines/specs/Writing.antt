@@ -1,19 +1,19 @@
 -- The second pass: the remappings of lines that passed, one after the other. Assumes nothing.
-use Rattle.std.specs.Prelude.{ℕ, ◌+◌, ◌-◌, ◌≤◌, ◌<◌, Bool, true, false, cond, ◌≡◌, refl, List, [], ◌∷◌, ◌++◌, eqb, length, take, drop}
-use Rattle.std.proofs.Common.{arith, sym, ap, subst, ◌∙◌, append_assoc, append-nil, length-append, eq-eqb, ne_eqb}
-use borrow.Rule.Slice.PartMut.{mid_of, put_mid}
+use Rattle.std.specs.Prelude.{ℕ, ◌+◌, ◌<◌, Bool, true, false, cond, ◌≡◌, refl, List, [], ◌∷◌, ◌++◌, eqb, length}
+use Rattle.std.proofs.Common.{arith, sym, ap, ◌∙◌, append_assoc, append-nil, ne_eqb}
 use Rattle.bundle.specs.Bundle.{Text}
-use Rattle.bundle.specs.Limits.{capacity, remapping_size}
+use Rattle.bundle.specs.Limits.{capacity}
 use Rattle.bundle.specs.Encode.{string, joined, remapping}
 use Rattle.bundle.specs.declared.Width.TheVariants.{Byte}
 use Rattle.bundle.specs.Results.{Ok}
 use Rattle.bundle.specs.Form.{Every}
-use Rattle.encoder.specs.Started.{started}
-use Rattle.encoder.specs.Parts.{Front, Filled, filled_none, front-room, front_fits, front-done, same-filled}
-use Rattle.encoder.specs.Strings.{string-length}
-use Rattle.remapping_lines.specs.Lines.{line_feed, equals, before, behind, Line, placed, content, lines_from, lines_of, left, right, context_in, name_in, target_in, remapping_of, verdict, remappings_of}
-use Rattle.remapping_lines.specs.Splitting.{piece, piece-one, lines_step, has-place, part-before, right-part}
-use Rattle.remapping_lines.specs.Testing.{Lengths, Passes, first-is, line_bytes, lines-pass, next-lines, part-lengths, remapping_bytes}
+use Rattle.encoder.specs.Parts.{Filled, filled_none}
+use Rattle.remapping_lines.specs.Lines.{has, line_feed, equals, pieces, Line, placed, content, lines_of, left, right, context_in, name_in, target_in, remapping_of, verdict, remappings_of}
+use Rattle.remapping_lines.specs.Splitting.{piece, piece-one, pieces_step}
+use Rattle.std.specs.Prelude.{Option, Some, MatchOption}
+use Rattle.std.specs.Borrow.{Bor}
+use Rattle.names.specs.Bytes.{false_true}
+use Rattle.remapping_lines.specs.Testing.{Passes, part-lengths, line_bytes, lines-pass, remapping_bytes}
 
 -- THE WRITING, line by line
 abbrev pub Passable : Text → Type 0
@@ -54,143 +54,65 @@ piece-passes : (at : ℕ) (t : Text) → AllPass (piece at t) → Passable t
 unfolding Every
 piece-passes at t h some = let g : AllPass (record { place = at; text = t } ∷ []) = rw (piece-one at t some) at h in g.0
 
-module _ (at : ℕ) (s : Text) where
-  abbrev others : List Line
-  others = lines_from (at + length (before line_feed s) + 1) (behind line_feed s)
+-- piece by piece
+pub pieces-bytes : (at : ℕ) (ts : List Text) → line_bytes (content (placed at ts)) ≡ joined piece_bytes ts
+unfolding content placed remappings_of joined
+pieces-bytes at [] = refl
+pieces-bytes at (t ∷ ts) =
+    ap line_bytes (pieces_step at t ts)
+    ∙ (lines-append (piece at t) (content (placed (at + length t + 1) ts))
+    ∙ (ap (λ (l : List ℕ). l ++ line_bytes (content (placed (at + length t + 1) ts))) (piece_bytes_lem at t) ∙ ap (λ (l : List ℕ). piece_bytes t ++ l) (pieces-bytes (at + length t + 1) ts)))
 
-  pub bytes-step : line_bytes (lines_from at s) ≡ piece_bytes (before line_feed s) ++ line_bytes others
-  bytes-step =
-      ap line_bytes (lines_step at s)
-      ∙ (lines-append (piece at (before line_feed s)) others ∙ ap (λ (l : List ℕ). l ++ line_bytes others) (piece_bytes_lem at (before line_feed s)))
+pieces-pass : (at : ℕ) (ts : List Text) → AllPass (content (placed at ts)) → Every Passable ts
+unfolding Every
+pieces-pass at [] h = tt
+pieces-pass at (t ∷ ts) h =
+    let r = every_append (λ l. Passes l.text) (piece at t) (content (placed (at + length t + 1) ts)) (rw (pieces_step at t ts) at h) in
+    (piece-passes at t r.0, pieces-pass (at + length t + 1) ts r.1)
 
-  pub pass_step : AllPass (lines_from at s) → Passable (before line_feed s) × AllPass others
-  pass_step h =
-      let g : AllPass (piece at (before line_feed s) ++ others) = rw (lines_step at s) at h in
-      let r = every_append (λ l. Passes l.text) (piece at (before line_feed s)) others g in
-      (piece-passes at (before line_feed s) r.0, r.1)
-
--- one turn of the writing
-module _ (s : Text) (at : ℕ) (rest : Text) (is : rest ≡ drop at s) (k : ℕ) (e : k ≡ length (before line_feed rest)) where
-  pub turn-bytes : line_bytes (lines_from at (drop at s)) ≡ piece_bytes (take k rest) ++ line_bytes (lines_from (at + (k + 1)) (drop (at + (k + 1)) s))
-  turn-bytes =
-      ap (λ (x : Text). line_bytes (lines_from at x)) (sym is)
-      ∙ (bytes-step at rest
-      ∙ (ap (λ (x : Text). piece_bytes x ++ line_bytes (others at rest)) (sym (first-is s at rest is k e))
-      ∙ ap (λ (ls : List Line). piece_bytes (take k rest) ++ line_bytes ls) (next-lines s at rest is k e)))
-
-  pub turn-pass : AllPass (lines_from at (drop at s)) → Passable (take k rest) × AllPass (lines_from (at + (k + 1)) (drop (at + (k + 1)) s))
-  turn-pass h =
-      let g : AllPass (lines_from at rest) = rw is h in
-      let r = pass_step at rest g in
-      (subst Passable (sym (first-is s at rest is k e)) r.0, subst AllPass (next-lines s at rest is k e) r.1)
-
--- before the first turn
-pub accepted-pass : (s : Text) → Accepted s → AllPass (lines_of s)
-unfolding verdict
-accepted-pass s h = (lines-pass 0 (lines_of s) (omega arith) h).1
-
-pub list_all : (s : Text) (out : List ℕ) → Filled (list_bytes s) (line_bytes (lines_of s)) out out 0
+-- before the first, of what is left, and after the last
+pub list_all : (s : Text) (out : List ℕ) → Filled (list_bytes s) (joined piece_bytes (pieces line_feed s)) out out 0
 unfolding list_bytes
-list_all s out = filled_none (line_bytes (lines_of s)) out
+list_all s out = rw (pieces-bytes 0 (pieces line_feed s)) (filled_none (joined piece_bytes (pieces line_feed s)) out)
 
-pub no_bytes : (ls : List Line) → ls ≡ [] → line_bytes ls ≡ []
-unfolding remappings_of joined
-no_bytes ls e = rw e
+pub accepted-pass : (s : Text) → Accepted s → Every Passable (pieces line_feed s)
+unfolding verdict
+accepted-pass s h = pieces-pass 0 (pieces line_feed s) (lines-pass 0 (lines_of s) (omega arith) h).1
 
-pub bytes-empty : (t : Text) → length t ≡ 0 → piece_bytes t ≡ []
+pub bytes-step : (t : Text) (ts left : List Text) → left ≡ t ∷ ts → joined piece_bytes left ≡ piece_bytes t ++ joined piece_bytes ts
+unfolding joined
+bytes-step t ts left e = rw e
+
+pub pass_step : (t : Text) (ts left : List Text) → left ≡ t ∷ ts → Every Passable left → Passable t × Every Passable ts
+unfolding Every
+pass_step t ts left e h = rw e at h
+
+pub no_bytes : (left : List Text) → left ≡ [] → joined piece_bytes left ≡ []
+unfolding joined
+no_bytes left e = rw e
+
+-- A LINE'S BYTES by its parts, where there is an `=`; a line without one is empty
+pub passed_none : (t : Text) → Passable t → has equals t ≡ false → piece_bytes t ≡ []
 unfolding piece_bytes
-bytes-empty t h = rw (eq-eqb (length t) 0 h)
+passed_none [] p h = refl
+passed_none (b ∷ t) p h = absurd (false_true (sym h ∙ (p (omega arith)).split))
 
-pub bytes-line : (t : Text) → 0 < length t → piece_bytes t ≡ string (context_in (left t)) ++ (string (name_in (left t)) ++ string (target_in (right t)))
+has_some : (c : ℕ) (t : Text) → has c t ≡ true → 0 < length t
+unfolding has
+has_some c [] h = absurd (false_true h)
+has_some c (b ∷ t) h = omega arith
+
+pub record InParts (t x y z : Text) : Type 0 where
+  pub bytes : piece_bytes t ≡ string x ++ (string y ++ string z)
+  pub first : length x < capacity Byte
+  pub second : length y < capacity Byte
+  pub third : length z < capacity Byte
+
+pub passed_some : (t x y : Text) (z : Bor Text) (target : Option (Bor Text)) → Passable t → x ≡ context_in (left t) → y ≡ name_in (left t)
+    → MatchOption target (has equals t ≡ false) (λ r. (has equals t ≡ true) × (r.now ≡ target_in (right t))) → target ≡ Some z → InParts t x y z.now
 unfolding piece_bytes remapping remapping_of
-bytes-line t h = rw (ne_eqb (length t) 0 (λ e. omega arith))
-
-pub bytes-length : (t : Text) → 0 < length t → length (piece_bytes t) ≡ length (string (context_in (left t))) + (length (string (name_in (left t))) + length (string (target_in (right t))))
-bytes-length t h = omega (arith, ap length (bytes-line t h), length-append (string (context_in (left t))) (string (name_in (left t)) ++ string (target_in (right t))), length-append (string (name_in (left t))) (string (target_in (right t))))
-
--- ONE LINE WRITTEN, part by part, as the code has it: e is where its first `=` stands
-module _ (t : Text) (some : 0 < length t) (p : Passes t) (e : ℕ) (is : e ≡ length (before equals t)) (out : List ℕ) (room : length (piece_bytes t) ≤ length out) where
-  pub inside : e < length t
-  inside = has-place equals t e is p.split
-
-  left_half : take e t ≡ left t
-  left_half = part-before equals t e is
-
-  abbrev context : List ℕ
-  context = string (context_in (left t))
-
-  abbrev name : List ℕ
-  name = string (name_in (left t))
-
-  abbrev target : List ℕ
-  target = string (target_in (right t))
-
-  short : Lengths t
-  short = part-lengths t p.formed
-
-  pub context-asked : (length (context_in (take e t)) < capacity Byte) × (length (string (context_in (take e t))) ≤ length out)
-  context-asked =
-      let m = ap (λ (x : Text). length (context_in x)) left_half in
-      let z = ap (λ (x : Text). length (string (context_in x))) left_half in
-      let q = short.context in
-      let u = bytes-length t some in
-      (omega arith, omega arith)
-
-  -- the context stands
-  module _ (cur : List ℕ) (a : ℕ) (h : (a ≡ length (string (context_in (take e t)))) × (cur ≡ started (string (context_in (take e t))) out)) where
-    pub before-name : Front context name out cur a
-    before-name =
-        let g = same-filled context (string (context_in (take e t))) out cur a (ap (λ (x : Text). string (context_in x)) (sym left_half)) h in
-        record { starts = g.1; is = g.0; room = omega (arith, bytes-length t some, length-append context name) }
-
-    module _ (x : Text) (x-is : x ≡ name_in (take e t)) where
-      name-same : x ≡ name_in (left t)
-      name-same = x-is ∙ ap name_in left_half
-
-      pub name-asked : (length x < capacity Byte) × (1 + length x ≤ length (mid_of a (length cur - a) cur))
-      name-asked =
-          let k = front-room before-name in
-          let m = ap length name-same in
-          let q = short.name in
-          (omega arith, omega (arith, string-length (name_in (left t))))
-
-      -- the name stands
-      module _ (last : List ℕ) (k : ℕ) (g : (k ≡ length (string x)) × (last ≡ started (string x) (mid_of a (length cur - a) cur))) where
-        abbrev now_held : List ℕ
-        now_held = put_mid a (length cur - a) cur last
-
-        name-written : (k ≡ length name) × (last ≡ started name (mid_of a (length cur - a) cur))
-        name-written = same-filled name (string x) _ last k (ap string (sym name-same)) g
-
-        pub name-fits : a + k ≤ length out
-        name-fits = front_fits before-name k name-written.0
-
-        pub before-target : Front (context ++ name) target out now_held (a + k)
-        before-target =
-            let d = front-done before-name last k name-written in
-            record { starts = d.1; is = d.0; room = omega (arith, bytes-length t some, length-append context name, length-append (context ++ name) target) }
-
-        module _ (y : Text) (y-is : y ≡ target_in (take (length t - (e + 1)) (drop (e + 1) t))) where
-          target-same : y ≡ target_in (right t)
-          target-same = y-is ∙ right-part t e is
-
-          pub target-asked : (length y < capacity Byte) × (1 + length y ≤ length (mid_of (a + k) (length now_held - (a + k)) now_held))
-          target-asked =
-              let l = front-room before-target in
-              let m = ap length target-same in
-              let q = short.target in
-              (omega arith, omega (arith, string-length (target_in (right t))))
-
-          -- all of it stands
-          module _ (final : List ℕ) (m : ℕ) (f : (m ≡ length (string y)) × (final ≡ started (string y) (mid_of (a + k) (length now_held - (a + k)) now_held))) where
-            target-written : (m ≡ length target) × (final ≡ started target (mid_of (a + k) (length now_held - (a + k)) now_held))
-            target-written = same-filled target (string y) _ final m (ap string (sym target-same)) f
-
-            pub line-written : (a + k + m ≡ length (piece_bytes t)) × (put_mid (a + k) (length now_held - (a + k)) now_held final ≡ started (piece_bytes t) out)
-            line-written = same-filled (piece_bytes t) ((context ++ name) ++ target) out _ _ (bytes-line t some ∙ sym (append_assoc context name target)) (front-done before-target final m target-written)
-
-            pub line-few : a + k + m ≤ remapping_size
-            line-few =
-                let l = line-written.0 in
-                let q = short in
-                omega (arith, bytes-length t some, string-length (context_in (left t)), string-length (name_in (left t)), string-length (target_in (right t)))
+passed_some t x y z target p a b m e =
+    let split = rw e at m in
+    let some : 0 < length t = has_some equals t split.0 in
+    let l = part-lengths t (p some).formed in
+    record { bytes = rw (a, b, split.1, ne_eqb (length t) 0 (λ k. omega arith)) refl; first = rw a l.context; second = rw b l.name; third = rw split.1 l.target }

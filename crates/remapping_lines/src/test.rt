@@ -1,81 +1,66 @@
 // The first pass: lines are tested in order and counted, nothing is written.
 ghost use Rattle.std.specs.Prelude.{◌≡◌, ◌+◌, ◌*◌, ◌≤◌, ◌<◌, ◌^◌, length};
 ghost use Rattle.bundle.specs.Limits.{remapping_limit, remapping_size};
-ghost use Rattle.remapping_lines.specs.Lines.{lines_of};
-ghost use Rattle.remapping_lines.specs.Testing.{tally, tally_piece};
 
-use crate::Tested;
-use crate::bytes::find;
-use crate::halves::{context_len, is_context, name_in, name_place, target_in};
+use crate::line::Line;
 use bundle::limits::REMAPPINGS;
-
-pub const LINE_FEED: u8 = 10;
-
-pub const EQUALS: u8 = 61;
-
-pub const COLON: u8 = 58;
+use refusal::{Cause, Refusal};
 
 // The longest name.
 const NAME: usize = 255;
 
-// The line t at the offset `at`; n lines with content came before it, and their section takes `size` bytes.
-fn test_line(t: &[u8], at: usize, n: usize, size: usize) -> Tested
-    requires { (at + length t.now < 2 ^ 63) × ((n ≤ remapping_limit) × (size ≤ 1 + remapping_size * n)) }
-    ensures { result ≡ tally_piece at n size t.now }
-{
-    let next = n + 1;
-    if t.len() == 0 {
-        return Tested::Counted(n, size);
-    }
-    let e = find(t, EQUALS);
-    let left = &t[..e];
-    let c = find(left, COLON);
-    let context = is_context(left, c);
-    if n >= REMAPPINGS {
-        return Tested::Bad(3, at);
-    }
-    if e >= t.len() {
-        return Tested::Bad(52, at);
-    }
-    if !context {
-        return Tested::Bad(4, at);
-    }
-    let second = e + 1;
-    let to = target_in(&t[second..]);
-    if !names::is_path(to) {
-        return Tested::Bad(4, at + second);
-    }
-    let prefix = name_in(left, c);
-    if prefix.len() > NAME {
-        return Tested::Bad(12, at + name_place(left, c));
-    }
-    Tested::Counted(
-        next,
-        size + (3 + context_len(left, c) + prefix.len() + to.len()),
-    )
+// How many lines have content, and how many bytes their section takes.
+#[derive(Clone, Copy)]
+pub struct Counted {
+    pub lines: usize,
+    pub size: usize,
+    ghost within: { (lines ≤ remapping_limit) × (size ≤ 1 + remapping_size * lines) },
 }
 
-// All lines.
-pub fn test_lines(s: &[u8]) -> Tested
-    ensures { result ≡ tally 0 1 (lines_of s.now) }
-{
-    let mut at = 0;
-    let mut n: usize = 0;
-    let mut size: usize = 1;
-    while at < s.len() {
-        let rest = &s[at..];
-        let k = find(rest, LINE_FEED);
-        let line = test_line(&rest[..k], at, n, size);
-        match line {
-            Tested::Bad(w, p) => {
-                return Tested::Bad(w, p);
-            }
-            Tested::Counted(m, z) => {
-                n = m;
-                size = z;
-            }
+impl Counted {
+    ghost use Rattle.remapping_lines.specs.Lines.{lines_of};
+    ghost use Rattle.remapping_lines.specs.Testing.{tally, tally_piece};
+    ghost use Rattle.remapping_lines.specs.Tested.{tested};
+
+    // With the line t at the offset `at`; an empty one is skipped.
+    #[tactic(auto, unfolding(crate::specs::Lines::line_verdict, crate::specs::Lines::remapping_of), using(crate::specs::Testing::tests))]
+    fn with(self, t: &[u8], at: usize) -> Result<Counted, Refusal>
+        requires { at + length t.now < 2 ^ 63 }
+        ensures { tested result ≡ tally_piece at self.lines self.size t.now }
+    {
+        if t.is_empty() {
+            return Ok(self);
         }
-        at += k + 1;
+        let line = Line::of(t);
+        if self.lines >= REMAPPINGS {
+            return Err(Cause::TooMany.at(at));
+        }
+        let target = line.target.ok_or(Cause::BadLine.at(at))?;
+        if !names::is_path(line.context) {
+            return Err(Cause::BadPath.at(at));
+        }
+        if !names::is_path(target) {
+            return Err(Cause::BadPath.at(at + line.target_at));
+        }
+        if line.name.len() > NAME {
+            return Err(Cause::OddName.at(at + line.name_at));
+        }
+        Ok(Counted {
+            lines: self.lines + 1,
+            size: self.size + (3 + line.context.len() + line.name.len() + target.len()),
+        })
     }
-    Tested::Counted(n, size)
+
+    // All lines.
+    pub fn of(s: &[u8]) -> Result<Counted, Refusal>
+        ensures { tested result ≡ tally 0 1 (lines_of s.now) }
+    {
+        let mut counted = Counted { lines: 0, size: 1 };
+        let mut at = 0;
+        for line in s.split(|b| *b == b'\n') {
+            counted = counted.with(line, at)?;
+            at += line.len() + 1;
+        }
+        Ok(counted)
+    }
 }

@@ -5,7 +5,6 @@
 
 ghost use Rattle.std.specs.Prelude.{◌≤◌, length};
 
-use remapping_lines::Lines;
 use std::io;
 use std::io::{BufWriter, Write};
 
@@ -28,10 +27,9 @@ fn copy(s: &[u8], out: &mut [u8]) -> usize
 
 // Reads the list into the buffer that is lent.
 fn tell<W: Write>(out: &mut W, s: &[u8], lent: &mut [u8]) -> io::Result<()> {
-    let told = remapping_lines::read_lines(s, lent);
-    match told {
-        Lines::Section(k) => writeln!(out, "ok {k}")?,
-        Lines::Refused(w, p) => lines::tell_refusal(out, w, p)?,
+    match remapping_lines::read_lines(s, lent) {
+        Ok(k) => writeln!(out, "ok {k}")?,
+        Err(refusal) => writeln!(out, "{refusal}")?,
     }
     lines::tell_hex(out, lent)?;
     out.write_all(b"\n")

@@ -1,40 +1,42 @@
 -- `put_segments` meets its contract. Assumes nothing.
-use Prim.Native.Nat.{◌≤◌}
-use native.Mathlib.Omega.{arith}
-use mathlib.Core.List.{◌++◌}
-use lib.ListN.{length, length-append}
-use Rattle.std.proofs.Common.{rules}
-use Rattle.names.specs.Decimal.{unit_name}
+use Rattle.std.proofs.Common.{arith, ℕ, ◌≡◌, ◌≤◌, sym, List, ◌∷◌, [], ◌++◌, length, length-append, append_assoc}
 use Rattle.names.specs.Bytes.{ascii}
-use Rattle.bundle.specs.Encode.{string}
-use Rattle.encoder.specs.Parts.{Front, front-start, front-room, front_fits, front-done}
-use Rattle.encoder.specs.Strings.{string_bytes}
+use Rattle.names.specs.Decimal.{unit_name}
+use Rattle.bundle.specs.Encode.{string, joined}
+use Rattle.encoder.specs.Started.{started}
+use Rattle.encoder.specs.Parts.{Front, front-room, front-part, front_next, front-done, same-filled}
+use Rattle.encoder.specs.Strings.{crate_length}
 use Rattle.encoder.proofs.segments.put_segments.Goals as goal
 
-pub put_crate-a-requires : goal.put_crate-a-requires
-put_crate-a-requires c = let l = length-append (string (ascii "crate")) (string (unit_name c.args.id) ++ string_bytes c.args.s.now c.args.left c.args.rest) in let g : length (string (ascii "crate")) ≤ length c.args.out.now = omega arith in g
+-- `crate` stands, and two parts are to come
+crate_front : (x y out cur : List ℕ) (a : ℕ) → length (string (ascii "crate") ++ (x ++ y)) ≤ length out
+    → (a ≡ length (string (99 ∷ 114 ∷ 97 ∷ 116 ∷ 101 ∷ []))) × (cur ≡ started (string (99 ∷ 114 ∷ 97 ∷ 116 ∷ 101 ∷ [])) out) → Front (string (ascii "crate")) (x ++ y) out cur a
+unfolding ascii
+crate_front x y out cur a r h = record { starts = h.1; is = h.0; room = r }
 
-pub slice_bounds-put_rest-count : goal.slice_bounds-put_rest-count
-slice_bounds-put_rest-count c =
-    let front : Front (string (ascii "crate")) (string (unit_name c.args.id) ++ string_bytes c.args.s.now c.args.left c.args.rest) c.args.out.now c.put_crate-a.new.out c.put_crate-a.result = record { starts = c.put_crate-a.ensures.1; is = c.put_crate-a.ensures.0; room = c.requires.1 } in
-    front-start front
+pub put_string-a-requires : goal.put_string-a-requires
+put_string-a-requires c =
+    let e = crate_length in
+    let p = c.requires in
+    (omega arith, omega (arith, length-append (string (ascii "crate")) (string (unit_name c.args.id) ++ joined string c.args.rest)))
 
-pub slice_bounds-put_rest-start : goal.slice_bounds-put_rest-start
-slice_bounds-put_rest-start c =
-    let front : Front (string (ascii "crate")) (string (unit_name c.args.id) ++ string_bytes c.args.s.now c.args.left c.args.rest) c.args.out.now c.put_crate-a.new.out c.put_crate-a.result = record { starts = c.put_crate-a.ensures.1; is = c.put_crate-a.ensures.0; room = c.requires.1 } in
-    let h = front-start front in search rules
+pub put_unit-requires : goal.put_unit-requires
+put_unit-requires c =
+    let unit = string (unit_name c.args.id) in
+    let rest = joined string c.args.rest in
+    front-part unit rest (crate_front unit rest c.args.out.now c.put_string-a.new.out c.put_string-a.result c.requires c.put_string-a.ensures)
 
-pub put_rest-requires : goal.put_rest-requires
-put_rest-requires c =
-    let front : Front (string (ascii "crate")) (string (unit_name c.args.id) ++ string_bytes c.args.s.now c.args.left c.args.rest) c.args.out.now c.put_crate-a.new.out c.put_crate-a.result = record { starts = c.put_crate-a.ensures.1; is = c.put_crate-a.ensures.0; room = c.requires.1 } in
-    (c.requires.0, front-room front)
-
-pub overflow_add-result : goal.overflow_add-result
-overflow_add-result c =
-    let front : Front (string (ascii "crate")) (string (unit_name c.args.id) ++ string_bytes c.args.s.now c.args.left c.args.rest) c.args.out.now c.put_crate-a.new.out c.put_crate-a.result = record { starts = c.put_crate-a.ensures.1; is = c.put_crate-a.ensures.0; room = c.requires.1 } in
-    let h = front_fits front c.put_rest.result c.put_rest.ensures.0 in omega arith
+pub put-requires : goal.put-requires
+put-requires c =
+    let unit = string (unit_name c.args.id) in
+    let rest = joined string c.args.rest in
+    let front = crate_front unit rest c.args.out.now c.put_string-a.new.out c.put_string-a.result c.requires c.put_string-a.ensures in
+    front-room (front_next unit rest front c.put_unit.new.out c.put_unit.result c.put_unit.ensures)
 
 pub returns : goal.returns
 returns c =
-    let front : Front (string (ascii "crate")) (string (unit_name c.args.id) ++ string_bytes c.args.s.now c.args.left c.args.rest) c.args.out.now c.put_crate-a.new.out c.put_crate-a.result = record { starts = c.put_crate-a.ensures.1; is = c.put_crate-a.ensures.0; room = c.requires.1 } in
-    front-done front c.put_rest.new.out c.put_rest.result c.put_rest.ensures
+    let unit = string (unit_name c.args.id) in
+    let rest = joined string c.args.rest in
+    let front = crate_front unit rest c.args.out.now c.put_string-a.new.out c.put_string-a.result c.requires c.put_string-a.ensures in
+    same-filled (string (ascii "crate") ++ (unit ++ rest)) ((string (ascii "crate") ++ unit) ++ rest) c.args.out.now _ _ (sym (append_assoc (string (ascii "crate")) unit rest))
+    (front-done (front_next unit rest front c.put_unit.new.out c.put_unit.result c.put_unit.ensures) c.put.new.out c.put.result c.put.ensures)
