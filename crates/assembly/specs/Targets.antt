@@ -12,8 +12,8 @@ use Rattle.bundle.specs.Decode.{decode}
 use Rattle.resolution.specs.Lists.{lists_of}
 use Rattle.resolution.specs.Resolution.{Resolved, to, fails, resolve_path_internal}
 use Rattle.resolution.specs.Call.{answer, position}
-use Rattle.resolution.specs.declared.Resolution.{Resolution}
-use Rattle.resolution.specs.declared.Resolution.TheVariants.{File, Folder, Refused}
+use Rattle.resolution.specs.Results.{Resolution}
+use Rattle.resolution.specs.Results.{File, Folder, Refused}
 use Rattle.discovery.specs.Discovery.{Use, uses, program_of, paths_of}
 use Rattle.discovery.specs.Search.{index_in, index-small}
 use Rattle.discovery.specs.Walk.{use_at}

@@ -15,8 +15,8 @@ use Rattle.bundle.specs.Encode.{encode}
 use Rattle.resolution.specs.Lists.{Lists}
 use Rattle.resolution.specs.Call.{answer}
 use Rattle.resolution.specs.Resolution.{resolve_path_internal}
-use Rattle.resolution.specs.declared.Resolution.{Resolution}
-use Rattle.resolution.specs.declared.Resolution.TheVariants as resolution
+use Rattle.resolution.specs.Results.{Resolution}
+use Rattle.resolution.specs.Results as resolution
 use Rattle.discovery.specs.Discovery.{Use, uses, program_of}
 use Rattle.discovery.specs.Facts.{cond_elim, mem_get_d}
 

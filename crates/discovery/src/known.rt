@@ -7,11 +7,13 @@ ghost use Rattle.bundle.specs.Decode.{decode, file_at};
 ghost use Rattle.card.specs.Layout.{card_size, folders_of, files_of};
 ghost use Rattle.discovery.specs.Places.{Places, StartsPut};
 ghost use Rattle.bundle.specs.Limits.{folder_limit, file_limit, use_limit};
+ghost use Rattle.resolution.specs.Told.{told_use};
 ghost use Rattle.discovery.specs.Known.{known_length, code_in, file_in, left_in, next_of, begun, Keeps, Held, Finds, FilesPut};
 
 use crate::{IDS, UNITS};
 use card::CARD;
-use resolution::Resolution;
+use refusal::Cause;
+use resolution::{Found, Target};
 
 // By a file's index: where its entries begin and end, and where the file stands in the bundle.
 const FROM: usize = UNITS;
@@ -75,44 +77,33 @@ pub fn begin(t: &mut [usize; KNOWN], index: usize, count: usize) -> usize
     next
 }
 
-fn code_in(found: Resolution) -> usize
-    ensures { result ≡ code_in found }
+// An entry's last three parts.
+fn parts_of(found: Result<Found, Cause>) -> (usize, usize, usize)
+    ensures { (result.0 ≡ code_in (told_use found)) × ((result.1 ≡ file_in (told_use found)) × (result.2 ≡ left_in (told_use found))) }
 {
     match found {
-        Resolution::File(_, _) => FILE,
-        Resolution::Folder(_, _) => FOLDER,
-        Resolution::Refused(_, _) => NOTHING,
-    }
-}
-
-fn file_in(found: Resolution) -> usize
-    ensures { result ≡ file_in found }
-{
-    match found {
-        Resolution::File(f, _) => f,
-        Resolution::Folder(f, _) => f,
-        Resolution::Refused(_, _) => 0,
-    }
-}
-
-fn left_in(found: Resolution) -> usize
-    ensures { result ≡ left_in found }
-{
-    match found {
-        Resolution::File(_, left) => left,
-        Resolution::Folder(_, left) => left,
-        Resolution::Refused(_, _) => 0,
+        Ok(
+            Found {
+                target: Target::File(f),
+                left,
+            },
+        ) => (FILE, f, left),
+        Ok(
+            Found {
+                target: Target::Folder(f),
+                left,
+            },
+        ) => (FOLDER, f, left),
+        Err(_) => (NOTHING, 0, 0),
     }
 }
 
 // Entry i: what the use at `mark` resolved to.
-pub fn keep(t: &mut [usize; KNOWN], i: usize, mark: usize, found: Resolution)
+pub fn keep(t: &mut [usize; KNOWN], i: usize, mark: usize, found: Result<Found, Cause>)
     requires { (length t.old ≡ known_length) × (i < use_limit) }
-    ensures { Keeps t.old t.new i mark found }
+    ensures { Keeps t.old t.new i mark (told_use found) }
 {
-    let code = code_in(found);
-    let f = file_in(found);
-    let left = left_in(found);
+    let (code, f, left) = parts_of(found);
     t[MARKS + i] = mark;
     t[CODES + i] = code;
     t[TARGETS + i] = f;

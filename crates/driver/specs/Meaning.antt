@@ -10,7 +10,7 @@ use Rattle.resolution.specs.Resolution.{Resolved, to, fails, number, resolve_pat
 use Rattle.resolution.specs.Theorems.{is_listed}
 use Rattle.resolution.specs.Theorems as theorem
 use Rattle.resolution.specs.Call.{answer, position}
-use Rattle.resolution.specs.declared.Resolution.TheVariants.{File, Folder}
+use Rattle.resolution.specs.Results.{File, Folder}
 use Rattle.driver.specs.declared.Graph.{Graph}
 use Rattle.discovery.specs.Discovery.{Use, Fault, Import, fault_of, import_of, lookup_faults, valid_imports, resolve_single}
 use Rattle.discovery.specs.Facts.{member_true, mem_snoc, id-found}

@@ -13,8 +13,8 @@ use Rattle.resolution.specs.Lists.{Lists}
 use Rattle.names.specs.Bytes.{same, member}
 use Rattle.resolution.specs.Resolution.{Resolved, to, fails, resolve_path_internal}
 use Rattle.resolution.specs.Call.{answer, position}
-use Rattle.resolution.specs.declared.Resolution.{Resolution}
-use Rattle.resolution.specs.declared.Resolution.TheVariants.{File, Folder, Refused}
+use Rattle.resolution.specs.Results.{Resolution}
+use Rattle.resolution.specs.Results.{File, Folder, Refused}
 use Rattle.driver.specs.declared.Graph.{Graph}
 use Rattle.driver.specs.declared.Reading.{Reading}
 use Rattle.driver.specs.declared.Reading.TheVariants.{Nothing, Listed, New, Told}

@@ -15,8 +15,8 @@ use Rattle.bundle.specs.Limits.{file_limit, folder_limit, use_limit}
 use Rattle.resolution.specs.Lists.{Lists, lists_of}
 use Rattle.resolution.specs.Call.{position, answer}
 use Rattle.resolution.specs.Resolution.{resolve_path_internal}
-use Rattle.resolution.specs.declared.Resolution.{Resolution}
-use Rattle.resolution.specs.declared.Resolution.TheVariants as resolution
+use Rattle.resolution.specs.Results.{Resolution}
+use Rattle.resolution.specs.Results as resolution
 use Rattle.driver.specs.declared.Graph.{Graph}
 use Rattle.discovery.specs.Discovery.{Use, uses, program_of, ResolvedUse, resolve_single, use_cache, Fault, Import, lookup_faults, valid_imports, Loading, load_all, turn, turns, start, paths_of, discover_dependencies}
 use Rattle.discovery.specs.Discovery as definition

@@ -5,6 +5,7 @@ ghost use Rattle.bundle.specs.Form.{Every};
 ghost use Rattle.resolution.specs.Indices.{lists_in, path_in, Mapped, Importer};
 ghost use Rattle.discovery.specs.Walk.{use_at, UseMark, UseMarks, use_list, NamedUse};
 ghost use Rattle.resolution.specs.Call.{answer};
+ghost use Rattle.resolution.specs.Told.{told_use};
 ghost use Rattle.resolution.specs.Resolution.{resolve_path_internal};
 ghost use Rattle.driver.specs.Record.{looked_all, no_imports};
 ghost use Rattle.discovery.specs.Known.{known_length, Fills};
@@ -13,17 +14,16 @@ use crate::Graph;
 use card::CARD;
 use discovery::known::{KNOWN, keep};
 use discovery::{UNITS, Uses};
-use resolution::Resolution;
+use refusal::Cause;
+use resolution::{Found, Segments, Target};
 
 // A lookup: what the use at `mark` in the file of index f of the card resolves to.
-fn resolve_single(s: &[u8], card: &[u32; CARD], f: usize, mark: usize) -> Resolution
+fn resolve_single(s: &[u8], card: &[u32; CARD], f: usize, mark: usize) -> Result<Found, Cause>
     requires { Mapped s.now card.now × Importer s.now f × (UseMark s.now mark × NamedUse (use_at s.now mark)) }
-    ensures { result ≡ answer (lists_in s.now) (resolve_path_internal (lists_in s.now) (path_in s.now f) (use_at s.now mark).segments) }
+    ensures { told_use result ≡ answer (lists_in s.now) (resolve_path_internal (lists_in s.now) (path_in s.now f) (use_at s.now mark).segments) }
 {
-    let segments = bundle::use_segments(s, mark);
-    let first = segments.first;
-    let n = segments.count;
-    resolution::resolve_path_internal(s, card, f, s, first, n)
+    let segments = Segments::of(s, bundle::use_segments(s, mark));
+    resolution::resolve_path_internal(s, card, f, segments)
 }
 
 // All lookups of the file of index f of the card, whose uses these are. What they push is stored here, so that no record is copied for a
@@ -53,20 +53,25 @@ pub fn resolve_imports(
         let faults = w.faults;
         let imports = w.imports;
         match found {
-            Resolution::Refused(number, _) => {
-                w.numbers[faults] = number;
+            Err(cause) => {
+                w.numbers[faults] = u8::from(cause);
                 w.places[faults] = mark;
                 w.faults = faults + 1;
             }
-            Resolution::File(f, _) => {
-                w.targets[imports] = f;
-                w.marks[imports] = mark;
-                w.imports = imports + 1;
-            }
-            Resolution::Folder(f, _) => {
-                w.targets[imports] = UNITS + f;
-                w.marks[imports] = mark;
-                w.imports = imports + 1;
+            Ok(to) => {
+                let target = to.target;
+                match target {
+                    Target::File(f) => {
+                        w.targets[imports] = f;
+                        w.marks[imports] = mark;
+                        w.imports = imports + 1;
+                    }
+                    Target::Folder(f) => {
+                        w.targets[imports] = UNITS + f;
+                        w.marks[imports] = mark;
+                        w.imports = imports + 1;
+                    }
+                }
             }
         }
         i += 1;

@@ -4,8 +4,8 @@ use Rattle.std.proofs.Common.{sym, ◌∙◌}
 use Rattle.bundle.specs.Read.{number_of}
 use Rattle.bundle.specs.Results.{Checked}
 use Rattle.bundle.specs.Results.{Ok, Refused}
-use Rattle.resolution.specs.declared.Resolution.{Resolution}
-use Rattle.resolution.specs.declared.Resolution.TheVariants.{File, Folder, Refused as Refused'}
+use Rattle.resolution.specs.Results.{Resolution}
+use Rattle.resolution.specs.Results.{File, Folder, Refused as Refused'}
 
 -- the place of a refusal; where there is none, the number lent for it stays
 abbrev pub place_told : Checked → ℕ → ℕ

@@ -15,7 +15,7 @@ returns-in_err-read c =
 
 pub resolve_in-requires : goal.resolve_in-requires
 resolve_in-requires c = record {
-  card = c.in_ok-read.ensures.1 (sym c.in_ok-read.ensures.0);
+  card = c.in_ok-read.ensures.1 refl;
   few = (accepted-read c.args.s.now (λ i. omega (arith, c.type_inv.s i)) (decode c.args.s.now) (accepted c.args.s.now (sym c.in_ok-read.ensures.0))).remapping_count_within;
 }
 

@@ -6,17 +6,11 @@ use Rattle.card.specs.Layout.{start_at}
 use Rattle.discovery.specs.Places.{starts_none, starts-one, starts-all}
 use Rattle.discovery.proofs.known.put_places.Goals as goal
 
-pub folder_count-folders-requires : goal.folder_count-folders-requires
-folder_count-folders-requires c = c.requires.0
-
-pub file_count-n-requires : goal.file_count-n-requires
-file_count-n-requires c = c.requires.0
-
 pub loop-i-init : goal.loop-i-init
 loop-i-init c = starts_none _ _ c.requires.2 c.requires.1.1
 
 pub start_of-requires : goal.start_of-requires
-start_of-requires c = (c.requires.0, omega (arith, c.requires.1, c.loop-i-test.true, c.file_count-n.ensures, c.folder_count-folders.ensures.0))
+start_of-requires c = omega (arith, c.requires.1, c.loop-i-test.true, c.file_count-n.ensures, c.folder_count-folders.ensures.0)
 
 pub loop-i-preserved : goal.loop-i-preserved
 loop-i-preserved c = starts-one _ _ c.requires.2 c.requires.1.1 _ _ _ c.loop-i.invariant (omega (arith, c.loop-i-test.true, c.file_count-n.ensures)) (c.start_of.ensures ∙ ap (λ (k : ℕ). start_at c.args.card.now (k + 1 + c.loop-i.i)) c.folder_count-folders.ensures.0)

@@ -6,9 +6,6 @@ use Rattle.card.specs.Layout.{card_size}
 use Rattle.discovery.specs.Places.{fresh}
 use Rattle.driver.proofs.turns.discover_dependencies.Goals as goal
 
-pub read-checked-requires : goal.read-checked-requires
-read-checked-requires c = length-replicate {A = ℕ} card_size 0
-
 pub discover-requires : goal.discover-requires
 discover-requires c = (c.requires, c.read-checked.ensures.1 (c.read-checked.ensures.0 ∙ c.requires), fresh)
 

@@ -33,9 +33,6 @@ uses_of-u-requires c = (omega (arith, (c.file_place-place.ensures _ c.requires.3
 pub begin-first-requires : goal.begin-first-requires
 begin-first-requires c = (c.requires.3.0.long, index-small (decode c.args.s.now) (bytes-roomy c.args.s.now (λ i. omega (arith, c.type_inv.s i)) c.requires.0) c.args.unit c.args.g c.requires.2.0 c.requires.2.1 (file_at c.args.s.now c.file_place-place.result) ((c.file_place-place.ensures _ c.requires.3.1).0 (file_at c.args.s.now c.file_place-place.result) (place-small (decode c.args.s.now) (bytes-roomy c.args.s.now (λ i. omega (arith, c.type_inv.s i)) c.requires.0) c.args.unit c.args.g c.requires.2.0 c.requires.2.1)) _ c.requires.3.0, omega (arith, c.uses_of-u.ensures.count, row_room (decode c.args.s.now) (bytes-roomy c.args.s.now (λ i. omega (arith, c.type_inv.s i)) c.requires.0) c.args.unit c.args.g c.requires.2.0 c.requires.2.1 (file_at c.args.s.now c.file_place-place.result) ((c.file_place-place.ensures _ c.requires.3.1).0 (file_at c.args.s.now c.file_place-place.result) (place-small (decode c.args.s.now) (bytes-roomy c.args.s.now (λ i. omega (arith, c.type_inv.s i)) c.requires.0) c.args.unit c.args.g c.requires.2.0 c.requires.2.1)) _ c.requires.3.0))
 
-pub folder_count-requires : goal.folder_count-requires
-folder_count-requires c = c.requires.1.above.size
-
 pub overflow_add-f : goal.overflow_add-f
 overflow_add-f c = let w = place-small (decode c.args.s.now) (bytes-roomy c.args.s.now (λ i. omega (arith, c.type_inv.s i)) c.requires.0) c.args.unit c.args.g c.requires.2.0 c.requires.2.1 in let r = (bytes-roomy c.args.s.now (λ i. omega (arith, c.type_inv.s i)) c.requires.0).files in search rules
 
