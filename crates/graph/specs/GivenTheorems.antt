@@ -2,12 +2,11 @@
 use Rattle.std.specs.Prelude.{◌≡◌, refl, List, [], ℕ, length, take, drop, replicate}
 use Rattle.std.proofs.Common.{subst, take_at}
 use Rattle.graph.specs.declared.Graph.{Graph}
-use Rattle.graph.specs.declared.Linearized.{Linearized}
 use Rattle.graph.specs.Limits.{unit_limit}
 use Rattle.graph.specs.Linearize.{Out, order, ring, linearize}
 use Rattle.graph.specs.Order.{Ordered, Named, Cyclic, Within}
 use Rattle.graph.specs.OrderTheorems.{Linearizes, linearize-right}
-use Rattle.graph.specs.Given.{deps_of, refusal, ring_met, answer, numbered, linearize_given}
+use Rattle.graph.specs.Given.{Linearized, deps_of, refusal, ring_met, answer, numbered, linearize_given}
 use Rattle.graph.specs.GivenFacts.{within_of, given-accepted, given-refused}
 
 -- the ids of an answer

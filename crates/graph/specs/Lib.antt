@@ -1,8 +1,10 @@
 -- definitions
 pub mod Limits
+pub mod Padded
 pub mod Linearize
 pub mod Order
 pub mod Given
+pub mod Told
 -- theorems to cite
 pub mod OrderTheorems
 pub mod GivenTheorems
