@@ -1,5 +1,5 @@
 -- Where the code finds a unit among those being visited. Assumes nothing.
-use Rattle.std.specs.Prelude.{◌≡◌, refl, Bool, true, false, cond, ◌||◌, List, [], ◌∷◌, ℕ, suc, ◌+◌, ◌<◌, Option, Some, None, length, drop, eqb, ltb, not}
+use Rattle.std.specs.Prelude.{◌≡◌, refl, Bool, true, false, cond, ◌||◌, List, [], ◌∷◌, ℕ, suc, ◌+◌, Option, Some, None, length, drop, eqb, ltb, not}
 use Rattle.std.specs.List.{position_or_len, position}
 use Rattle.std.proofs.Common.{sym, ap, ◌∙◌, arith, one-add, eq-eqb, ne_eqb, lt-ltb, eqb-true}
 use Rattle.std.proofs.Math.Dec.{leb-suc-suc}

@@ -1,13 +1,11 @@
 -- Facts of the tests of a graph given directly. Assumes nothing.
-use Rattle.std.specs.Prelude.{◌≡◌, refl, Bool, true, false, cond, ◌&&◌, ℕ, zero, suc, ◌<◌, ◌≤◌, ◌+◌, ◌-◌, length, take, drop, get_or, set, replicate, eqb, leb, ltb, Option, Some, None}
-use Rattle.std.proofs.Common.{sym, ap, ◌∙◌, ⊎_elim, add-one, arith, drop_of_length-le, length-take, length-drop, drop-cons, take-suc, length-take-le, get_or-take, get_or-drop}
+use Rattle.std.specs.Prelude.{◌≡◌, refl, Bool, true, false, cond, ◌&&◌, ℕ, zero, suc, ◌<◌, ◌≤◌, ◌+◌, length, get_or, eqb, leb, ltb, Some, None}
+use Rattle.std.proofs.Common.{sym, ap, ◌∙◌, ⊎_elim, add-one, arith}
 use Rattle.std.specs.List.{list_all}
 use Rattle.std.proofs.Math.Path.{subst}
 use mathlib.Core.List.Memᴰ
-use mathlib.Core.List.{List, [], ◌∷◌, ◌++◌, Memᴰ}
-use Rattle.std.proofs.Math.Seq.{append_snoc, length-slice, take-length}
-use Rattle.std.proofs.lemmas.List.{set_at}
-use borrow.Author.Tests.{leb-true, ltb-true, eqb-true, eqb-false, lt-ltb, le-ltb, le-leb, lt-leb, eq-eqb, ne_eqb}
+use mathlib.Core.List.{List, [], ◌∷◌, Memᴰ}
+use borrow.Author.Tests.{leb-true, ltb-true, eqb-true, eqb-false, le-leb, lt-leb, eq-eqb, ne_eqb}
 use Rattle.refusal.specs.declared.Cause.{Cause}
 use Rattle.refusal.specs.Numbers.{number_of, cause_of, causes, cause-number}
 use Rattle.graph.specs.declared.Graph.{Graph}
@@ -163,3 +161,6 @@ module _ (g : Graph) where
   pub given-accepted : refusal g ≡ 0 → numbered (linearize (deps_of g) g.units) ≡ linearize_given g
   unfolding linearize_given
   given-accepted e = rw (eq-eqb (refusal g) 0 e)
+
+-- what the code's tests of one unit after another come to
+pub ruleset checks = (below_none, fits_more, fits_not, fits_all, list_fits, knows_more, knows_not, knows_all)

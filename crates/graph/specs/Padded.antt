@@ -1,6 +1,6 @@
 -- Ids at the start of a fixed array, and 0 behind. Assumes nothing.
-use Rattle.std.specs.Prelude.{◌≡◌, ℕ, ◌+◌, ◌-◌, ◌<◌, ◌≤◌, List, [], ◌∷◌, ◌++◌, length, take, drop, set, replicate}
-use Rattle.std.proofs.Common.{arith, sym, ap, ◌∙◌, add-one, take-append-drop, length-take, length-take-le, length-set, drop-cons}
+use Rattle.std.specs.Prelude.{◌≡◌, ℕ, ◌+◌, ◌-◌, ◌<◌, ◌≤◌, List, ◌++◌, length, take, drop, set, replicate}
+use Rattle.std.proofs.Common.{arith, add-one, take-append-drop, length-take, length-take-le, length-set, drop-cons}
 use Rattle.std.proofs.lemmas.List.{drop-set, get_or-replicate}
 use Rattle.graph.specs.Limits.{unit_limit}
 

@@ -1,5 +1,5 @@
 -- The code's state of the walk, as the definition has it. Assumes nothing.
-use Rattle.std.specs.Prelude.{◌≡◌, true, false, Result, Ok, Err, List, ℕ, suc, ◌<◌, ◌≤◌, ◌+◌, ◌-◌, length, get_or}
+use Rattle.std.specs.Prelude.{◌≡◌, false, Result, Ok, Err, List, ℕ, suc, ◌<◌, ◌≤◌, ◌+◌, ◌-◌, length, get_or}
 use Rattle.graph.specs.declared.Graph.{Graph}
 use Rattle.graph.specs.declared.linearization.Search.{Search}
 use Rattle.graph.specs.Limits.{unit_limit, id_limit}

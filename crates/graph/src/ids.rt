@@ -35,7 +35,7 @@ impl Model for Ids {
 
 impl Ids {
     // None.
-    pub fn new() -> Ids
+    pub(crate) fn new() -> Ids
         ensures { result ≡ [] }
     {
         Ids {
@@ -45,7 +45,7 @@ impl Ids {
     }
 
     // Those of l.
-    pub fn of(l: &[u16]) -> Ids
+    pub(crate) fn of(l: &[u16]) -> Ids
         requires { length l.now ≤ unit_limit }
         ensures { result ≡ l.now }
     {
@@ -72,13 +72,13 @@ impl Ids {
     }
 
     // The first place of u, or none.
-    pub fn position(&self, u: u16) -> Option<usize>
+    pub(crate) fn position(&self, u: u16) -> Option<usize>
         ensures { result ≡ position (λ v. v == u) self.now }
     {
         self.as_slice().iter().position(|v| *v == u)
     }
 
-    pub fn push(&mut self, u: u16)
+    pub(crate) fn push(&mut self, u: u16)
         requires { length self.old < unit_limit }
         ensures { self.new ≡ self.old ++ u ∷ [] }
     {
@@ -88,7 +88,7 @@ impl Ids {
 
     // Takes the last off.
     #[tactic(auto, using(crate::specs::Padded::kept_pop, std::proofs::lemmas::Grind::common_steps))]
-    pub fn pop(&mut self)
+    pub(crate) fn pop(&mut self)
         requires { 0 < length self.old }
         ensures { self.new ≡ take (length self.old - 1) self.old }
     {

@@ -1,7 +1,6 @@
 // The import graph of the units and its linked order: the ported parts of driver/mod.rs and driver/linearization.rs.
 #![tactic(auto)]
 
-
 ghost use Rattle.std.specs.Prelude.{◌≡◌};
 ghost use Rattle.graph.specs.declared.Unordered.TheVariants.{Refused};
 

@@ -10,11 +10,11 @@ use crate::{Graph, IDS, Ids, UNITS, Unordered};
 use refusal::Cause;
 
 // The state of the walk: the units that are being visited, oldest first; those that are done, in order; and which are done.
-#[derive(Clone, Copy)]
-pub struct Search {
-    pub visiting: Ids,
-    pub order: Ids,
-    pub visited: [bool; UNITS],
+#[derive(Drop)]
+struct Search {
+    visiting: Ids,
+    order: Ids,
+    visited: [bool; UNITS],
 }
 
 impl Graph {
@@ -59,7 +59,7 @@ fn dfs_linearize(g: Graph, x: &mut Search, u: u16) -> Result<(), Ids>
 }
 
 // What refuses a graph given directly: too much, a list that passes the end of the ids, or an id in a list that is no unit.
-#[tactic(auto, unfolding(crate::specs::Given::refusal, crate::specs::Given::counted), using(crate::specs::GivenFacts::below_none, crate::specs::GivenFacts::fits_more, crate::specs::GivenFacts::fits_not, crate::specs::GivenFacts::fits_all, crate::specs::GivenFacts::list_fits, crate::specs::GivenFacts::knows_more, crate::specs::GivenFacts::knows_not, crate::specs::GivenFacts::knows_all))]
+#[tactic(auto, unfolding(crate::specs::Given::refusal, crate::specs::Given::counted), using(crate::specs::GivenFacts::checks))]
 fn check(g: Graph) -> Result<(), Cause>
     ensures { number_told result ≡ refusal g }
 {

@@ -1,7 +1,7 @@
 -- `linearization::dfs_linearize` walks as the definition does: a step of specs/Steps for each test of the code. Assumes nothing.
-use Rattle.std.proofs.Common.{sym, refl, arith}
+use Rattle.std.proofs.Common.{refl}
 use Rattle.std.proofs.lemmas.Result.{err_from_is_err_and}
-use Rattle.graph.specs.Steps.{met, begin, room, same_turn, done_turn, id_small, call_ready, call_less, after_call, call_ring, order_room, some_visiting, finish}
+use Rattle.graph.specs.Steps.{met, begin, room, same_turn, done_turn, id_small, call_ready, call_less, after_call, call_ring, order_room, finish}
 use Rattle.graph.proofs.linearization.+dfs_linearize.Goals.{then-d-u+then-not-x-from+in_ok-dfs_linearize, else-d-u, else-d-u-via-then-d-u+else-not-x-from, else-d-u-via-else-d-u}
 use Rattle.graph.proofs.linearization.+dfs_linearize.Goals as goal
 
