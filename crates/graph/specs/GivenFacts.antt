@@ -137,7 +137,7 @@ module _ (g : Graph) (e : refusal g ≡ 0) where
         rooms = λ u h. let f = list_fits g u tests.1 h in let k = n.2 in omega arith;
       }
 
-no_zero : (c : Cause) → number_of c ≡ 0 → ⊥
+pub no_zero : (c : Cause) → number_of c ≡ 0 → ⊥
 unfolding cause_of causes
 no_zero c e = let f : None ≡ Some c = sym (ap cause_of e) ∙ cause-number c in cc
 

@@ -18,7 +18,7 @@ pub data Right (deps : ℕ → List ℕ) (r : Linearized) : Type 0 where
   linked : r.number ≡ 0 → Ordered deps (ids_of r) → (Cyclic deps → ⊥) → Right deps r
   closed : r.number ≡ ring_met → Named deps (ids_of r) → Cyclic deps → Right deps r
 
-ids-of-answer : (k : ℕ) (l : List ℕ) → ids_of (answer k l) ≡ l
+pub ids-of-answer : (k : ℕ) (l : List ℕ) → ids_of (answer k l) ≡ l
 ids-of-answer k l = take_at l (drop (length l) (replicate unit_limit 0)) (length l) refl
 
 numbered-right : (deps : ℕ → List ℕ) (x : Out) → Linearizes deps x → Right deps (numbered x)

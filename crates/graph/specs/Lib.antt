@@ -8,6 +8,7 @@ pub mod Told
 -- theorems to cite
 pub mod OrderTheorems
 pub mod GivenTheorems
+pub mod ToldTheorems
 pub mod Cases
 -- laws, for the code and for proofs
 pub mod Facts
