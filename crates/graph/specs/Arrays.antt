@@ -1,36 +1,51 @@
--- Facts of the code's arrays. Assumes nothing.
-use Rattle.std.specs.Prelude.{◌≡◌, refl, Bool, true, false, cond, ◌||◌, List, [], ◌∷◌, ℕ, suc, ◌<◌, ◌≤◌, ◌+◌, length, drop, get_or, eqb, ltb}
-use Rattle.std.proofs.Common.{sym, ◌∙◌, add-one, arith, drop_of_length-le, drop-cons, eq-eqb, ne_eqb, lt-ltb}
+-- Where the code finds a unit among those being visited. Assumes nothing.
+use Rattle.std.specs.Prelude.{◌≡◌, refl, Bool, true, false, cond, ◌||◌, List, [], ◌∷◌, ℕ, suc, ◌+◌, Option, Some, None, length, drop, eqb, ltb, not}
+use Rattle.std.specs.List.{position_or_len, position}
+use Rattle.std.proofs.Common.{sym, ap, ◌∙◌, arith, one-add, eq-eqb, ne_eqb, lt-ltb, eqb-true}
 use Rattle.std.proofs.Math.Dec.{leb-suc-suc}
+use Rattle.std.proofs.lemmas.Bool.{eqb-false}
 use Rattle.graph.specs.Linearize.{memb, from}
-use Rattle.graph.specs.State.{index}
 
-pub index-hit : (u : ℕ) (l : List ℕ) (i : ℕ) → i < length l → get_or l i 0 ≡ u → index u (drop i l) ≡ 0
-unfolding index
-index-hit u l i h e = rw (drop-cons l i 0 h, eq-eqb u (get_or l i 0) (sym e))
+-- the first place of u in l, or l's length
+abbrev place : ℕ → List ℕ → ℕ
+place u l = position_or_len (λ v. eqb v u) l
 
-pub index_miss : (u : ℕ) (l : List ℕ) (i : ℕ) → i < length l → (get_or l i 0 ≡ u → ⊥) → index u (drop i l) ≡ suc (index u (drop (i + 1) l))
-unfolding index
-index_miss u l i h f = rw (add-one i, drop-cons l i 0 h, ne_eqb u (get_or l i 0) (λ e. f (sym e)))
-
-pub index-end : (u : ℕ) (l : List ℕ) (i : ℕ) → length l ≤ i → index u (drop i l) ≡ 0
-unfolding index
-index-end u l i h = rw (drop_of_length-le l h)
-
-pub memb-index : (u : ℕ) (l : List ℕ) → memb u l ≡ ltb (index u l) (length l)
-unfolding memb index
-memb-index u [] = refl
-memb-index u (x ∷ l) = go (eqb u x) (memb-index u l)
+place-cons : (u x : ℕ) (l : List ℕ) → place u (x ∷ l) ≡ cond (eqb u x) 0 (suc (place u l))
+place-cons u x l = go (eqb u x) refl
   where
-    go : (b : Bool) → memb u l ≡ ltb (index u l) (length l) → b || memb u l ≡ ltb (cond b 0 (suc (index u l))) (suc (length l))
+    go : (b : Bool) → eqb u x ≡ b → cond (not (eqb x u)) (1 + place u l) 0 ≡ cond b 0 (suc (place u l))
+    go true e = rw (eq-eqb x u (sym (eqb-true u x e)))
+    go false e = rw (ne_eqb x u (λ q. eqb-false u x e (sym q)), one-add)
+
+memb-place : (u : ℕ) (l : List ℕ) → memb u l ≡ ltb (place u l) (length l)
+unfolding memb
+memb-place u [] = refl
+memb-place u (x ∷ l) = rw place-cons (go (eqb u x) (memb-place u l))
+  where
+    go : (b : Bool) → memb u l ≡ ltb (place u l) (length l) → b || memb u l ≡ ltb (cond b 0 (suc (place u l))) (suc (length l))
     go true ih = sym (lt-ltb 0 (suc (length l)) (omega arith))
-    go false ih = ih ∙ sym (leb-suc-suc (suc (index u l)) (length l))
+    go false ih = ih ∙ sym (leb-suc-suc (suc (place u l)) (length l))
 
-pub from-index : (u : ℕ) (l : List ℕ) → from u l ≡ drop (index u l) l
-unfolding from index
-from-index u [] = refl
-from-index u (x ∷ l) = go (eqb u x) (from-index u l)
+from-place : (u : ℕ) (l : List ℕ) → from u l ≡ drop (place u l) l
+unfolding from
+from-place u [] = refl
+from-place u (x ∷ l) = rw place-cons (go (eqb u x) (from-place u l))
   where
-    go : (b : Bool) → from u l ≡ drop (index u l) l → cond b (x ∷ l) (from u l) ≡ drop (cond b 0 (suc (index u l))) (x ∷ l)
+    go : (b : Bool) → from u l ≡ drop (place u l) l → cond b (x ∷ l) (from u l) ≡ drop (cond b 0 (suc (place u l))) (x ∷ l)
     go true ih = refl
     go false ih = ih
+
+-- `position` answers the place of a member, from which on the list is
+pub member-position : (u p : ℕ) (l : List ℕ) → position (λ v. eqb v u) l ≡ Some p → (memb u l ≡ true) × (from u l ≡ drop p l)
+member-position u p l e = go (ltb (place u l) (length l)) (memb-place u l) e
+  where
+    go : (b : Bool) → memb u l ≡ b → cond b (Some (place u l)) None ≡ Some p → (memb u l ≡ true) × (from u l ≡ drop p l)
+    go true m q = let k : place u l ≡ p = cc in (m, from-place u l ∙ ap (λ n. drop n l) k)
+    go false m q = absurd (cc)
+
+pub no_member-position : (u : ℕ) (l : List ℕ) → ◌≡◌ {A = Option ℕ} (position (λ v. eqb v u) l) None → memb u l ≡ false
+no_member-position u l e = go (ltb (place u l) (length l)) (memb-place u l) e
+  where
+    go : (b : Bool) → memb u l ≡ b → ◌≡◌ {A = Option ℕ} (cond b (Some (place u l)) None) None → memb u l ≡ false
+    go true m q = absurd (cc)
+    go false m q = m

@@ -1,8 +1,8 @@
 -- A graph given directly, and what is answered to it: 3, 1, 29, the ring (26) or the linked order, in the specification's numbers, all at place 0. Assumes nothing.
-use Rattle.std.specs.Prelude.{Bool, true, cond, ◌&&◌, List, [], ◌∷◌, ◌++◌, ℕ, zero, suc, ◌+◌, length, take, drop, get_or, replicate, eqb, leb, ltb}
+use Rattle.std.specs.Prelude.{Bool, true, cond, ◌&&◌, List, [], ◌∷◌, ℕ, zero, suc, ◌+◌, length, take, drop, get_or, eqb, leb, ltb}
 use Rattle.graph.specs.declared.Graph.{Graph}
-use Rattle.graph.specs.declared.Linearized.{Linearized}
 use Rattle.graph.specs.Limits.{unit_limit, id_limit}
+use Rattle.graph.specs.Padded.{padded}
 use Rattle.graph.specs.Linearize.{Out, order, ring, linearize}
 
 -- the specification's numbers
@@ -54,9 +54,15 @@ known g = below g.units (knows g)
 unfoldable pub refusal : Graph → ℕ
 refusal g = cond (counted g) (cond (fitting g) (cond (known g) 0 unknown_unit) cut) too_many
 
+-- what is answered, in the specification's numbers: 0 and the linked order, 26 and a ring, or the number that refuses the graph and no id. The ids stand at the start, `count` of them; the others are 0. The place of every number is 0.
+pub record Linearized : Type 0 where
+  pub number : ℕ
+  pub ids : List ℕ
+  pub count : ℕ
+
 -- a number and some ids: these at the start of cleared places, and how many they are
 abbrev pub answer : ℕ → List ℕ → Linearized
-answer k l = record { number = k; ids = l ++ drop (length l) (replicate unit_limit 0); count = length l }
+answer k l = record { number = k; ids = padded l; count = length l }
 
 -- the order has the number 0
 abbrev pub numbered : Out → Linearized

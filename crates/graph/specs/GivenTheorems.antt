@@ -2,12 +2,11 @@
 use Rattle.std.specs.Prelude.{◌≡◌, refl, List, [], ℕ, length, take, drop, replicate}
 use Rattle.std.proofs.Common.{subst, take_at}
 use Rattle.graph.specs.declared.Graph.{Graph}
-use Rattle.graph.specs.declared.Linearized.{Linearized}
 use Rattle.graph.specs.Limits.{unit_limit}
 use Rattle.graph.specs.Linearize.{Out, order, ring, linearize}
 use Rattle.graph.specs.Order.{Ordered, Named, Cyclic, Within}
 use Rattle.graph.specs.OrderTheorems.{Linearizes, linearize-right}
-use Rattle.graph.specs.Given.{deps_of, refusal, ring_met, answer, numbered, linearize_given}
+use Rattle.graph.specs.Given.{Linearized, deps_of, refusal, ring_met, answer, numbered, linearize_given}
 use Rattle.graph.specs.GivenFacts.{within_of, given-accepted, given-refused}
 
 -- the ids of an answer
@@ -19,7 +18,7 @@ pub data Right (deps : ℕ → List ℕ) (r : Linearized) : Type 0 where
   linked : r.number ≡ 0 → Ordered deps (ids_of r) → (Cyclic deps → ⊥) → Right deps r
   closed : r.number ≡ ring_met → Named deps (ids_of r) → Cyclic deps → Right deps r
 
-ids-of-answer : (k : ℕ) (l : List ℕ) → ids_of (answer k l) ≡ l
+pub ids-of-answer : (k : ℕ) (l : List ℕ) → ids_of (answer k l) ≡ l
 ids-of-answer k l = take_at l (drop (length l) (replicate unit_limit 0)) (length l) refl
 
 numbered-right : (deps : ℕ → List ℕ) (x : Out) → Linearizes deps x → Right deps (numbered x)

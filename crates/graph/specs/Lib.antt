@@ -1,11 +1,14 @@
 -- definitions
 pub mod Limits
+pub mod Padded
 pub mod Linearize
 pub mod Order
 pub mod Given
+pub mod Told
 -- theorems to cite
 pub mod OrderTheorems
 pub mod GivenTheorems
+pub mod ToldTheorems
 pub mod Cases
 -- laws, for the code and for proofs
 pub mod Facts

@@ -1,9 +1,10 @@
 -- What each step of the code's walk makes of its state. Assumes nothing.
-use Rattle.std.specs.Prelude.{◌≡◌, refl, Bool, true, false, ◌||◌, ℕ, zero, suc, ◌<◌, ◌≤◌, ◌+◌, ◌-◌, length, take, drop, get_or, set, replicate, eqb, ltb}
-use Rattle.std.proofs.Common.{sym, subst, ◌∙◌, ⊎_elim, add-one, arith, length-take, length-drop, length-set, length-append, drop_of_length-le, drop-cons, take-suc-set, take-take, length-take-le, get_or-take, get_or-drop, get_or-set_same, get_or-set_other, eq-eqb, ne_eqb, lt-ltb, le-ltb, eqb-true}
+use Rattle.std.specs.Prelude.{◌≡◌, refl, Bool, true, false, ◌||◌, ℕ, zero, suc, ◌<◌, ◌≤◌, ◌+◌, ◌-◌, length, take, drop, get_or, set, replicate, eqb, Option, Some, None}
+use Rattle.std.specs.List.{position}
+use Rattle.std.proofs.Common.{sym, subst, ◌∙◌, ⊎_elim, add-one, arith, length-set, length-append, drop_of_length-le, drop-cons, take_at, length-drop, get_or-set_same, get_or-set_other, eq-eqb, ne_eqb, eqb-true}
 use Rattle.std.proofs.Math.Path.{ap}
+use Rattle.std.proofs.Math.Seq.{take-length}
 use mathlib.Core.List.{List, [], ◌∷◌, ◌++◌, Memᴰ}
-use Rattle.std.proofs.lemmas.List.{take-set-le}
 use Rattle.std.proofs.lemmas.Bool.{eqb-false}
 use Rattle.graph.specs.declared.Graph.{Graph}
 use Rattle.graph.specs.declared.linearization.Search.{Search}
@@ -12,9 +13,9 @@ use Rattle.graph.specs.Linearize.{Out, order, ring, memb, from, and_then, each, 
 use Rattle.graph.specs.Order.{Edge, Reaches, here, step, none}
 use Rattle.graph.specs.Facts.{memb_false, mem_snoc, once_snoc, pigeonhole, path_join}
 use Rattle.graph.specs.OrderTheorems.{Done, Apart, On, Post, on-push, trail_snoc, visit-right, done-once, done-reach, start}
-use Rattle.graph.specs.Given.{deps_of, answer, numbered}
-use Rattle.graph.specs.State.{index, visiting_of, order_of, out_of, Sound, Fine, Ready, Visited}
-use Rattle.graph.specs.Arrays.{memb-index, from-index}
+use Rattle.graph.specs.Given.{deps_of}
+use Rattle.graph.specs.State.{Sound, Fine, Ready, visit_of, Walked}
+use Rattle.graph.specs.Arrays.{member-position, no_member-position}
 
 -- the definition, a case at a time
 module _ (deps : ℕ → List ℕ) (k : ℕ) (s o : List ℕ) (u : ℕ) where
@@ -70,259 +71,202 @@ path-below : (deps : ℕ → List ℕ) (n : ℕ) → ((u d : ℕ) → u < n → 
 path-below deps n f here h = h
 path-below deps n f (step {u} {v} e p) h = path-below deps n f p (f u v h e.listed)
 
--- w with u on its stack
-abbrev pub pushed : Search → ℕ → Search
-pushed w u = record { visited = w.visited; visiting = set w.visiting w.depth u; depth = w.depth + 1; order = w.order; count = w.count; ring = w.ring; ok = w.ok }
+-- x with u off its stack and done
+abbrev pub popped : Search → ℕ → Search
+popped x u = record { visited = set x.visited u true; visiting = take (length x.visiting - 1) x.visiting; order = x.order ++ (u ∷ []) }
 
--- x with u done, at the depth d
-abbrev pub popped : Search → ℕ → ℕ → Search
-popped x u d = record { visited = set x.visited u true; visiting = x.visiting; depth = d; order = set x.order x.count u; count = x.count + 1; ring = x.ring; ok = x.ok }
+-- the units that u lists, where w's stack has u on it
+abbrev pub each_of : Graph → Search → ℕ → List ℕ → List ℕ → Out
+each_of g w u o l = each (visit (deps_of g) (suc g.units - length (w.visiting ++ (u ∷ []))) (w.visiting ++ (u ∷ []))) u o l
 
--- w with a ring from p on
-abbrev pub ringed : Search → ℕ → Search
-ringed w p = record { visited = w.visited; visiting = w.visiting; depth = w.depth; order = w.order; count = w.count; ring = p; ok = false }
-
--- the loop's invariant: x is the walk after i of the units that u lists, and x₀ as the loop began
-pub record Turn (g : Graph) (u : ℕ) (x₀ x : Search) (i : ℕ) : Type 0 where
+-- the loop's invariant: x is the walk after i of the units that u lists
+pub record Turn (g : Graph) (w : Search) (u : ℕ) (x : Search) (i : ℕ) : Type 0 where
   pub fine : Fine x
-  pub depth : x.depth ≡ x₀.depth
-  pub stack : visiting_of x ≡ visiting_of x₀
-  pub done : Done (deps_of g) (order_of x)
-  pub apart : Apart (deps_of g) (visiting_of x₀) (order_of x)
+  pub stack : x.visiting ≡ w.visiting ++ (u ∷ [])
+  pub done : Done (deps_of g) x.order
+  pub apart : Apart (deps_of g) (w.visiting ++ (u ∷ [])) x.order
   pub upto : i ≤ length (deps_of g u)
-  pub rest : each (visit (deps_of g) (suc g.units - x₀.depth) (visiting_of x₀)) u (order_of x₀) (deps_of g u)
-      ≡ each (visit (deps_of g) (suc g.units - x₀.depth) (visiting_of x₀)) u (order_of x) (drop i (deps_of g u))
+  pub rest : each_of g w u w.order (deps_of g u) ≡ each_of g w u x.order (drop i (deps_of g u))
 
 module _ (g : Graph) (w : Search) (u : ℕ) (R : Ready g w u) where
-  stack-length : length (visiting_of w) ≡ w.depth
-  stack-length = let F = R.fine in length-take-le w.depth w.visiting (omega arith)
-
-  pub deep : w.depth ≤ g.units
-  deep = omega (arith, stack-length, pigeonhole g.units (visiting_of w) R.on.once R.on.below)
+  pub deep : length w.visiting ≤ g.units
+  deep = pigeonhole g.units w.visiting R.on.once R.on.below
 
   pub u-small : u < unit_limit
   u-small = let S = R.sound in let b = R.below in omega arith
 
-  pub fuel : suc g.units - w.depth ≡ suc (g.units - w.depth)
+  fuel : suc g.units - length w.visiting ≡ suc (g.units - length w.visiting)
   fuel = let d = deep in omega arith
 
-  pub fuel' : suc g.units - (w.depth + 1) ≡ g.units - w.depth
-  fuel' = let d = deep in omega arith
+  -- where `position` finds u on the stack
+  pub met : (p : ℕ) → Some p ≡ position (λ v. eqb v u) w.visiting → (s r : List ℕ) → s ≡ w.visiting → r ≡ take (length s - p) (drop p s) → visit_of g w u ≡ ring r
+  met p at s r is e =
+      let m = member-position u p w.visiting (sym at) in
+      let all : take (length s - p) (drop p s) ≡ drop p s = rw (← length-drop p s) (take-length (drop p s)) in
+      rw fuel (visit-ring _ _ _ _ _ R.new m.0 ∙ ap ring (m.1 ∙ sym (e ∙ (all ∙ ap (λ (l : List ℕ). drop p l) is))))
 
-  module _ (p : ℕ) (at : p ≡ index u (visiting_of w)) where
-    on_stack : memb u (visiting_of w) ≡ ltb p w.depth
-    on_stack = memb-index u (visiting_of w) ∙ rw (at, stack-length)
+  module _ (off : ◌≡◌ {A = Option ℕ} None (position (λ v. eqb v u) w.visiting)) where
+    not_on : memb u w.visiting ≡ false
+    not_on = no_member-position u w.visiting (sym off)
 
-    pub met : p < w.depth → Visited g w u (ringed w p)
-    met h =
+    pushed_length : length (w.visiting ++ (u ∷ [])) ≡ length w.visiting + 1
+    pushed_length = length-append w.visiting (u ∷ [])
+
+    on' : On (deps_of g) g.units R.sound.within (w.visiting ++ (u ∷ [])) (g.units - length w.visiting)
+    on' = on-push (deps_of g) g.units R.sound.within (rw fuel at R.on) (memb_false u w.visiting not_on) R.below R.reach
+
+    off-walk : length w.visiting < g.units
+    off-walk = omega (arith, pushed_length, pigeonhole g.units (w.visiting ++ (u ∷ [])) on'.once on'.below)
+
+    pub room : length w.visiting < unit_limit
+    room = let S = R.sound in let h = off-walk in omega arith
+
+    -- the fuel of what u lists
+    fuel' : suc g.units - length (w.visiting ++ (u ∷ [])) ≡ g.units - length w.visiting
+    fuel' = let d = deep in omega (arith, pushed_length)
+
+    fuel'' : suc g.units - length (w.visiting ++ (u ∷ [])) ≡ suc (g.units - length (w.visiting ++ (u ∷ [])))
+    fuel'' = let h = off-walk in omega (arith, pushed_length)
+
+    pub begin : (s : List ℕ) → s ≡ w.visiting ++ (u ∷ []) → Turn g w u (record { visited = w.visited; visiting = s; order = w.order }) 0
+    begin s e =
         record {
-          answer = rw (fuel, at) (sym (visit-ring _ _ _ _ _ R.new (on_stack ∙ lt-ltb p w.depth h) ∙ ap ring (from-index u (visiting_of w))));
-          fine = λ q. let z : ◌≡◌ {A = ℕ} 0 1 = cc in absurd (omega arith);
-          depth = λ q. refl;
-          stack = λ q. refl;
-          closed = λ q. record { long = R.fine.visiting_long; deep = R.fine.deep; starts = omega arith };
+          fine = record { long = R.fine.long; flags = R.fine.flags };
+          stack = e;
+          done = R.done;
+          apart = λ y m m'. ⊎_elim (λ k. R.apart y k m') (λ q. memb_false u w.order R.new (mathlib.Core.List.Memᴰ.cast (sym q) m')) (mem_snoc w.visiting m);
+          upto = omega arith;
+          rest = refl;
         }
 
-    module _ (off : w.depth ≤ p) where
-      not_on : memb u (visiting_of w) ≡ false
-      not_on = on_stack ∙ le-ltb p w.depth off
+    -- the definition at w, by the walk of the units that u lists
+    opened : visit_of g w u
+        ≡ and_then (each_of g w u w.order (deps_of g u)) (λ o'. order (o' ++ (u ∷ [])))
+    opened = rw (fuel, fuel') (visit-more _ _ _ _ _ R.new not_on)
 
-      on' : On (deps_of g) g.units R.sound.within (visiting_of w ++ (u ∷ [])) (g.units - w.depth)
-      on' = on-push (deps_of g) g.units R.sound.within (rw fuel at R.on) (memb_false u (visiting_of w) not_on) R.below R.reach
+    -- n is u as an index, and l what the code reads as its list
+    module _ (n : ℕ) (l : List ℕ) (index : n ≡ u) (list : l ≡ deps_of g n) where
+      listed : l ≡ deps_of g u
+      listed = rw index at list
 
-      off-walk : w.depth < g.units
-      off-walk =
-          let q = stack-length in
-          omega (arith, length-append (visiting_of w) (u ∷ []), pigeonhole g.units (visiting_of w ++ (u ∷ [])) on'.once on'.below)
-
-      pub room : w.depth < unit_limit
-      room = let S = R.sound in let h = off-walk in omega arith
-
-      fuel'' : suc g.units - (w.depth + 1) ≡ suc (g.units - (w.depth + 1))
-      fuel'' = let h = off-walk in omega arith
-
-      stack' : visiting_of (pushed w u) ≡ visiting_of w ++ (u ∷ [])
-      stack' = rw add-one (take-suc-set w.visiting w.depth u (let r = room in let F = R.fine in omega arith))
-
-      pub begin : Turn g u (pushed w u) (pushed w u) 0
-      begin =
-          record {
-            fine = record {
-              visited_long = R.fine.visited_long;
-              visiting_long = simp length-set R.fine.visiting_long;
-              order_long = R.fine.order_long;
-              ok = R.fine.ok;
-              deep = let r = room in omega arith;
-              full = R.fine.full;
-              flags = R.fine.flags;
-            };
-            depth = refl;
-            stack = refl;
-            done = R.done;
-            apart = rw stack' (λ y m m'. ⊎_elim (λ k. R.apart y k m') (λ q. memb_false u (order_of w) R.new (mathlib.Core.List.Memᴰ.cast (sym q) m')) (mem_snoc (visiting_of w) m));
-            upto = omega arith;
-            rest = refl;
-          }
-
-      deps-length : length (deps_of g u) ≡ get_or g.len u 0
-      deps-length = simp (length-take, length-drop) (omega (arith, R.sound.rooms u R.below, R.sound.ids_long))
-
-      -- the definition at w, by the walk of the units that u lists
-      opened : visit (deps_of g) (suc g.units - w.depth) (visiting_of w) (order_of w) u
-          ≡ and_then (each (visit (deps_of g) (suc g.units - (w.depth + 1)) (visiting_of (pushed w u))) u (order_of w) (deps_of g u)) (λ o'. order (o' ++ (u ∷ [])))
-      opened = rw (fuel, fuel', stack') (visit-more _ _ _ _ _ R.new not_on)
-
-      module _ (x : Search) (i : ℕ) (T : Turn g u (pushed w u) x i) where
-        module _ (more : i < get_or g.len u 0) where
-          -- the unit that is listed at i
-          at_i : get_or (deps_of g u) i 0 ≡ get_or g.ids (get_or g.start u 0 + i) 0
-          at_i = rw (get_or-take, get_or-drop)
-
+      module _ (x : Search) (i : ℕ) (T : Turn g w u x i) where
+        module _ (more : i < length l) where
           within : i < length (deps_of g u)
-          within = omega (arith, deps-length)
+          within = rw listed at more
 
-          pub same_turn : get_or g.ids (get_or g.start u 0 + i) 0 ≡ u → Turn g u (pushed w u) x (i + 1)
+          pub same_turn : get_or l i 0 ≡ u → Turn g w u x (i + 1)
           same_turn e =
               record {
                 fine = T.fine;
-                depth = T.depth;
                 stack = T.stack;
                 done = T.done;
                 apart = T.apart;
                 upto = let h = within in omega arith;
-                rest = T.rest ∙ each-skip _ u (order_of x) (deps_of g u) i within (at_i ∙ e);
+                rest = T.rest ∙ each-skip _ u x.order (deps_of g u) i within (rw listed at e);
               }
 
-          module _ (d : ℕ) (is : d ≡ get_or g.ids (get_or g.start u 0 + i) 0) (ne : d ≡ u → ⊥) where
+          module _ (d : ℕ) (is : d ≡ get_or l i 0) (ne : d ≡ u → ⊥) where
+            is' : d ≡ get_or (deps_of g u) i 0
+            is' = rw listed at is
+
             edge : Edge (deps_of g) u d
-            edge = record { other = ne; listed = mathlib.Core.List.Memᴰ.cast (is ∙ sym at_i) (mem_get_d (deps_of g u) i within) }
+            edge = record { other = ne; listed = mathlib.Core.List.Memᴰ.cast is' (mem_get_d (deps_of g u) i within) }
 
             d-below : d < g.units
             d-below = R.sound.within.lists u d R.below edge.listed
 
-            pub id-small : d < unit_limit
-            id-small = let S = R.sound in let h = d-below in omega arith
+            pub id_small : d < unit_limit
+            id_small = let S = R.sound in let h = d-below in omega arith
 
             -- the walk of the list, from what it makes of d
-            passed : (z : Out) → visit (deps_of g) (suc g.units - (w.depth + 1)) (visiting_of (pushed w u)) (order_of x) d ≡ z
-                → each (visit (deps_of g) (suc g.units - (w.depth + 1)) (visiting_of (pushed w u))) u (order_of w) (deps_of g u)
-                ≡ and_then z (λ o'. each (visit (deps_of g) (suc g.units - (w.depth + 1)) (visiting_of (pushed w u))) u o' (drop (i + 1) (deps_of g u)))
-            passed z res =
-                let v = visit (deps_of g) (suc g.units - (w.depth + 1)) (visiting_of (pushed w u)) in
-                let at-d : get_or (deps_of g u) i 0 ≡ d = at_i ∙ sym is in
-                T.rest ∙ each_take v u (order_of x) (deps_of g u) i within (λ q. ne (sym at-d ∙ q)) ∙ rw (at-d, res)
+            passed : (z : Out) → visit (deps_of g) (suc g.units - length (w.visiting ++ (u ∷ []))) (w.visiting ++ (u ∷ [])) x.order d ≡ z
+                → each_of g w u w.order (deps_of g u) ≡ and_then z (λ o'. each_of g w u o' (drop (i + 1) (deps_of g u)))
+            passed z res = T.rest ∙ each_take _ u x.order (deps_of g u) i within (λ q. ne (is' ∙ q)) ∙ rw (← is', res)
 
-            flag_d : memb d (order_of x) ≡ get_or x.visited d false
-            flag_d = sym (T.fine.flags d id-small)
+            flag_d : memb d x.order ≡ get_or x.visited d false
+            flag_d = sym (T.fine.flags d id_small)
 
-            pub done-turn : get_or x.visited d false ≡ true → Turn g u (pushed w u) x (i + 1)
-            done-turn e =
+            pub done_turn : get_or x.visited d false ≡ true → Turn g w u x (i + 1)
+            done_turn e =
                 record {
                   fine = T.fine;
-                  depth = T.depth;
                   stack = T.stack;
                   done = T.done;
                   apart = T.apart;
                   upto = let h = within in omega arith;
-                  rest = passed (order (order_of x)) (rw fuel'' (visit-done _ _ _ _ _ (flag_d ∙ e)));
+                  rest = passed (order x.order) (rw fuel'' (visit-done _ _ _ _ _ (flag_d ∙ e)));
                 }
 
-            pub call-less : g.units - x.depth < g.units - w.depth
-            call-less = let h = off-walk in omega (arith, T.depth)
+            pub call_less : g.units - length x.visiting < g.units - length w.visiting
+            call_less = let h = off-walk in omega (arith, pushed_length, ap (λ (k : List ℕ). length k) T.stack)
 
             module _ (new : get_or x.visited d false ≡ false) where
-              pub call-ready : Ready g x d
-              call-ready =
+              pub call_ready : Ready g x d
+              call_ready =
                   record {
                     sound = R.sound;
                     fine = T.fine;
-                    on = rw (T.stack, stack', T.depth, fuel') on';
+                    on = rw (T.stack, fuel') on';
                     new = flag_d ∙ new;
                     done = T.done;
                     apart = rw T.stack T.apart;
-                    trail = rw (T.stack, stack') (trail_snoc (deps_of g) (visiting_of w) R.trail edge);
+                    trail = rw T.stack (trail_snoc (deps_of g) w.visiting R.trail edge);
                     below = d-below;
                     reach = path_join R.reach (step edge here);
                   }
 
-              module _ (r : Search) (W : Visited g x d r) where
-                came : (z : Out) → out_of r ≡ z → each (visit (deps_of g) (suc g.units - (w.depth + 1)) (visiting_of (pushed w u))) u (order_of w) (deps_of g u)
-                    ≡ and_then z (λ o'. each (visit (deps_of g) (suc g.units - (w.depth + 1)) (visiting_of (pushed w u))) u o' (drop (i + 1) (deps_of g u)))
-                came z e = passed z (rw (T.stack, T.depth) at (sym W.answer ∙ e))
+              came : (z : Out) → visit_of g x d ≡ z → each_of g w u w.order (deps_of g u) ≡ and_then z (λ o'. each_of g w u o' (drop (i + 1) (deps_of g u)))
+              came z e = passed z (rw T.stack at e)
 
-                pub after_call : r.ok ≡ true → Turn g u (pushed w u) r (i + 1)
-                unfolding call-ready
-                after_call ok =
-                    let C = call-ready in
-                    let Q = visit-right (deps_of g) g.units R.sound.within (suc g.units - x.depth) (visiting_of x) (order_of x) d C.on C.done C.apart C.trail C.below C.reach in
-                    let out : out_of r ≡ order (order_of r) = rw ok in
-                    let P : Post (deps_of g) (visiting_of x) (order_of x) (λ o'. Memᴰ d o') (order (order_of r)) = rw (← W.answer, out) at Q in
-                    record {
-                      fine = W.fine ok;
-                      depth = W.depth ok ∙ T.depth;
-                      stack = W.stack ok ∙ T.stack;
-                      done = P.0.done;
-                      apart = rw T.stack at P.0.apart;
-                      upto = let h = within in omega arith;
-                      rest = came (order (order_of r)) out;
-                    }
+              pub after_call : (y : Search) → Walked g x d y → Turn g w u y (i + 1)
+              unfolding call_ready
+              after_call y W =
+                  let C = call_ready in
+                  let Q = visit-right (deps_of g) g.units R.sound.within (suc g.units - length x.visiting) x.visiting x.order d C.on C.done C.apart C.trail C.below C.reach in
+                  let P : Post (deps_of g) x.visiting x.order (λ o'. Memᴰ d o') (order y.order) = rw W.answer at Q in
+                  record {
+                    fine = W.fine;
+                    stack = W.stack ∙ T.stack;
+                    done = P.0.done;
+                    apart = rw T.stack at P.0.apart;
+                    upto = let h = within in omega arith;
+                    rest = came (order y.order) W.answer;
+                  }
 
-                pub call-ring : r.ok ≡ false → Visited g w u r
-                call-ring ok =
-                    let out : out_of r ≡ ring (drop r.ring (visiting_of r)) = rw ok in
-                    record {
-                      answer = out ∙ sym (opened ∙ ap (λ (z : Out). and_then z (λ o'. order (o' ++ (u ∷ [])))) (came _ out));
-                      fine = λ q. let z : ◌≡◌ {A = ℕ} 0 1 = cc in absurd (omega arith);
-                      depth = λ q. let z : ◌≡◌ {A = ℕ} 0 1 = cc in absurd (omega arith);
-                      stack = λ q. let z : ◌≡◌ {A = ℕ} 0 1 = cc in absurd (omega arith);
-                      closed = W.closed;
-                    }
+              pub call_ring : (r : List ℕ) → visit_of g x d ≡ ring r → visit_of g w u ≡ ring r
+              call_ring r e = opened ∙ ap (λ (z : Out). and_then z (λ o'. order (o' ++ (u ∷ [])))) (came (ring r) e)
 
-        fresh : Memᴰ u (order_of x) → ⊥
-        fresh m = T.apart u (rw stack' (mathlib.Core.List.Memᴰ.append_right (visiting_of w) (mathlib.Core.List.Memᴰ.head refl))) m
+        fresh : Memᴰ u x.order → ⊥
+        fresh m = T.apart u (mathlib.Core.List.Memᴰ.append_right w.visiting (mathlib.Core.List.Memᴰ.head refl)) m
 
-        order-length : length (order_of x) ≡ x.count
-        order-length = let F = T.fine in length-take-le x.count x.order (omega arith)
+        pub some_visiting : 0 < length x.visiting
+        some_visiting = omega (arith, pushed_length, ap (λ (k : List ℕ). length k) T.stack)
 
-        pub count_room : x.count < unit_limit
-        count_room =
+        pub order_room : length x.order < unit_limit
+        order_room =
             let S = R.sound in
             omega (
               arith,
-              order-length,
-              length-append (order_of x) (u ∷ []),
-              pigeonhole g.units (order_of x ++ (u ∷ [])) (once_snoc (done-once (deps_of g) T.done) fresh)
-                  (λ y m. ⊎_elim (λ k. path-below (deps_of g) g.units R.sound.within.lists (done-reach (deps_of g) T.done y k) R.sound.within.some) (λ q. subst (λ (z : ℕ). z < g.units) (sym q) R.below) (mem_snoc (order_of x) m)),
+              length-append x.order (u ∷ []),
+              pigeonhole g.units (x.order ++ (u ∷ [])) (once_snoc (done-once (deps_of g) T.done) fresh)
+                  (λ y m. ⊎_elim (λ k. path-below (deps_of g) g.units R.sound.within.lists (done-reach (deps_of g) T.done y k) R.sound.within.some) (λ q. subst (λ (z : ℕ). z < g.units) (sym q) R.below) (mem_snoc x.order m)),
             )
 
-        order' : take (x.count + 1) (set x.order x.count u) ≡ order_of x ++ (u ∷ [])
-        order' = rw add-one (take-suc-set x.order x.count u (let r = count_room in let F = T.fine in omega arith))
-
-        pub finish : get_or g.len u 0 ≤ i → Visited g w u (popped x u w.depth)
+        pub finish : length l ≤ i → Walked g w u (popped x u)
         finish all =
             record {
-              answer = rw (T.fine.ok, order') (sym (opened ∙ ap (λ (z : Out). and_then z (λ o'. order (o' ++ (u ∷ [])))) (T.rest ∙ each-end _ u (order_of x) (deps_of g u) i (omega (arith, deps-length)))));
-              fine = λ q. record {
-                visited_long = simp length-set T.fine.visited_long;
-                visiting_long = T.fine.visiting_long;
-                order_long = simp length-set T.fine.order_long;
-                ok = T.fine.ok;
-                deep = R.fine.deep;
-                full = let r = count_room in omega arith;
-                flags = λ y h. rw (order', memb_snoc) (flag y h (eqb y u) refl);
+              answer = opened ∙ ap (λ (z : Out). and_then z (λ o'. order (o' ++ (u ∷ [])))) (T.rest ∙ each-end _ u x.order (deps_of g u) i (rw listed at all));
+              fine = record {
+                long = simp length-set T.fine.long;
+                flags = λ y h. rw memb_snoc (flag y h (eqb y u) refl);
               };
-              depth = λ q. refl;
-              stack = λ q.
-                  let e : take (w.depth + 1) x.visiting ≡ take (w.depth + 1) (set w.visiting w.depth u) = rw T.depth at T.stack in
-                  sym (take-take w.depth (w.depth + 1) x.visiting (omega arith)) ∙ ap (λ (l : List ℕ). take w.depth l) e
-                  ∙ take-take w.depth (w.depth + 1) (set w.visiting w.depth u) (omega arith) ∙ take-set-le w.depth w.visiting w.depth u (omega arith);
-              closed = λ q. let o = T.fine.ok in let z : ◌≡◌ {A = ℕ} 0 1 = cc in absurd (omega arith);
+              stack = rw (T.stack, pushed_length) (take_at w.visiting (u ∷ []) (length w.visiting + 1 - 1) (omega arith));
             }
           where
-            flag : (y : ℕ) → y < unit_limit → (b : Bool) → eqb y u ≡ b → get_or (set x.visited u true) y false ≡ memb y (order_of x) || b
+            flag : (y : ℕ) → y < unit_limit → (b : Bool) → eqb y u ≡ b → get_or (set x.visited u true) y false ≡ memb y x.order || b
             flag y h true e =
-                rw (eqb-true y u e) (get_or-set_same x.visited u true false (let F = T.fine in let b = u-small in omega arith) ∙ sym (or_true (memb u (order_of x))))
-            flag y h false e = get_or-set_other x.visited u y true false (eqb-false y u e) ∙ T.fine.flags y h ∙ sym (or_false (memb y (order_of x)))
+                rw (eqb-true y u e) (get_or-set_same x.visited u true false (let F = T.fine in let b = u-small in omega arith) ∙ sym (or_true (memb u x.order)))
+            flag y h false e = get_or-set_other x.visited u y true false (eqb-false y u e) ∙ T.fine.flags y h ∙ sym (or_false (memb y x.order))
 
 get_d_replicate : (n x : ℕ) → get_or (replicate n false) x false ≡ false
 get_d_replicate zero x = refl
@@ -331,14 +275,14 @@ get_d_replicate (suc n) (suc x) = get_d_replicate n x
 
 -- the walk as it begins
 abbrev pub fresh_walk : Search
-fresh_walk = record { visited = replicate unit_limit false; visiting = replicate unit_limit 0; depth = 0; order = replicate unit_limit 0; count = 0; ring = 0; ok = true }
+fresh_walk = record { visited = replicate unit_limit false; visiting = []; order = [] }
 
 pub ready : (g : Graph) → Sound g → Ready g fresh_walk 0
 unfolding memb
 ready g S =
     record {
       sound = S;
-      fine = record { visited_long = refl; visiting_long = refl; order_long = refl; ok = refl; deep = omega arith; full = omega arith; flags = λ x h. get_d_replicate unit_limit x };
+      fine = record { long = refl; flags = λ x h. get_d_replicate unit_limit x };
       on = record { once = none; below = λ x m. absurd (mathlib.Core.List.Memᴰ.not-nil m); reach = λ x m. absurd (mathlib.Core.List.Memᴰ.not-nil m); left = omega arith };
       new = refl;
       done = start;
@@ -348,18 +292,7 @@ ready g S =
       reach = here;
     }
 
--- the answer of the walk from unit 0
-module _ (g : Graph) (r : Search) (W : Visited g fresh_walk 0 r) where
-  is-out : out_of r ≡ linearize (deps_of g) g.units
-  unfolding linearize
-  is-out = W.answer ∙ ap (λ (k : ℕ). visit (deps_of g) k [] [] 0) (omega arith)
-
-  pub told-order : r.ok ≡ true → answer 0 (order_of r) ≡ numbered (linearize (deps_of g) g.units)
-  told-order ok =
-      let out : out_of r ≡ order (order_of r) = rw ok in
-      ap numbered (sym out ∙ is-out)
-
-  pub told-ring : r.ok ≡ false → answer 26 (drop r.ring (visiting_of r)) ≡ numbered (linearize (deps_of g) g.units)
-  told-ring ok =
-      let out : out_of r ≡ ring (drop r.ring (visiting_of r)) = rw ok in
-      ap numbered (sym out ∙ is-out)
+-- the definition's walk from unit 0, nothing visited or done
+pub begun : (g : Graph) (s o : List ℕ) → s ≡ [] → o ≡ [] → linearize (deps_of g) g.units ≡ visit (deps_of g) (suc g.units - length s) s o 0
+unfolding linearize
+begun g s o p q = rw (p, q) (ap (λ (k : ℕ). visit (deps_of g) k [] [] 0) (omega arith))

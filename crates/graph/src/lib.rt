@@ -1,8 +1,15 @@
 // The import graph of the units and its linked order: the ported parts of driver/mod.rs and driver/linearization.rs.
 #![tactic(auto)]
 
+ghost use Rattle.std.specs.Prelude.{◌≡◌};
+ghost use Rattle.graph.specs.declared.Unordered.TheVariants.{Refused};
+
+use refusal::Cause;
+
+mod ids;
 mod linearization;
 
+pub use ids::Ids;
 pub use linearization::linearize_given;
 
 // The most units of a graph, and the most ids in all of its lists (specs/Limits.antt has the same two numbers).
@@ -10,7 +17,8 @@ pub const UNITS: usize = 64;
 
 pub const IDS: usize = 256;
 
-// A graph: unit u, below `units`, lists the ids from start[u] on, len[u] of them, among the first `count` of ids.
+// A graph: unit u, below `units`, lists the ids from start[u] on, len[u] of them, among the first `count` of ids. Arrays in a
+// record by value, not lists: the linker has no heap, and document 01 has this form of a graph.
 #[derive(Clone, Copy)]
 pub struct Graph {
     pub start: [u16; UNITS],
@@ -20,11 +28,17 @@ pub struct Graph {
     pub count: usize,
 }
 
-// What linearization answers: 0 and the linked order, 26 and a ring, or the number that refuses the graph and no id.
-// The ids stand at the start, `count` of them; the others are 0. The place of every number is 0.
-#[derive(Clone, Copy)]
-pub struct Linearized {
-    pub number: u8,
-    pub ids: [u16; UNITS],
-    pub count: usize,
+// Why there is no linked order: a ring of units that list each other, or what the graph is refused for.
+#[derive(Debug, Drop, PartialEq, Eq)]
+pub enum Unordered {
+    Ring(Ids),
+    Refused(Cause),
+}
+
+impl From<Cause> for Unordered {
+    ghost from_gives = { λ c u. u ≡ Refused c };
+
+    fn from(c: Cause) -> Unordered {
+        Unordered::Refused(c)
+    }
 }

@@ -1,17 +1,21 @@
 -- What the code makes of the record that discovery left. Assumes nothing.
-use Rattle.std.specs.Prelude.{ℕ, ◌+◌, ◌<◌, ◌≤◌, ◌≡◌, refl, List, [], ◌∷◌, ◌++◌, length, get_or, set, take, drop, replicate}
+use Rattle.std.specs.Prelude.{ℕ, ◌+◌, ◌<◌, ◌≤◌, ◌≡◌, refl, List, [], ◌∷◌, ◌++◌, length, get_or, set, take, drop, Ok, Err}
 use Rattle.std.proofs.Common.{add-one, arith, sym, ap, subst, ◌∙◌, length-append, length-take-le, take-suc, take_at}
 use Rattle.std.proofs.lemmas.List.{length-replicate}
+use Rattle.std.proofs.Math.Seq.{take-length}
 use Rattle.bundle.specs.Limits.{file_limit, use_limit}
 use Rattle.driver.specs.declared.Graph.{Graph}
 use Rattle.discovery.specs.Discovery.{Fault}
 use Rattle.driver.specs.Meaning.{faults_in, faults-counted, faults_of}
 use Rattle.graph.specs.declared.Graph as given
-use Rattle.graph.specs.declared.Linearized.{Linearized}
+use Rattle.graph.specs.declared.Unordered.TheVariants.{Ring}
 use Rattle.graph.specs.Linearize.{Out, order, ring, linearize}
 use Rattle.graph.specs.Limits.{unit_limit, id_limit}
-use Rattle.graph.specs.Given.{deps_of, refusal, numbered, linearize_given}
-use Rattle.graph.specs.GivenFacts.{sound-of, given-accepted}
+use Rattle.graph.specs.Given.{deps_of, refusal, linearize_given}
+use Rattle.graph.specs.GivenFacts.{sound-of}
+use Rattle.graph.specs.Padded.{padded}
+use Rattle.graph.specs.Told.{told}
+use Rattle.graph.specs.ToldTheorems.{order-told, ring-told}
 use Rattle.order.specs.Run.{Outcome, faulty, closed, step4, outcome}
 use Rattle.order.specs.Report.{records_of, lent_report, reporting, nothing_lent}
 use Rattle.order.specs.Writing.{fault_records, ring_records}
@@ -70,39 +74,12 @@ some-faulty : (fs : List Fault) (x : Out) → 0 < length fs → outcome fs x ≡
 some-faulty [] x h = absurd (omega arith)
 some-faulty (f ∷ fs) x h = refl
 
--- an order that was walked
-module _ (files : List ℕ) (n : ℕ) where
-  walked-order : (x : Out) → (numbered x).number ≡ 0 → (linking files (numbered x).ids ≡ answering files n (step4 x)) × (records_of (step4 x) ≡ [])
-  walked-order (order o) e = (refl, refl)
-  walked-order (ring r) e = absurd (omega arith)
-
-  walked-ring : (x : Out) → ((numbered x).number ≡ 0 → ⊥) → (ring_records (numbered x).ids (numbered x).count ≡ records_of (step4 x)) × (reported_to (reporting (records_of (step4 x)) n) ≡ answering files n (step4 x))
-  walked-ring (order o) f = absurd (f refl)
-  walked-ring (ring r) f = (ap (λ (l : List ℕ). records_of {A = List ℕ} (closed l)) (take_at r (drop (length r) (replicate unit_limit 0)) (length r) refl), refl)
-
--- the ids that were walked are no more than the array has
-walked-few : (w : Linearized) (x : Out) → w ≡ numbered x → length w.ids ≡ unit_limit → w.count ≤ unit_limit
-walked-few w x e h = let k = ap (λ (v : Linearized). length v.ids) (sym e) ∙ h in subst (λ (v : Linearized). v.count ≤ unit_limit) (sym e) (go x k)
-  where
-    few : (l : List ℕ) → length (l ++ drop (length l) (replicate unit_limit 0)) ≡ unit_limit → length l ≤ unit_limit
-    few l q = omega (arith, length-append l (drop (length l) (replicate unit_limit 0)))
-
-    go : (y : Out) → length (numbered y).ids ≡ unit_limit → (numbered y).count ≤ unit_limit
-    go (order o) q = few o q
-    go (ring r) q = few r q
-
 module _ (g : Graph) (f : Found g) where
   abbrev walk : Out
   walk = linearize (deps_of (given_of g)) g.units
 
   pub units-few : length g.ids ≡ id_limit → g.units ≤ file_limit
   units-few long = (sound-of (given_of g) f.sound long).small
-
-  walked-is : (w : Linearized) → w ≡ linearize_given (given_of g) → w ≡ numbered walk
-  walked-is w e = e ∙ sym (given-accepted (given_of g) f.sound)
-
-  pub ring-few : (w : Linearized) → w ≡ linearize_given (given_of g) → length w.ids ≡ unit_limit → w.count ≤ unit_limit
-  ring-few w e h = walked-few w walk (walked-is w e) h
 
   module _ (out : List ℕ) (a : Answer) where
     pub told-faults : (r : Reported) (final : List ℕ) → 0 < g.faults → g.faults ≤ length g.numbers → g.faults ≤ length g.places
@@ -114,26 +91,20 @@ module _ (g : Graph) (f : Found g) where
         let q = some-faulty (faults_of g) walk (omega arith) in
         (k ∙ (ap reported_to e ∙ ap (answering (take g.units g.files) (length out)) (sym q)), m ∙ ap (λ (x : Outcome). lent_report (records_of x) out) (sym q))
 
-    module _ (none : g.faults ≡ 0) (w : Linearized) (walked : w ≡ linearize_given (given_of g)) where
-      no_fault : outcome_of g ≡ step4 walk
+    module _ (none : g.faults ≡ 0) where
+      ended_by : (x : Out) → walk ≡ x → outcome_of g ≡ step4 x
       unfolding faults_in
-      no_fault = rw none
+      ended_by x e = rw (none, e)
 
-      pub told-order : w.number ≡ 0 → a ≡ linking (take g.units g.files) w.ids → (a ≡ answer_of g (length out)) × (out ≡ lent_report (records_of (outcome_of g)) out)
-      told-order z k =
-          let i = walked-is w walked in
-          let t = walked-order (take g.units g.files) (length out) walk (ap (λ (v : Linearized). v.number) (sym i) ∙ z) in (
-            k ∙ (ap (λ (v : Linearized). linking (take g.units g.files) v.ids) i ∙ (t.0 ∙ ap (answering (take g.units g.files) (length out)) (sym no_fault))),
-            sym (nothing_lent out) ∙ (ap (λ l. lent_report l out) (sym t.1) ∙ ap (λ (x : Outcome). lent_report (records_of x) out) (sym no_fault)),
-          )
+      pub told-order : (o : List ℕ) → told (Ok o) ≡ linearize_given (given_of g) → a ≡ linking (take g.units g.files) (padded o)
+          → (a ≡ answer_of g (length out)) × (out ≡ lent_report (records_of (outcome_of g)) out)
+      told-order o w k =
+          let q = ended_by (order o) (order-told (given_of g) f.sound o w) in
+          (rw q k, rw q (sym (nothing_lent out)))
 
-      pub told-ring : (r : Reported) (final : List ℕ) → (w.number ≡ 0 → ⊥)
-          → r ≡ reporting (ring_records w.ids w.count) (length out) → a ≡ reported_to r → final ≡ lent_report (ring_records w.ids w.count) out
+      pub told-ring : (ids : List ℕ) (r : Reported) (final : List ℕ) → told (Err (Ring ids)) ≡ linearize_given (given_of g)
+          → r ≡ reporting (ring_records ids (length ids)) (length out) → a ≡ reported_to r → final ≡ lent_report (ring_records ids (length ids)) out
           → (a ≡ answer_of g (length out)) × (final ≡ lent_report (records_of (outcome_of g)) out)
-      told-ring r final z e k m =
-          let i = walked-is w walked in
-          let t = walked-ring (take g.units g.files) (length out) walk (λ q. z (ap (λ (v : Linearized). v.number) i ∙ q)) in
-          let rs = ap (λ (v : Linearized). ring_records v.ids v.count) i ∙ t.0 in (
-            k ∙ (ap reported_to (e ∙ ap (λ l. reporting l (length out)) rs) ∙ (t.1 ∙ ap (answering (take g.units g.files) (length out)) (sym no_fault))),
-            m ∙ (ap (λ l. lent_report l out) rs ∙ ap (λ (x : Outcome). lent_report (records_of x) out) (sym no_fault)),
-          )
+      told-ring ids r final w e k m =
+          let q = ended_by (ring ids) (ring-told (given_of g) f.sound ids w) in
+          (rw q (k ∙ ap reported_to (rw take-length at e)), rw q (rw take-length at m))

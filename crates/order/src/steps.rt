@@ -7,6 +7,7 @@ ghost use Rattle.order.specs.Steps.{Found, outcome_of, answer_of};
 
 use crate::report::{write_faults, write_ring};
 use crate::{Answer, Reported, UNITS};
+use graph::Unordered;
 
 // A refusal: a number and a place.
 pub fn refuse(number: u8, place: usize) -> Answer
@@ -80,23 +81,24 @@ pub fn order_of(g: driver::Graph, out: &mut [u8]) -> Answer
     ensures value { result ≡ answer_of g (length out.old) }
     ensures out_after { out.new ≡ lent_report (records_of (outcome_of g)) out.old }
 {
-    let faults = g.faults;
-    if faults > 0 {
-        return report_told(write_faults(&g.numbers, &g.places, faults, out));
+    if g.faults > 0 {
+        return report_told(write_faults(&g.numbers, &g.places, g.faults, out));
     }
-    let start = g.start;
-    let len = g.len;
-    let ids = g.ids;
     let walked = graph::linearize_given(graph::Graph {
-        start: start,
-        len: len,
-        ids: ids,
+        start: g.start,
+        len: g.len,
+        ids: g.ids,
         units: g.units,
         count: g.count,
     });
-    if walked.number == 0 {
-        let order = walked.ids;
-        return linked(&g.files, g.units, order);
+    match walked {
+        Ok(order) => linked(&g.files, g.units, order.padded()),
+        Err(Unordered::Ring(ring)) => {
+            let ids = ring.as_slice();
+            report_told(write_ring(ids, ids.len(), out))
+        }
+
+        // Discovery leaves no graph that is refused.
+        Err(Unordered::Refused(_)) => unreachable!(),
     }
-    report_told(write_ring(&walked.ids, walked.count, out))
 }

@@ -1,15 +1,16 @@
 -- `order::steps::order_of` meets its contract. Assumes nothing.
-use mathlib.Core.Path.{◌≡◌}
+use mathlib.Core.Path.{◌≡◌, ◌∙◌}
 use native.Mathlib.Omega.{arith}
 use lib.ListN.{length}
 use Rattle.bundle.specs.Limits.{file_limit, use_limit}
-use Rattle.graph.specs.Limits.{unit_limit, id_limit}
-use Rattle.order.specs.Steps.{units-few, ring-few, told-faults, told-order, told-ring}
+use Rattle.graph.specs.Limits.{id_limit}
+use Rattle.graph.specs.ToldTheorems.{refusal-told}
+use Rattle.order.specs.Steps.{given_of, units-few, told-faults, told-order, told-ring}
 use Rattle.std.proofs.Common.{rules}
 use Rattle.order.proofs.steps.order_of.Goals as goal
 
-pub returns-then-faults-gt0 : goal.returns-then-faults-gt0
-returns-then-faults-gt0 c =
+pub returns-then-g-gt0 : goal.returns-then-g-gt0
+returns-then-g-gt0 c =
     let zn : length c.args.g.numbers ≡ use_limit = search (rules, c.well_formed) in
     let zp : length c.args.g.places ≡ use_limit = search (rules, c.well_formed) in
     let told = told-faults c.args.g c.requires c.args.out.now c.report_told.result c.write_faults.result c.write_faults.new.out
@@ -23,19 +24,17 @@ linked-requires c =
     let few = units-few c.args.g c.requires zi in
     (few, omega arith)
 
-pub returns-then-walked-eq0 : goal.returns-then-walked-eq0
-returns-then-walked-eq0 c =
-    let told = told-order c.args.g c.requires c.args.out.now c.linked.result (omega arith) c.linearize_given-walked.result c.linearize_given-walked.ensures c.if-walked-eq0.true c.linked.ensures in
+pub unreachable-requires : goal.unreachable-requires
+unreachable-requires c = refusal-told (given_of c.args.g) c.requires.sound _ (rw c.in-Err-Refused.field-0-is at c.in-Err-Refused.ensures)
+
+pub returns-in-Ok : goal.returns-in-Ok
+returns-in-Ok c =
+    let told = told-order c.args.g c.requires c.args.out.now c.linked.result (omega arith) c.in-Ok.order c.in-Ok.ensures (rw c.padded.ensures at c.linked.ensures) in
     record { value = told.0; out_after = told.1 }
 
-pub write_ring-requires : goal.write_ring-requires
-write_ring-requires c =
-    let zi : length c.linearize_given-walked.result.ids ≡ unit_limit = search (rules, c.linearize_given-walked) in
-    let few = ring-few c.args.g c.requires c.linearize_given-walked.result c.linearize_given-walked.ensures zi in
-    (few, omega arith)
-
-pub returns : goal.returns
-returns c =
-    let told = told-ring c.args.g c.requires c.args.out.now c.report_told-2.result (omega arith) c.linearize_given-walked.result c.linearize_given-walked.ensures c.write_ring.result c.write_ring.new.out
-    c.if-walked-eq0.false c.write_ring.ensures.value c.report_told-2.ensures c.write_ring.ensures.out_after in
+pub returns-in-Err-Ring : goal.returns-in-Err-Ring
+returns-in-Err-Ring c =
+    let ids : c.as_slice-ids.result.now ≡ c.in-Err-Ring.ring = c.as_slice-ids.ensures.value ∙ c.in-Err-Ring.ring-is in
+    let told = told-ring c.args.g c.requires c.args.out.now c.report_told-in-Err-Ring.result (omega arith) c.in-Err-Ring.ring c.write_ring.result c.write_ring.new.out (rw c.in-Err-Ring.field-0-is at c.in-Err-Ring.ensures)
+    (rw ids at c.write_ring.ensures.value) c.report_told-in-Err-Ring.ensures (rw ids at c.write_ring.ensures.out_after) in
     record { value = told.0; out_after = told.1 }
