@@ -15,6 +15,7 @@ ghost use Rattle.host.specs.RemappingsTold.{lines_number, lines_told};
 
 use graph::Graph;
 use order::Answer;
+use resolution::Target;
 
 mod tree;
 
@@ -65,12 +66,11 @@ pub extern "C" fn gontsamy_check(s: &[u8], place: &mut usize) -> u8
     ensures value { result ≡ number_of (verdict s.now) }
     ensures place_after { place.new ≡ place_told (verdict s.now) place.old }
 {
-    let checked = reader::check(s);
-    match checked {
-        bundle::Checked::Ok => 0,
-        bundle::Checked::Refused(n, p) => {
-            *place = p;
-            n
+    match reader::check(s) {
+        Ok(_) => 0,
+        Err(e) => {
+            *place = e.place;
+            u8::from(e.cause)
         }
     }
 }
@@ -113,21 +113,23 @@ pub extern "C" fn gontsamy_resolve(
     ensures left_after { left.new ≡ left_told (resolve s.now importer.now u.now) left.old }
     ensures place_after { place.new ≡ fault_told (resolve s.now importer.now u.now) place.old }
 {
-    let resolved = resolution::resolve(s, importer, u);
-    match resolved {
-        resolution::Resolution::File(i, n) => {
-            *index = i;
-            *left = n;
-            0
+    match resolution::resolve(s, importer, u) {
+        Ok(found) => {
+            *left = found.left;
+            match found.target {
+                Target::File(i) => {
+                    *index = i;
+                    0
+                }
+                Target::Folder(i) => {
+                    *index = i;
+                    FOLDER
+                }
+            }
         }
-        resolution::Resolution::Folder(i, n) => {
-            *index = i;
-            *left = n;
-            FOLDER
-        }
-        resolution::Resolution::Refused(n, p) => {
-            *place = p;
-            n
+        Err(e) => {
+            *place = e.place;
+            u8::from(e.cause)
         }
     }
 }

@@ -50,10 +50,9 @@ pub fn order_known(s: &[u8], out: &mut [u8], known: &mut [usize; KNOWN]) -> Answ
     ensures carries { Carries s.now known.new }
 {
     let mut card = [0u32; CARD];
-    let checked = reader::read(s, &mut card);
-    match checked {
-        bundle::Checked::Refused(n, p) => steps::refuse(n, p),
-        bundle::Checked::Ok => {
+    match reader::read(s, &mut card) {
+        Err(e) => steps::refuse(u8::from(e.cause), e.place),
+        Ok(_) => {
             let g = driver::discover(s, &card, &mut *known);
             steps::order_of(g, out)
         }

@@ -125,13 +125,12 @@ pub fn steps_discover(s: &[u8], out: &mut [usize]) -> u8
     ensures value { result ≡ number_of (verdict s.now) }
     ensures graph_told { GraphTold s.now out.old out.new }
 {
-    let checked = reader::check(s);
-    match checked {
-        bundle::Checked::Refused(n, p) => {
-            tell(out, 0, p);
-            n
+    match reader::check(s) {
+        Err(e) => {
+            tell(out, 0, e.place);
+            u8::from(e.cause)
         }
-        bundle::Checked::Ok => {
+        Ok(_) => {
             let g = driver::discover_dependencies(s);
             tell(out, 0, g.units);
             tell_places(out, GRAPH_FILES, &g.files, g.units);

@@ -5,18 +5,18 @@ use Rattle.steps_c.proofs.steps_discover.Goals as goal
 
 -- src/lib.rt:165:21
 pub discover_dependencies-g-requires : goal.discover_dependencies-g-requires
-discover_dependencies-g-requires c = sym c.check-checked.ensures ∙ c.in-Ok.is
+discover_dependencies-g-requires c = sym c.in-Ok.ensures
 
 -- src/lib.rt:153:1
-pub returns-in-Refused : goal.returns-in-Refused
-returns-in-Refused c =
-    let e = sym c.check-checked.ensures ∙ c.in-Refused.is in
-    record { value = told-refused _ _ _ e; graph_told = refused _ _ e c.tell.ensures }
+pub returns-in-Err : goal.returns-in-Err
+returns-in-Err c =
+    let e = sym c.in-Err.ensures in
+    record { value = c.from.ensures ∙ told-refused _ _ _ e; graph_told = refused _ _ e c.tell.ensures }
 
 -- src/lib.rt:153:1
 pub returns-in-Ok : goal.returns-in-Ok
 returns-in-Ok c =
-    let e = sym c.check-checked.ensures ∙ c.in-Ok.is in
+    let e = sym c.in-Ok.ensures in
     record {
       value = told-ok _ e;
       graph_told = accepted c.discover_dependencies-g.result e c.discover_dependencies-g.ensures
