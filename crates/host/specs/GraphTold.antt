@@ -1,9 +1,9 @@
 -- What `gontsamy_linearize` is given, and what it leaves. Assumes nothing.
-use Rattle.std.specs.Prelude.{ℕ, ◌≡◌, refl, cond, List, eqb}
-use Rattle.std.proofs.Math.Path.{ap}
-use Rattle.std.proofs.Common.{sym, ◌∙◌, eq-eqb, ne_eqb}
+use Rattle.std.specs.Prelude.{ℕ, ◌<◌, ◌≡◌, refl, cond, List, [], length, eqb}
+use Rattle.std.proofs.Common.{arith, ne_eqb}
 use Rattle.graph.specs.declared.Graph.{Graph}
-use Rattle.graph.specs.declared.Linearized.{Linearized}
+use Rattle.graph.specs.Given.{Linearized, answer}
+use Rattle.graph.specs.Padded.{padded}
 
 -- the graph of three arrays and two numbers
 abbrev pub graph_of : List ℕ → List ℕ → List ℕ → ℕ → ℕ → Graph
@@ -17,13 +17,11 @@ unfoldable pub count_told : Linearized → ℕ → ℕ
 count_told a n = cond (eqb a.count 0) n a.count
 
 -- AS THE CODE HAS IT
-module _ (a b : Linearized) (e : a ≡ b) (l : List ℕ) (n : ℕ) where
-  pub graph-refused : a.count ≡ 0 → (a.number ≡ b.number) × ((l ≡ ordered_told b l) × (n ≡ count_told b n))
+module _ (a : Linearized) (k : ℕ) (l : List ℕ) (n : ℕ) where
+  pub graph-refused : answer k [] ≡ a → (k ≡ a.number) × ((l ≡ ordered_told a l) × (n ≡ count_told a n))
   unfolding ordered_told count_told
-  graph-refused z = rw (eq-eqb b.count 0 (ap (λ (x : Linearized). x.count) (sym e) ∙ z)) (ap (λ (x : Linearized). x.number) e, (refl, refl))
+  graph-refused e = rw (← e) (refl, (refl, refl))
 
-  pub graph-told : (a.count ≡ 0 → ⊥) → (a.number ≡ b.number) × ((a.ids ≡ ordered_told b l) × (a.count ≡ count_told b n))
+  pub graph-told : (ids : List ℕ) → answer k ids ≡ a → 0 < length ids → (k ≡ a.number) × ((padded ids ≡ ordered_told a l) × (length ids ≡ count_told a n))
   unfolding ordered_told count_told
-  graph-told z =
-      rw (ne_eqb b.count 0 (λ y. z (ap (λ (x : Linearized). x.count) e ∙ y)))
-      (ap (λ (x : Linearized). x.number) e, (ap (λ (x : Linearized). x.ids) e, ap (λ (x : Linearized). x.count) e))
+  graph-told ids e some = rw (← e, ne_eqb (length ids) 0 (omega arith)) (refl, (refl, refl))

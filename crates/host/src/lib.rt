@@ -13,8 +13,9 @@ ghost use Rattle.resolution.specs.Call.{resolve};
 ghost use Rattle.remapping_lines.specs.Lines.{lines_answer, lines_buffer};
 ghost use Rattle.host.specs.RemappingsTold.{lines_number, lines_told};
 
-use graph::Graph;
+use graph::{Graph, Unordered};
 use order::Answer;
+use refusal::Cause;
 use resolution::Target;
 
 mod tree;
@@ -171,20 +172,19 @@ pub extern "C" fn gontsamy_linearize(
     ensures ordered_after { ordered.new ≡ ordered_told (linearize_given (graph_of start.now len.now ids.now units count)) ordered.old }
     ensures length_after { length.new ≡ count_told (linearize_given (graph_of start.now len.now ids.now units count)) length.old }
 {
-    let l = graph::linearize_given(Graph {
+    let (number, told) = match graph::linearize_given(Graph {
         start: *start,
         len: *len,
         ids: *ids,
-        units: units,
-        count: count,
-    });
-    let number = l.number;
-    let told = l.count;
-    if told != 0 {
-        let given = l.ids;
-        *ordered = given;
-        *length = told;
-    }
+        units,
+        count,
+    }) {
+        Ok(order) => (0, order),
+        Err(Unordered::Ring(ring)) => (u8::from(Cause::Ring), ring),
+        Err(Unordered::Refused(cause)) => return u8::from(cause),
+    };
+    *ordered = told.padded();
+    *length = told.as_slice().len();
     number
 }
 
