@@ -209,9 +209,13 @@ module _ (x y : List ℕ) {w out cur : List ℕ} {a : ℕ} (f : Front w (x ++ y)
 pub front_of : (w x out cur all : List ℕ) (a : ℕ) → (a ≡ length w) × (cur ≡ started w out) → all ≡ w ++ x → length all ≤ length out → Front w x out cur a
 front_of w x out cur all a h e r = record { starts = h.1; is = h.0; room = let l = ap length e in omega arith }
 
--- one number at the start
-pub put_first : (out cur : List ℕ) (v : ℕ) → 0 < length out → cur ≡ set out 0 v → cur ≡ started (v ∷ []) out
-put_first out cur v h e = e ∙ put_one [] out 0 refl v h
+-- one number at the start, and what comes behind it
+module _ (out x all : List ℕ) (v : ℕ) (is : all ≡ v ∷ x) (room : length all ≤ length out) where
+  pub one_some : 0 < length out
+  one_some = let l = ap length is in omega arith
+
+  pub one_front : Front (v ∷ []) x out (set out 0 v) 1
+  one_front = record { starts = put_one [] out 0 refl v one_some; is = refl; room = let l = ap length is in omega arith }
 
 -- two numbers behind the first two, and what comes behind them
 pub start_front : (out x : List ℕ) (k v : ℕ) → 4 + length x ≤ length out → Front (take 2 out ++ (k ∷ v ∷ [])) x out (set (set out 2 k) 3 v) 4

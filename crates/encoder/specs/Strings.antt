@@ -17,7 +17,7 @@ use Rattle.bundle.specs.declared.Width.TheVariants.{Byte}
 use Rattle.bundle.specs.Encode.{string, joined, element}
 use Rattle.bundle.specs.Scan.{byte, text}
 use Rattle.bundle.specs.Stand.{Bytes}
-use Rattle.bundle.specs.Decode.{each, far, after, after_element, element_at}
+use Rattle.bundle.specs.Decode.{each, after, after_element, element_at}
 use Rattle.encoder.specs.Started.{started}
 
 abbrev pub strings_at : List ℕ → ℕ → ℕ → List Text
@@ -26,9 +26,6 @@ strings_at s n first = each (after s) (text s) n first
 -- a call gave the first string that was left, and it is short; or `None` where none was left
 abbrev pub GivesString : List Text → Option (Bor Text) → List Text → Type 0
 GivesString old r new = YieldsFirstRef (λ l. l) old r new × IfSome r (λ t. length t.now < capacity Byte)
-
-unfoldable pub string_bytes : List ℕ → ℕ → ℕ → List ℕ
-string_bytes s n first = joined string (strings_at s n first)
 
 -- a string that was read is short
 pub text-short : (s : List ℕ) → Bytes s → (at : ℕ) → length (text s at) < capacity Byte
@@ -83,16 +80,8 @@ pair-bytes s (suc n) (suc (suc m)) first e =
     rw (pair-bytes s n m (after_element s first) (omega arith))
     (append_assoc (string (text s first)) (string (text s (after s first))) (joined string (strings_at s m (after_element s first))))
 
-pub element-bytes : (s : List ℕ) (n first : ℕ) → joined element (each (after_element s) (element_at s) n first) ≡ string_bytes s (2 * n) first
-unfolding string_bytes
+pub element-bytes : (s : List ℕ) (n first : ℕ) → joined element (each (after_element s) (element_at s) n first) ≡ joined string (strings_at s (2 * n) first)
 element-bytes s n first = pair-bytes s n (2 * n) first (omega arith)
-
--- THE LAST of them
-pub last_strings : (s : List ℕ) (k n first : ℕ) → k ≤ n → strings_at s (n - k) (far (after s) k first) ≡ drop k (strings_at s n first)
-unfolding each far
-last_strings s zero n first h = let z : n - 0 ≡ n = omega arith in rw z
-last_strings s (suc k) zero first h = absurd (omega arith)
-last_strings s (suc k) (suc n) first h = let z : suc n - suc k ≡ n - k = omega arith in rw z (last_strings s k n (after s first) (omega arith))
 
 -- NAMES
 pub crate_length : length (string (ascii "crate")) ≡ 6

@@ -9,9 +9,10 @@ ghost use Rattle.assembly.specs.Given.{UnitsGiven, OrderGiven, unit_bytes, progr
 ghost use Rattle.assembly.specs.Targets.{UnitOf, file_uses, path_by, Within};
 ghost use Rattle.assembly.specs.Walk.{segments_at, elements_at, one_at, item_bytes, items_bytes, Brief};
 
+use crate::segments::last_segments;
 use assembly::{Target, target_of, unit_items};
 use bundle::limits::{DEPTH, IGNORED, MODULE, USE};
-use encoder::{strings_end, strings_length};
+use encoder::Strings;
 
 pub const LIMIT: usize = 65536;
 
@@ -41,11 +42,8 @@ fn path_length(s: &[u8], mark: usize, target: Target) -> usize
     match target {
         Target::Nothing => 1,
         Target::Unit(id, left) => {
-            let segments = bundle::use_segments(s, mark);
-            let skipped = segments.count - left;
-            let rest = strings_end(s, segments.first, skipped);
             let unit = names::unit_name(id as u64);
-            1 + 6 + 1 + unit.len + strings_length(s, rest, left)
+            1 + 6 + 1 + unit.len + last_segments(s, mark, left).size()
         }
     }
 }
@@ -56,7 +54,7 @@ fn elements_length(s: &[u8], mark: usize) -> usize
     ensures { (result ≡ length (counted element (elements_at s.now mark))) × (result < 2 ^ 20) }
 {
     let elements = bundle::use_elements(s, mark);
-    1 + strings_length(s, elements.first, 2 * elements.count)
+    1 + Strings::new(s, elements.first, 2 * elements.count).size()
 }
 
 // An item as the image has it; an ignored one is not there.

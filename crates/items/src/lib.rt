@@ -2,6 +2,7 @@
 #![tactic(auto)]
 
 mod lengths;
+mod segments;
 mod writing;
 
 pub use lengths::{LIMIT, program_length};

@@ -13,11 +13,10 @@ ghost use Rattle.encoder.specs.Parts.{head_bytes};
 ghost use Rattle.assembly.specs.Targets.{UnitOf, InFile, file_uses, path_by, Within};
 ghost use Rattle.assembly.specs.Walk.{segments_at, elements_at, use_bytes, one_at, item_bytes, items_bytes, Brief};
 
+use crate::segments::last_segments;
 use assembly::{Target, target_of, unit_items};
 use bundle::limits::{DEPTH, IGNORED, MODULE, USE};
-use encoder::{
-    put, put_head, put_segments, put_start, put_strings, put_two, put_unit_start, strings_end,
-};
+use encoder::{Strings, put_head, put_segments, put_start, put_two, put_unit_start};
 
 fn wide(x: u16) -> usize
     ensures { result ≡ x }
@@ -32,15 +31,12 @@ fn put_path(s: &[u8], mark: usize, target: Target, out: &mut [u8]) -> usize
 {
     match target {
         Target::Nothing => {
-            put(out, 0, 0);
+            out[0] = 0;
             1
         }
         Target::Unit(id, left) => {
-            let segments = bundle::use_segments(s, mark);
-            let skipped = segments.count - left;
-            let rest = strings_end(s, segments.first, skipped);
-            put(out, 0, left + 2);
-            1 + put_segments(s, id, rest, left, &mut out[1..])
+            out[0] = (left + 2) as u8;
+            1 + put_segments(&mut out[1..], id, last_segments(s, mark, left))
         }
     }
 }
@@ -51,8 +47,8 @@ fn put_elements(s: &[u8], mark: usize, out: &mut [u8]) -> usize
     ensures { (result ≡ length (counted element (elements_at s.now mark))) × (out.new ≡ started (counted element (elements_at s.now mark)) out.old) }
 {
     let elements = bundle::use_elements(s, mark);
-    put(out, 0, elements.count);
-    1 + put_strings(s, elements.first, 2 * elements.count, &mut out[1..])
+    out[0] = elements.count as u8;
+    1 + Strings::new(s, elements.first, 2 * elements.count).put(&mut out[1..])
 }
 
 // The use at `mark` in the unit u, with its path rewritten: segment count, segments, element count, elements.

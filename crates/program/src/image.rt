@@ -7,7 +7,7 @@ ghost use Rattle.assembly.specs.Given.{OrderGiven};
 
 use assembly::Imaged;
 use bundle::limits::{HEADER, VERSION};
-use encoder::{put, put_two};
+use encoder::put_two;
 use items::{LIMIT, program_length, write_program};
 
 // The specification's numbers.
@@ -36,7 +36,7 @@ pub fn write_image<'a>(
         return Imaged::Refused(SMALL_BUFFER, 0);
     }
     let n = write_program(s, files, ids, units, &mut out[HEADER..]);
-    put(out, 0, VERSION);
+    out[0] = VERSION as u8;
     put_two(out, 1, n);
     Imaged::Image(HEADER + n)
 }

@@ -12,7 +12,7 @@ use Rattle.bundle.specs.Results.{Checked}
 use Rattle.bundle.specs.Results.{Ok}
 use Rattle.bundle.specs.Results.{Refused as Fault}
 use Rattle.encoder.specs.Started.{started}
-use Rattle.encoder.specs.Parts.{Front, put_first}
+use Rattle.encoder.specs.Parts.{Front, one_front}
 use Rattle.remapping_lines.specs.Lines.{Line, lines_of, remapping_of, lines_verdict, verdict, remappings_of, section, lines_answer, lines_buffer}
 use Rattle.remapping_lines.specs.Lines.{Section, Refused}
 use Rattle.remapping_lines.specs.Testing.{Counted, Bad}
@@ -91,11 +91,7 @@ module _ (s : Text) (n size : ℕ) (g : Ready s n size) (out : List ℕ) where
 
     -- the count stands, and the remappings go behind it
     pub section-front : Front (n ∷ []) (list_bytes s) out (set out 0 n) 1
-    section-front = record {
-      starts = put_first out (set out 0 n) n (let l = g.long in let b = ap length g.bytes in omega arith) refl;
-      is = refl;
-      room = let l = g.long in let b = ap length g.bytes in omega arith;
-    }
+    section-front = let l = g.long in one_front out (list_bytes s) (section s) n g.bytes (omega arith)
 
     pub section-whole : (final : List ℕ) → final ≡ started ((n ∷ []) ++ list_bytes s) out → final ≡ lines_buffer s out
     section-whole final e = e ∙ (ap (λ (l : List ℕ). started l out) (sym g.bytes) ∙ section-held)

@@ -1,54 +1,38 @@
 -- `put_elements` meets its contract. Assumes nothing.
-use Prim.Native.Nat.{◌*◌, ◌<◌}
-use native.Mathlib.Omega.{arith}
-use mathlib.Core.List.{[], ◌∷◌}
-use mathlib.Core.Path.{ap, refl, ◌≡◌}
-use lib.ListN.{length}
 use Rattle.std.proofs.Common.{rules}
-use Rattle.bundle.specs.Encode.{counted, element}
-use Rattle.assembly.specs.Walk.{elements_at, elements-read}
-use Rattle.encoder.specs.Parts.{Front, front_of, front-start, front-room, front_fits, front-done, put_first, same-filled}
+use Rattle.assembly.specs.Walk.{elements-read}
+use Rattle.encoder.specs.Parts.{one_some, one_front, front-room, front-done, same-filled}
 use Rattle.items.specs.Uses.{elements-form}
-use Rattle.encoder.specs.Strings.{string_bytes}
 use Rattle.items.proofs.writing.put_elements.Goals as goal
+
+pub bounds-out-0 : goal.bounds-out-0
+bounds-out-0 c =
+    let elements = c.use_elements-elements in
+    let form = elements-form c.args.s.now c.args.mark _ _ (elements-read c.args.s.now c.args.mark c.requires.0.kind elements.result.first elements.result.count elements.ensures.0) in
+    one_some c.args.out.now _ _ _ form c.requires.1
+
+pub slice_bounds-put-count : goal.slice_bounds-put-count
+slice_bounds-put-count c =
+    let elements = c.use_elements-elements in
+    let form = elements-form c.args.s.now c.args.mark _ _ (elements-read c.args.s.now c.args.mark c.requires.0.kind elements.result.first elements.result.count elements.ensures.0) in
+    let some = one_some c.args.out.now _ _ _ form c.requires.1 in
+    search rules
+
+pub slice_bounds-put-start : goal.slice_bounds-put-start
+slice_bounds-put-start c =
+    let elements = c.use_elements-elements in
+    let form = elements-form c.args.s.now c.args.mark _ _ (elements-read c.args.s.now c.args.mark c.requires.0.kind elements.result.first elements.result.count elements.ensures.0) in
+    let some = one_some c.args.out.now _ _ _ form c.requires.1 in
+    search rules
 
 pub put-requires : goal.put-requires
 put-requires c =
-    let form : counted element (elements_at c.args.s.now c.args.mark) ≡ c.use_elements-elements.result.count ∷ string_bytes c.args.s.now (2 * c.use_elements-elements.result.count) c.use_elements-elements.result.first = elements-form c.args.s.now c.args.mark _ _ (elements-read c.args.s.now c.args.mark c.requires.0.kind c.use_elements-elements.result.first c.use_elements-elements.result.count c.use_elements-elements.ensures.0) in
-    let some : 0 < length c.args.out.now = let l = ap length form in let r = c.requires.1 in omega arith in
-    (some, c.use_elements-elements.ensures.1.1)
-
-pub slice_bounds-put_strings-count : goal.slice_bounds-put_strings-count
-slice_bounds-put_strings-count c =
-    let form : counted element (elements_at c.args.s.now c.args.mark) ≡ c.use_elements-elements.result.count ∷ string_bytes c.args.s.now (2 * c.use_elements-elements.result.count) c.use_elements-elements.result.first = elements-form c.args.s.now c.args.mark _ _ (elements-read c.args.s.now c.args.mark c.requires.0.kind c.use_elements-elements.result.first c.use_elements-elements.result.count c.use_elements-elements.ensures.0) in
-    let some : 0 < length c.args.out.now = let l = ap length form in let r = c.requires.1 in omega arith in
-    let front : Front (c.use_elements-elements.result.count ∷ []) (string_bytes c.args.s.now (2 * c.use_elements-elements.result.count) c.use_elements-elements.result.first) c.args.out.now c.put.new.out 1 = front_of _ _ c.args.out.now _ _ _ (refl, put_first c.args.out.now _ _ some c.put.ensures) form c.requires.1 in
-    front-start front
-
-pub slice_bounds-put_strings-start : goal.slice_bounds-put_strings-start
-slice_bounds-put_strings-start c =
-    let form : counted element (elements_at c.args.s.now c.args.mark) ≡ c.use_elements-elements.result.count ∷ string_bytes c.args.s.now (2 * c.use_elements-elements.result.count) c.use_elements-elements.result.first = elements-form c.args.s.now c.args.mark _ _ (elements-read c.args.s.now c.args.mark c.requires.0.kind c.use_elements-elements.result.first c.use_elements-elements.result.count c.use_elements-elements.ensures.0) in
-    let some : 0 < length c.args.out.now = let l = ap length form in let r = c.requires.1 in omega arith in
-    let front : Front (c.use_elements-elements.result.count ∷ []) (string_bytes c.args.s.now (2 * c.use_elements-elements.result.count) c.use_elements-elements.result.first) c.args.out.now c.put.new.out 1 = front_of _ _ c.args.out.now _ _ _ (refl, put_first c.args.out.now _ _ some c.put.ensures) form c.requires.1 in
-    let h = front-start front in search rules
-
-pub put_strings-requires : goal.put_strings-requires
-put_strings-requires c =
-    let form : counted element (elements_at c.args.s.now c.args.mark) ≡ c.use_elements-elements.result.count ∷ string_bytes c.args.s.now (2 * c.use_elements-elements.result.count) c.use_elements-elements.result.first = elements-form c.args.s.now c.args.mark _ _ (elements-read c.args.s.now c.args.mark c.requires.0.kind c.use_elements-elements.result.first c.use_elements-elements.result.count c.use_elements-elements.ensures.0) in
-    let some : 0 < length c.args.out.now = let l = ap length form in let r = c.requires.1 in omega arith in
-    let front : Front (c.use_elements-elements.result.count ∷ []) (string_bytes c.args.s.now (2 * c.use_elements-elements.result.count) c.use_elements-elements.result.first) c.args.out.now c.put.new.out 1 = front_of _ _ c.args.out.now _ _ _ (refl, put_first c.args.out.now _ _ some c.put.ensures) form c.requires.1 in
-    ((omega arith, omega arith), front-room front)
-
-pub overflow_add-result : goal.overflow_add-result
-overflow_add-result c =
-    let form : counted element (elements_at c.args.s.now c.args.mark) ≡ c.use_elements-elements.result.count ∷ string_bytes c.args.s.now (2 * c.use_elements-elements.result.count) c.use_elements-elements.result.first = elements-form c.args.s.now c.args.mark _ _ (elements-read c.args.s.now c.args.mark c.requires.0.kind c.use_elements-elements.result.first c.use_elements-elements.result.count c.use_elements-elements.ensures.0) in
-    let some : 0 < length c.args.out.now = let l = ap length form in let r = c.requires.1 in omega arith in
-    let front : Front (c.use_elements-elements.result.count ∷ []) (string_bytes c.args.s.now (2 * c.use_elements-elements.result.count) c.use_elements-elements.result.first) c.args.out.now c.put.new.out 1 = front_of _ _ c.args.out.now _ _ _ (refl, put_first c.args.out.now _ _ some c.put.ensures) form c.requires.1 in
-    let h = front_fits front c.put_strings.result c.put_strings.ensures.0 in omega arith
+    let elements = c.use_elements-elements in
+    let form = elements-form c.args.s.now c.args.mark _ _ (elements-read c.args.s.now c.args.mark c.requires.0.kind elements.result.first elements.result.count elements.ensures.0) in
+    rw c.new.ensures (front-room (one_front c.args.out.now _ _ _ form c.requires.1))
 
 pub returns : goal.returns
 returns c =
-    let form : counted element (elements_at c.args.s.now c.args.mark) ≡ c.use_elements-elements.result.count ∷ string_bytes c.args.s.now (2 * c.use_elements-elements.result.count) c.use_elements-elements.result.first = elements-form c.args.s.now c.args.mark _ _ (elements-read c.args.s.now c.args.mark c.requires.0.kind c.use_elements-elements.result.first c.use_elements-elements.result.count c.use_elements-elements.ensures.0) in
-    let some : 0 < length c.args.out.now = let l = ap length form in let r = c.requires.1 in omega arith in
-    let front : Front (c.use_elements-elements.result.count ∷ []) (string_bytes c.args.s.now (2 * c.use_elements-elements.result.count) c.use_elements-elements.result.first) c.args.out.now c.put.new.out 1 = front_of _ _ c.args.out.now _ _ _ (refl, put_first c.args.out.now _ _ some c.put.ensures) form c.requires.1 in
-    same-filled _ _ c.args.out.now _ _ form (front-done front c.put_strings.new.out c.put_strings.result c.put_strings.ensures)
+    let elements = c.use_elements-elements in
+    let form = elements-form c.args.s.now c.args.mark _ _ (elements-read c.args.s.now c.args.mark c.requires.0.kind elements.result.first elements.result.count elements.ensures.0) in
+    same-filled _ _ c.args.out.now _ _ form (front-done (one_front c.args.out.now _ _ _ form c.requires.1) c.put.new.out c.put.result (rw c.new.ensures at c.put.ensures))

@@ -1,7 +1,7 @@
 -- `write_image` meets its contract. Assumes nothing.
 use Prim.Native.Nat.{min}
 use native.Mathlib.Omega.{arith}
-use mathlib.Core.Path.{◌≡◌}
+use mathlib.Core.Path.{◌≡◌, refl}
 use lib.ListN.{length, take}
 use Rattle.bundle.specs.Decode.{decode}
 use Rattle.assembly.specs.Image.{length_cap}
@@ -23,5 +23,5 @@ pub returns : goal.returns
 returns c =
     let e : c.program_length-length.result ≡ min (length (program_bytes (decode c.args.s.now) (take c.args.units c.args.ids.now))) length_cap = c.program_length-length.ensures in
     let r : c.write_program-n.result ≡ length (program_bytes (decode c.args.s.now) (take c.args.units c.args.ids.now)) = c.write_program-n.ensures.0 in
-    let told = all-written (decode c.args.s.now) (take c.args.units c.args.ids.now) c.args.out.now c.write_program-n.new.out c.put.new.out c.put_two.new.out c.write_program-n.result r (omega arith) (omega arith) c.write_program-n.ensures.1 c.put.ensures c.put_two.ensures in
+    let told = all-written (decode c.args.s.now) (take c.args.units c.args.ids.now) c.args.out.now c.write_program-n.new.out _ c.put_two.new.out c.write_program-n.result r (omega arith) (omega arith) c.write_program-n.ensures.1 refl c.put_two.ensures in
     record { value = told.0; out_after = told.1 }
