@@ -1,12 +1,14 @@
 -- Byte strings: words in ASCII, and equality as a test. Assumes nothing.
 use Prim.Native.Nat.{ℕ, zero, suc, ◌<◌, ◌-◌, suc-le-suc}
-use Rattle.std.proofs.Common.{not-suc-le-zero, le_of_suc-le-suc, sym, ap, ◌∙◌, arith, length-take, length-drop, take-append-drop, drop_of_length-le, ext_get_or, take_all, eq-eqb, eqb-true}
+use Rattle.std.proofs.Common.{not-suc-le-zero, le_of_suc-le-suc, sym, ap, ◌∙◌, arith, length-take, length-drop, take-append-drop, length-append, drop_of_length-le, ext_get_or, take_all, eq-eqb, eqb-true}
 use Prim.Native.Char.{code}
 use Prim.Native.String.{String, [] as no_text, ◌∷◌ as ◌then◌}
 use Rattle.std.specs.Prelude.{Bool, true, false, ◌&&◌, ◌||◌, ◌≡◌, eqb, length, get_or, take, drop}
+use Rattle.std.specs.List.{list_all, list_any, starts_with}
+use Rattle.std.specs.Cmp.Lexicographic.{pointwise}
 use Rattle.std.proofs.Math.Bool.{and-false, or-true}
 use Rattle.std.proofs.Math.Path.{refl}
-use mathlib.Core.List.{List, [], ◌∷◌, ◌++◌}
+use mathlib.Core.List.{List, [], ◌∷◌, ◌++◌, map}
 use Rattle.std.proofs.Math.Seq.{take-append_seam, drop-append_seam, drop-length}
 
 -- the bytes of a text in ASCII
@@ -62,6 +64,19 @@ pub not_true : (a : Bool) → (a ≡ true → ⊥) → a ≡ false
 not_true true f = absurd (f refl)
 not_true false f = refl
 
+-- std's word for `==`, and `any` over words
+pub same_is : (s t : List ℕ) → pointwise eqb s t ≡ same s t
+unfolding same
+same_is [] [] = refl
+same_is [] (b ∷ t) = refl
+same_is (a ∷ s) [] = refl
+same_is (a ∷ s) (b ∷ t) = rw (same_is s t)
+
+pub member_is : {A : Type 0} (v : A → List ℕ) (s : List ℕ) (ws : List A) → list_any (λ w. pointwise eqb s (v w)) ws ≡ member s (map v ws)
+unfolding member
+member_is v s [] = refl
+member_is v s (w ∷ ws) = rw (same_is s (v w), member_is v s ws)
+
 pub same_refl : (s : List ℕ) → same s s ≡ true
 unfolding same
 same_refl [] = refl
@@ -86,22 +101,27 @@ same_differs s t h e = false_true (cc (same_refl s))
 pub equal-same : (s t : List ℕ) → s ≡ t → same s t ≡ true
 equal-same s t e = rw e (same_refl t)
 
+-- std's word for `starts_with`
+pub has_prefix_is : (s p : List ℕ) → starts_with eqb s p ≡ has_prefix s p
+unfolding has_prefix
+has_prefix_is s p =
+    same_is p (take (length p) s)
+    ∙ both_ways (same p (take (length p) s)) (same (take (length p) s) p)
+    (λ e. equal-same _ _ (sym (same-eq _ _ e))) (λ e. equal-same _ _ (sym (same-eq _ _ e)))
+
+pub ruleset equals = (same_is, has_prefix_is)
+
 -- equal length and equal bytes
 pub same_bytes : (s t : List ℕ) → length s ≡ length t → ((k : ℕ) → k < length s → get_or s k 0 ≡ get_or t k 0) → same s t ≡ true
 same_bytes s t n f = equal-same s t (ext_get_or 0 s t n f)
 
+-- std's word for it
+pub all_is : {A : Type 0} (f : A → Bool) (l : List A) → list_all f l ≡ all f l
+unfolding all
+all_is f [] = refl
+all_is f (a ∷ l) = rw (all_is f l)
+
 module _ (f : ℕ → Bool) where
-  pub all-holds : (s : List ℕ) → ((k : ℕ) → k < length s → f (get_or s k 0) ≡ true) → all f s ≡ true
-  unfolding all
-  all-holds [] h = refl
-  all-holds (a ∷ s) h = rw (h 0 (omega arith), all-holds s (λ k l. h (suc k) (suc-le-suc l)))
-
-  pub all-fails : (s : List ℕ) (i : ℕ) → i < length s → f (get_or s i 0) ≡ false → all f s ≡ false
-  unfolding all
-  all-fails [] i l h = absurd (not-suc-le-zero l)
-  all-fails (a ∷ s) zero l h = rw h
-  all-fails (a ∷ s) (suc i) l h = rw (all-fails s i (le_of_suc-le-suc l) h, and-false)
-
   -- what holds of all holds of each
   pub all-each : (s : List ℕ) → all f s ≡ true → (k : ℕ) → k < length s → f (get_or s k 0) ≡ true
   unfolding all
@@ -123,10 +143,6 @@ module _ (s : List ℕ) where
 
 -- BEGINNINGS
 
-pub prefix-short : (s p : List ℕ) → length s < length p → has_prefix s p ≡ false
-unfolding has_prefix
-prefix-short s p h = different (take (length p) s) p (λ e. omega (arith, ap length e, length-take (length p) s))
-
 -- equal to two parts: begun by the first, and followed by the second
 pub same-append : (s p t : List ℕ) → same s (p ++ t) ≡ (has_prefix s p && same (drop (length p) s) t)
 unfolding has_prefix
@@ -142,6 +158,30 @@ same-append s p t = both_ways (same s (p ++ t)) (same (take (length p) s) p && s
         let a = same-eq _ _ (and_left (same (take (length p) s) p) (same (drop (length p) s) t) h) in
         let b = same-eq _ _ (and_right (same (take (length p) s) p) (same (drop (length p) s) t) h) in
         equal-same s (p ++ t) (sym (take-append-drop (length p) s) ∙ rw (a, b))
+
+-- ENDS
+
+abbrev pub front_but : ℕ → List ℕ → List ℕ
+front_but n s = take (length s - n) s
+
+abbrev pub back : ℕ → List ℕ → List ℕ
+back n s = drop (length s - n) s
+
+-- equal to two parts: ended by the second, and begun by the first
+pub same_ended : (s u t : List ℕ) → same s (u ++ t) ≡ (pointwise eqb (back (length t) s) t && same (front_but (length t) s) u)
+same_ended s u t = rw same_is (both_ways (same s (u ++ t)) (same (back (length t) s) t && same (front_but (length t) s) u) there behind)
+  where
+    there : same s (u ++ t) ≡ true → (same (back (length t) s) t && same (front_but (length t) s) u) ≡ true
+    there h =
+        let e = same-eq s (u ++ t) h in
+        let n : length (u ++ t) - length t ≡ length u = omega (arith, length-append u t) in
+        rw (e, n, take-append_seam, drop-append_seam, same_refl t, same_refl u)
+
+    behind : (same (back (length t) s) t && same (front_but (length t) s) u) ≡ true → same s (u ++ t) ≡ true
+    behind h =
+        let a = same-eq _ _ (and_left (same (back (length t) s) t) (same (front_but (length t) s) u) h) in
+        let b = same-eq _ _ (and_right (same (back (length t) s) t) (same (front_but (length t) s) u) h) in
+        equal-same s (u ++ t) (sym (take-append-drop (length s - length t) s) ∙ rw (a, b))
 
 -- PARTS
 

@@ -1,6 +1,8 @@
 -- A number in decimal, and a unit's name. Assumes nothing.
-use Rattle.std.specs.Prelude.{ℕ, zero, suc, ◌+◌, ◌-◌, ◌*◌, ◌/◌, ◌%◌, ◌^◌, ◌<◌, ◌≤◌, cond, ◌≡◌, refl, List, [], ◌∷◌, ◌++◌, ltb, length, take, drop, set}
-use Rattle.std.proofs.Common.{sym, ap, ◌∙◌, append_assoc, append-nil, not-suc-le-zero, pow-suc, arith, lt-ltb, le-ltb, length-append, length-set, drop-cons, drop-set-lt, get_or-set_same, take-add}
+use Rattle.std.specs.Prelude.{ℕ, zero, suc, ◌+◌, ◌-◌, ◌*◌, ◌/◌, ◌%◌, ◌^◌, ◌<◌, ◌≤◌, cond, ◌≡◌, refl, List, [], ◌∷◌, ◌++◌, ltb, length, take, drop, set, replicate}
+use Rattle.std.proofs.Common.{sym, ap, ◌∙◌, append_assoc, append-nil, not-suc-le-zero, pow-suc, arith, lt-ltb, le-ltb, length-append, length-set, drop-cons, drop-drop, drop-set-lt, get_or-set_same, take-add}
+use Rattle.std.proofs.lemmas.List.{take-set-le, drop-replicate}
+use Rattle.std.proofs.Math.Nat.{one-le-pow}
 use Rattle.std.proofs.Math.Decide.{dec_lt}
 use Rattle.names.specs.Bytes.{ascii}
 
@@ -82,22 +84,18 @@ width_one n h = rw (decimal-one n h)
 pub width-more : (n : ℕ) → 10 ≤ n → width n ≡ suc (width (n / 10))
 width-more n h = rw (decimal-more n h) (simp length-append (omega arith))
 
--- a number with k digits counted and `rest` left, below 10 ^ 20 at the start
-pub width_room : (k rest : ℕ) → k ≤ 20 → rest < 10 ^ (21 - k) → 10 ≤ rest → k < 20
-width_room k rest h l t = go (dec_lt k 20)
-  where
-    go : Dec (k < 20) → k < 20
-    go (yes s) = s
-    go (no s) =
-        let z : k ≡ 20 = omega arith in
-        let one : rest < 10 = rw z at l in
-        absurd (omega arith)
+-- by its logarithm
+pub width_is : (k n : ℕ) → 10 ^ k ≤ n → n < 10 * 10 ^ k → width n ≡ suc k
+width_is zero n h l = width_one n (omega arith)
+width_is (suc k) n h l =
+    let p : 10 ^ suc k ≡ 10 ^ k * 10 = pow-suc 10 k in
+    let q = one-le-pow k 10 (omega arith) in
+    width-more n (omega arith) ∙ ap suc (width_is k (n / 10) (omega arith) (omega arith))
 
-pub width_falls : (k rest : ℕ) → k < 20 → rest < 10 ^ (21 - k) → rest / 10 < 10 ^ (21 - (k + 1))
-width_falls k rest h l =
-    let z : 21 - k ≡ suc (21 - (k + 1)) = omega arith in
-    let p : 10 ^ (21 - k) ≡ 10 ^ (21 - (k + 1)) * 10 = rw z (pow-suc 10 (21 - (k + 1))) in
-    omega arith
+pub width_zero : width 0 ≡ 1
+width_zero = width_one 0 (omega arith)
+
+pub ruleset digits_counted = (width_is, width_zero)
 
 pub width_some : (n : ℕ) → 0 < width n
 width_some n = go (dec_lt n 10)
@@ -130,41 +128,72 @@ front-step (suc (suc j)) rest h l =
     go (yes s) = absurd (omega (arith, width_one rest s))
     go (no s) = (decimal-more rest (omega arith), omega (arith, width-more rest (omega arith)))
 
+front_is : (id k : ℕ) → k ≡ width id → front k id ≡ decimal id
+unfolding front
+front_is id zero e = absurd (omega (arith, width_some id))
+front_is id (suc k) e = refl
+
+front-all : (id k : ℕ) → k ≡ width id → length (front k id) ≡ k
+unfolding front
+front-all id zero e = refl
+front-all id (suc k) e = sym e
+
 -- one digit more in place: the bytes from p on, of which n are written
 pub slice_step : (l : List ℕ) (p n d : ℕ) → suc p + n ≤ length l
     → take (suc n) (drop p (set l p d)) ≡ d ∷ take n (drop (suc p) l)
 slice_step l p n d h =
     rw (drop-cons (set l p d) p 0 (simp length-set (omega arith)), get_or-set_same l p d 0 (omega arith), drop-set-lt (suc p) l p d (omega arith))
 
--- the digits to come, and those in place after `unit_`
-unfoldable pub filled : List ℕ → ℕ → ℕ → ℕ → List ℕ
-filled bytes k i rest = front i rest ++ take (k - i) (drop (5 + i) bytes)
+-- a unit's name of n bytes, of which those from i on are written, and `rest` is left
+pub record Written (id n i rest : ℕ) (bytes : List ℕ) : Type 0 where
+  pub whole : length bytes ≡ 25
+  pub led : take 5 bytes ≡ ascii "unit_"
+  pub clear : drop n bytes ≡ replicate (25 - n) 0
+  pub within : 5 ≤ i
+  pub left : length (front (i - 5) rest) ≡ i - 5
+  pub so_far : front (i - 5) rest ++ take (n - i) (drop i bytes) ≡ decimal id
 
-pub unit-start : (bytes : List ℕ) (k id : ℕ) → 0 < k → filled bytes k k id ≡ decimal id
-unfolding filled front
-unit-start bytes zero id h = absurd (omega arith)
-unit-start bytes (suc k) id h = let z : suc k - suc k ≡ 0 = omega arith in rw z (append-nil _)
+pub written_none : (id k : ℕ) → k ≡ width id → k ≤ 20 → Written id (5 + k) (5 + k) id (ascii "unit_" ++ replicate 20 0)
+unfolding ascii
+written_none id k e h =
+    let z : 5 + k - 5 ≡ k = omega arith in
+    let y : 5 + k - (5 + k) ≡ 0 = omega arith in
+    record {
+      whole = refl;
+      led = refl;
+      clear =
+          let x : 25 - (5 + k) ≡ 20 - k = omega arith in
+          sym (drop-drop k 5 (ascii "unit_" ++ replicate 20 0)) ∙ rw x (drop-replicate k 20 0);
+      within = omega arith;
+      left = rw z (front-all id k e);
+      so_far = rw (z, y) (append-nil (front k id) ∙ front_is id k e);
+    }
 
-pub unit-front : (k id : ℕ) → 0 < k → k ≡ width id → length (front k id) ≡ k
-unfolding front
-unit-front zero id h e = refl
-unit-front (suc k) id h e = sym e
-
-pub unit-done : (bytes : List ℕ) (id k i rest : ℕ) → i ≡ 0 → take 5 bytes ≡ ascii "unit_" → filled bytes k i rest ≡ decimal id
-    → take (5 + k) bytes ≡ unit_name id
-unfolding filled front unit_name
-unit-done bytes id k i rest z u f =
-    let y : k - 0 ≡ k = omega arith in
-    let g : take (k - 0) (drop 5 bytes) ≡ decimal id = rw z at f in
-    take-add 5 k bytes ∙ rw (u, ← g, y)
-
-pub unit-step : (bytes : List ℕ) (id k i rest : ℕ) → k ≤ 20 → length bytes ≡ 25 → 0 < i → i ≤ k → length (front i rest) ≡ i
-    → filled bytes k i rest ≡ decimal id → filled (set bytes (5 + (i - 1)) (48 + rest % 10)) k (i - 1) (rest / 10) ≡ decimal id
-unfolding filled
-unit-step bytes id k i rest short room h l n f =
-    let z : k - (i - 1) ≡ suc (k - i) = omega arith in
-    let y : suc (5 + (i - 1)) ≡ 5 + i = omega arith in
+-- a digit more
+pub written_more : (id n i rest : ℕ) (bytes : List ℕ) → 5 < i → i ≤ n → n ≤ 25 → Written id n i rest bytes
+    → Written id n (i - 1) (rest / 10) (set bytes (i - 1) (48 + rest % 10))
+written_more id n i rest bytes a h short w =
     let d = 48 + rest % 10 in
-    let s = slice_step bytes (5 + (i - 1)) (k - i) d (omega arith) in
-    rw (z, s, y)
-    (sym (append_assoc (front (i - 1) (rest / 10)) (d ∷ []) (take (k - i) (drop (5 + i) bytes))) ∙ rw (← (front-step i rest h n).0) f)
+    let z : i - 1 - 5 ≡ i - 5 - 1 = omega arith in
+    let y : n - (i - 1) ≡ suc (n - i) = omega arith in
+    let x : suc (i - 1) ≡ i = omega arith in
+    let f = front-step (i - 5) rest (omega arith) w.left in
+    let s = slice_step bytes (i - 1) (n - i) d (omega (arith, w.whole)) in
+    record {
+      whole = length-set bytes (i - 1) d ∙ w.whole;
+      led = take-set-le 5 bytes (i - 1) d (omega arith) ∙ w.led;
+      clear = drop-set-lt n bytes (i - 1) d (omega arith) ∙ w.clear;
+      within = omega arith;
+      left = rw z f.1;
+      so_far =
+          rw (z, y, s, x)
+          (sym (append_assoc (front (i - 5 - 1) (rest / 10)) (d ∷ []) (take (n - i) (drop i bytes))) ∙ rw (← f.0) w.so_far);
+    }
+
+pub written_all : (id n i rest : ℕ) (bytes : List ℕ) → i ≤ 5 → 5 ≤ n → Written id n i rest bytes → take n bytes ≡ unit_name id
+unfolding front unit_name
+written_all id n i rest bytes h long w =
+    let z : i ≡ 5 = omega (arith, w.within) in
+    let g : take (n - 5) (drop 5 bytes) ≡ decimal id = rw z at w.so_far in
+    let y : 5 + (n - 5) ≡ n = omega arith in
+    rw (← y) (take-add 5 (n - 5) bytes ∙ rw (w.led, g))

@@ -1,10 +1,10 @@
 -- The identifier form: 1 to 32 ASCII letters, digits or `_`, no leading digit. Assumes nothing.
-use Rattle.std.specs.Prelude.{ℕ, zero, suc, ◌≤◌, ◌<◌, ◌≡◌, refl, Bool, true, false, cond, ◌&&◌, ◌||◌, not, List, [], ◌∷◌, eqb, leb, length, get_or}
+use Rattle.std.specs.Prelude.{ℕ, zero, suc, ◌≤◌, ◌<◌, ◌≡◌, refl, Bool, true, false, cond, ◌&&◌, ◌||◌, not, List, [], ◌∷◌, eqb, leb, length, get_or, drop}
 use Rattle.std.proofs.Common.{zero-le, suc-le-suc, not-suc-le-zero, le_of_suc-le-suc, arith, sym, ◌∙◌, le-leb, leb-true, eq-eqb, ne_eqb, eqb-true}
 use Rattle.std.proofs.Math.Decide.{dec_lt}
 use Rattle.std.proofs.Math.Bool.{and-false}
 use Rattle.std.proofs.lemmas.Bool.{lt-leb}
-use Rattle.names.specs.Bytes.{all, all-holds, all-fails, all-each, and_left, and_right, false_true}
+use Rattle.names.specs.Bytes.{all, all-each, and_left, and_right, false_true}
 
 -- the most bytes that an identifier, and a path's component, may have
 abbrev pub name_limit : ℕ
@@ -49,18 +49,6 @@ unfolding class letter digit
 class-digit b h k =
     simp (under_range 65 90 b (omega arith), under_range 97 122 b (omega arith), ne_eqb b 95 (λ e. omega arith), in_range 48 57 b h k)
 
-pub class_upper : (b : ℕ) → 65 ≤ b → b ≤ 90 → class b ≡ 1
-unfolding class letter
-class_upper b h k = simp (in_range 65 90 b h k)
-
-pub class_lower : (b : ℕ) → 97 ≤ b → b ≤ 122 → class b ≡ 1
-unfolding class letter
-class_lower b h k = simp (over_range 65 90 b (omega arith), in_range 97 122 b h k)
-
-pub class-line : (b : ℕ) → b ≡ 95 → class b ≡ 1
-unfolding class letter
-class-line b e = simp (over_range 65 90 b (omega arith), under_range 97 122 b (omega arith), eq-eqb b 95 e)
-
 -- the bytes that stand between those
 pub class-other : (b : ℕ) → (48 ≤ b → 58 ≤ b) → (65 ≤ b → 91 ≤ b) → (97 ≤ b → 123 ≤ b) → (b ≡ 95 → ⊥) → class b ≡ 0
 unfolding class letter digit
@@ -73,36 +61,16 @@ class-other b d u l n =
 
 -- IDENTIFIERS
 
+-- a first byte and those after it
+pub identifier_is : (s : List ℕ) → 1 ≤ length s → is_identifier s ≡ (leb (length s) name_limit && (eqb (class (get_or s 0 0)) 1 && all inside (drop 1 s)))
+unfolding is_identifier
+identifier_is [] h = absurd (omega arith)
+identifier_is (b ∷ s) h = refl
+
 pub no_identifier : (s : List ℕ) → length s ≡ 0 → is_identifier s ≡ false
 unfolding is_identifier
 no_identifier [] h = refl
 no_identifier (b ∷ s) h = absurd (omega arith)
-
-pub long-identifier : (s : List ℕ) → name_limit < length s → is_identifier s ≡ false
-unfolding is_identifier
-long-identifier [] h = refl
-long-identifier (b ∷ s) h = simp (lt-leb _ _ h)
-
-pub wrong_start : (s : List ℕ) → (class (get_or s 0 0) ≡ 1 → ⊥) → is_identifier s ≡ false
-unfolding is_identifier
-wrong_start [] h = refl
-wrong_start (b ∷ s) h = simp (ne_eqb _ _ h, and-false)
-
-pub wrong_byte : (s : List ℕ) (i : ℕ) → 1 ≤ i → i < length s → class (get_or s i 0) ≡ 0 → is_identifier s ≡ false
-unfolding is_identifier
-wrong_byte [] i n h e = refl
-wrong_byte (b ∷ s) zero n h e = absurd (omega arith)
-wrong_byte (b ∷ s) (suc i) n h e =
-    let f : all inside s ≡ false = all-fails inside s i (le_of_suc-le-suc h) (simp (eq-eqb _ _ e)) in
-    simp (f, and-false)
-
-pub right-bytes : (s : List ℕ) → length s ≤ name_limit → (length s ≡ 0 → ⊥) → class (get_or s 0 0) ≡ 1
-    → ((k : ℕ) → k < length s → 1 ≤ k → class (get_or s k 0) ≡ 0 → ⊥) → is_identifier s ≡ true
-unfolding is_identifier
-right-bytes [] n m e f = absurd (m refl)
-right-bytes (b ∷ s) n m e f =
-    let g : all inside s ≡ true = all-holds inside s (λ k h. simp (ne_eqb _ _ (f (suc k) (suc-le-suc h) (omega arith)))) in
-    simp (le-leb _ _ n, eq-eqb _ _ e, g)
 
 -- an identifier's bytes: at most 32, none of them zero
 pub identifier-short : (s : List ℕ) → is_identifier s ≡ true → length s ≤ name_limit

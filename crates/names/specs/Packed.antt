@@ -95,14 +95,6 @@ limit_7 (suc (suc (suc (suc (suc (suc zero)))))) h = lit≤ tt
 limit_7 (suc (suc (suc (suc (suc (suc (suc zero))))))) h = lit≤ tt
 limit_7 (suc (suc (suc (suc (suc (suc (suc (suc n)))))))) h = absurd (omega arith)
 
-pub word_more : (l : List ℕ) (k n : ℕ) → word l k (n + 1) ≡ word l k n * 256 + get_or l (k + n) 0
-unfolding word
-word_more l k n = rw add-one refl
-
-pub limit-more : (n : ℕ) → limit (n + 1) ≡ limit n * 256
-unfolding limit
-limit-more n = rw add-one refl
-
 -- EQUALITY OF NAMES, BOTH WAYS
 
 pub same_names : (a b : Name) → a ≡ b → same_name a b ≡ true
@@ -125,8 +117,3 @@ names_same a b h =
     let e₃ : a.w3 ≡ b.w3 = eqb-true _ _ (and_right (eqb a.w2 b.w2) (eqb a.w3 b.w3) h₂) in
     let e : of a.w0 a.w1 a.w2 a.w3 ≡ of b.w0 b.w1 b.w2 b.w3 = cc in
     e
-
--- the first three words are equal
-pub last_word : (a b : Name) → a.w0 ≡ b.w0 → a.w1 ≡ b.w1 → a.w2 ≡ b.w2 → eqb a.w3 b.w3 ≡ same_name a b
-unfolding same_name
-last_word a b e₀ e₁ e₂ = rw (eq-eqb a.w0 b.w0 e₀, eq-eqb a.w1 b.w1 e₁, eq-eqb a.w2 b.w2 e₂)

@@ -1,6 +1,6 @@
 -- Steps of the functions on paths: a component test after the other, and lengths. Assumes nothing.
-use Rattle.std.specs.Prelude.{ℕ, suc, ◌+◌, ◌-◌, ◌≤◌, ◌<◌, Bool, cond, ◌&&◌, not, ◌≡◌, eqb, leb, get_or, take, drop}
-use Rattle.std.proofs.Common.{arith, ◌∙◌, drop-drop, get_or-drop, length-take-le}
+use Rattle.std.specs.Prelude.{ℕ, suc, ◌+◌, ◌-◌, ◌≤◌, ◌<◌, Bool, cond, ◌&&◌, ◌||◌, not, ◌≡◌, eqb, leb, ltb, get_or, take, drop}
+use Rattle.std.proofs.Common.{arith, ◌∙◌, append_assoc, drop-drop, get_or-drop, length-take-le}
 use Rattle.std.proofs.Math.Decide.{dec_le}
 use Rattle.std.proofs.Math.Bool.{true, false, and-false, and-true}
 use Rattle.std.proofs.Math.Path.{refl, sym, ap}
@@ -8,11 +8,14 @@ use mathlib.Core.List.{List, [], ◌∷◌, ◌++◌}
 use Rattle.std.proofs.Math.Dec.{eqb-suc-suc, leb-suc-suc, leb-suc-zero, leb-zero}
 use Rattle.std.proofs.Math.ListN.{length, length-append, length-drop, get_or-eq_default}
 use borrow.Author.Tests.{eq-eqb, ne_eqb, eqb-true, lt-ltb, le-ltb, le-leb, lt-leb}
-use Rattle.names.specs.Bytes.{ascii, slash, same, same-eq, same-append, different, has_prefix, all}
+use Rattle.std.proofs.lemmas.Bool.Decides.{nat_tests}
+use Rattle.std.specs.List.{list_any}
+use Rattle.std.specs.Cmp.Lexicographic.{pointwise}
+use Rattle.names.specs.Bytes.{length_rest, ascii, slash, same, same-eq, same-append, different, has_prefix, same_is, same_ended, front_but, back, all}
 use Rattle.names.specs.Path.{split, components, render, root, printable, is_component, well_formed, is_path, component_limit, path_limit}
 use Rattle.names.specs.Identifier.{name_limit}
 use Rattle.names.specs.Prefix.{begins, starts_with, init, parent, depth, directly_in, stem_of, child}
-use Rattle.names.specs.Pieces.{first_slash, later, split-is, leads, begins-leads, not_root, root-byte}
+use Rattle.names.specs.Pieces.{first_slash, later, split-is, leads, begins-leads, not_root}
 use Rattle.names.specs.Split.{slashes, length-split, init-split, init-none, render-split}
 
 -- at most n components
@@ -27,29 +30,32 @@ fits-cons n c cs = rw leb-suc-suc (swap (leb (length cs) n) (is_component c) (al
     swap true b d = refl
     swap false b d = sym (and-false b)
 
--- the bytes from `at` on, of which k stand before the first slash, with the n components that may still come
-module _ (s : List ℕ) (at : ℕ) (rest : List ℕ) (r : rest ≡ drop at s) (k : ℕ) (f : k ≡ first_slash rest) (n n' : ℕ) (e : n ≡ suc n') where
-  one_more : fits n (split (drop at s)) ≡ (is_component (take k rest) && fits n' (later rest))
-  one_more = rw (← r, e, f, split-is rest) (fits-cons n' _ _)
+-- what follows the first piece
+fits-later : (n : ℕ) (s : List ℕ) → fits n (later s) ≡ cond (ltb (first_slash s) (length s)) (fits n (split (drop 1 (drop (first_slash s) s)))) true
+unfolding later fits all
+fits-later n s = go (ltb (first_slash s) (length s))
+  where
+    go : (t : Bool) → fits n (cond t (split (drop (first_slash s + 1) s)) []) ≡ cond t (fits n (split (drop 1 (drop (first_slash s) s)))) true
+    go true = simp drop-drop
+    go false = simp leb-zero
 
-  pub fits-bad : is_component (take k rest) ≡ false → fits n (split (drop at s)) ≡ false
-  fits-bad h = one_more ∙ rw h
+-- one piece after i components
+pub fits_step : (s : List ℕ) (i : ℕ) → i < component_limit → fits (component_limit - i) (split s) ≡
+    (is_component (take (first_slash s) s) && cond (ltb (first_slash s) (length s)) (fits (component_limit - (i + 1)) (split (drop 1 (drop (first_slash s) s)))) true)
+fits_step s i h =
+    let n = component_limit - (i + 1) in
+    let e : component_limit - i ≡ suc n = omega arith in
+    rw (e, split-is s) (fits-cons n _ _) ∙ ap (λ (t : Bool). is_component (take (first_slash s) s) && t) (fits-later n s)
 
-  pub fits_last : is_component (take k rest) ≡ true → k ≡ length rest → fits n (split (drop at s)) ≡ true
-  unfolding later fits all
-  fits_last h l = one_more ∙ rw h (simp (le-ltb (first_slash rest) (length rest) (omega arith), leb-zero))
-
-  pub fits_more : is_component (take k rest) ≡ true → k < length rest → fits n (split (drop at s)) ≡ fits n' (split (drop (at + (k + 1)) s))
-  unfolding later
-  fits_more h l = one_more ∙ rw (h, ← f, lt-ltb k (length rest) l) (simp (r, drop-drop))
-
-pub fits-none : (s : List ℕ) → fits 0 (split s) ≡ false
+pub fits_none : (s : List ℕ) (i : ℕ) → component_limit ≤ i → fits (component_limit - i) (split s) ≡ false
 unfolding fits
-fits-none s = rw (split-is s, leb-suc-zero)
+fits_none s i h = let e : component_limit - i ≡ 0 = omega arith in rw (e, split-is s, leb-suc-zero)
 
-pub fits-first : (s : List ℕ) → well_formed (split s) ≡ fits (component_limit - 0) (split (drop 0 s))
+pub fits-first : (s : List ℕ) → well_formed (split s) ≡ fits (component_limit - 0) (split s)
 unfolding fits well_formed
 fits-first s = refl
+
+pub ruleset piece_by_piece = (fits-first, fits_step, fits_none, nat_tests)
 
 -- HOW MANY COMPONENTS
 
@@ -90,119 +96,67 @@ module _ (s : List ℕ) where
           let n : length (drop 1 s) ≡ length s - 1 = length-drop 1 s in
           rw (init-none (drop 1 s) (λ k l q. f (1 + k) (omega arith) (omega arith) (sym (get_or-drop 1 s k 0) ∙ q)))
 
+pub ruleset last_slash = (parent-at, parent-none)
+
 -- STARTS WITH
 
-module _ (f p : List ℕ) where
-  pub starts-root : same p root ≡ true → starts_with f p ≡ true
-  unfolding starts_with components begins
-  starts-root h = rw h
-
-  pub root-starts : same p root ≡ false → same f root ≡ true → starts_with f p ≡ false
-  unfolding starts_with components begins
-  root-starts h k = rw (h, k, split-is (drop 1 p))
-
-  pub starts-pieces : same p root ≡ false → same f root ≡ false → starts_with f p ≡ begins (split (drop 1 f)) (split (drop 1 p))
-  unfolding starts_with components
-  starts-pieces h k = rw (h, k)
-
--- a loop that counts down: what holds from i on, and at i - 1, holds from i - 1 on
-pub above_more : (P : ℕ → Type 0) (i : ℕ) → ((k : ℕ) → i ≤ k → P k) → P (i - 1) → (k : ℕ) → i - 1 ≤ k → P k
-above_more P i f p k h = go (dec_le i k)
+-- the root first, then the pieces
+pub starts_with_is : (f p : List ℕ) → starts_with f p ≡ (same p root || (not (same f root) && begins (split (drop 1 f)) (split (drop 1 p))))
+unfolding starts_with components begins
+starts_with_is f p = go (same p root) (same f root)
   where
-    go : Dec (i ≤ k) → P k
-    go (yes l) = f k l
-    go (no l) = let z : k ≡ i - 1 = omega arith in rw z p
+    go : (t u : Bool) → begins (cond u [] (split (drop 1 f))) (cond t [] (split (drop 1 p))) ≡ (t || (not u && begins (split (drop 1 f)) (split (drop 1 p))))
+    go true u = refl
+    go false true = rw split-is
+    go false false = refl
 
--- ONE COMPONENT
-
-module _ (c : List ℕ) where
-  pub empty_component : length c ≡ 0 → is_component c ≡ false
-  unfolding is_component
-  empty_component h = simp (lt-leb 1 (length c) (omega arith))
-
-  pub long_component : name_limit < length c → is_component c ≡ false
-  unfolding is_component
-  long_component h = simp (lt-leb _ _ h, and-false)
-
-  pub unprintable_component : all printable c ≡ false → is_component c ≡ false
-  unfolding is_component
-  unprintable_component h = simp (h, and-false)
-
-  pub dot_component : same c (ascii ".") ≡ true → is_component c ≡ false
-  unfolding is_component
-  dot_component h = simp (h, and-false)
-
-  pub component_but_dots : (length c ≡ 0 → ⊥) → length c ≤ name_limit → all printable c ≡ true → same c (ascii ".") ≡ false
-      → is_component c ≡ not (same c (ascii ".."))
-  unfolding is_component
-  component_but_dots a b p d = simp (le-leb 1 (length c) (omega arith), le-leb _ _ b, p, d)
+pub ruleset root_or_pieces = (starts_with_is, nat_tests)
 
 -- THE FORM OF A PATH
 
-module _ (s : List ℕ) where
-  pub led_wrong : (get_or s 0 0 ≡ slash → ⊥) → is_path s ≡ false
-  unfolding is_path
-  led_wrong h = simp (ne_eqb _ _ h)
+root_is : (s : List ℕ) → get_or s 0 0 ≡ slash → same s root ≡ eqb (length s) 1
+unfolding same
+root_is [] e = absurd (omega arith)
+root_is (b ∷ []) e = rw (eq-eqb b slash e)
+root_is (b ∷ (d ∷ s)) e = rw (and-false (eqb b slash)) (sym (ne_eqb (suc (suc (length s))) 1 (λ z. omega arith)))
 
-  pub empty-path : length s ≡ 0 → is_path s ≡ false
-  empty-path h = led_wrong (λ e. omega (arith, get_or-eq_default s 0 {n = 0} (omega arith)))
+-- a slash, and the bytes after it
+pub path_is : (s : List ℕ) → is_path s ≡ (eqb (get_or s 0 0) slash && (leb (length s) path_limit && (eqb (length s) 1 || well_formed (split (drop 1 s)))))
+unfolding is_path components well_formed all
+path_is s = go (eqb (get_or s 0 0) slash) refl
+  where
+    root_or : (t : Bool) → well_formed (cond t [] (split (drop 1 s))) ≡ (t || well_formed (split (drop 1 s)))
+    root_or true = refl
+    root_or false = refl
 
-  pub long_path : path_limit < length s → is_path s ≡ false
-  unfolding is_path
-  long_path h = simp (lt-leb _ _ h, and-false)
+    go : (t : Bool) → eqb (get_or s 0 0) slash ≡ t → (t && (leb (length s) path_limit && well_formed (cond (same s root) [] (split (drop 1 s)))))
+        ≡ (t && (leb (length s) path_limit && (eqb (length s) 1 || well_formed (split (drop 1 s)))))
+    go true h = rw (root_is s (eqb-true _ _ h)) (ap (λ (t : Bool). leb (length s) path_limit && t) (root_or (eqb (length s) 1)))
+    go false h = refl
 
-  pub root_path : length s ≡ 1 → get_or s 0 0 ≡ slash → is_path s ≡ true
-  unfolding is_path components well_formed all
-  root_path h e =
-      let r : same s root ≡ true = sym (root-byte s h) ∙ eq-eqb _ _ e in
-      rw (eq-eqb _ _ e, le-leb (length s) path_limit (omega arith), r)
+pub root_path : (s : List ℕ) → length s ≡ 1 → get_or s 0 0 ≡ slash → is_path s ≡ true
+root_path s h e = path_is s ∙ rw (eq-eqb _ _ e, h, le-leb 1 path_limit (omega arith))
 
-  pub path-is : get_or s 0 0 ≡ slash → length s ≤ path_limit → (length s ≡ 1 → ⊥) → is_path s ≡ well_formed (split (drop 1 s))
-  unfolding is_path components
-  path-is e h n = rw (eq-eqb _ _ e, le-leb _ _ h, not_root s n)
+pub ruleset slash_and_rest = (path_is, length_rest, nat_tests)
 
 -- BELOW A FOLDER
 
-pub stem_root : (d : List ℕ) → same d root ≡ true → drop 1 d ≡ stem_of d
-unfolding stem_of
-stem_root d h = let e = same-eq d root h in rw (h, e)
+-- from the end on: the ending, the name, the slash and the folder
+abbrev pub child_test : List ℕ → List ℕ → List ℕ → List ℕ → Bool
+child_test p base name ending =
+    let q = front_but (length ending) p in
+    let r = front_but (length name) q in
+    pointwise eqb (back (length ending) p) ending
+    && (pointwise eqb (back (length name) q) name && (pointwise eqb (back 1 r) root && same (front_but 1 r) base))
 
-pub stem_other : (d : List ℕ) → same d root ≡ false → d ≡ stem_of d
-unfolding stem_of
-stem_other d h = rw h
+pub child_is : (p d name ending : List ℕ) → same p (child d (name ++ ending)) ≡ child_test p (stem_of d) name ending
+unfolding child
+child_is p d name ending =
+    let e : stem_of d ++ (slash ∷ (name ++ ending)) ≡ ((stem_of d ++ root) ++ name) ++ ending = simp append_assoc in
+    rw (e, same_ended p ((stem_of d ++ root) ++ name) ending, same_ended (front_but (length ending) p) (stem_of d ++ root) name)
+    (rw (same_ended (front_but (length name) (front_but (length ending) p)) (stem_of d) root))
 
-module _ (p d name ending base : List ℕ) (eb : base ≡ stem_of d) where
-  child-parts : same p (child d (name ++ ending)) ≡
-      (has_prefix p base && (has_prefix (drop (length base) p) root
-      && (has_prefix (drop 1 (drop (length base) p)) name && same (drop (length name) (drop 1 (drop (length base) p))) ending)))
-  unfolding child
-  child-parts =
-      rw (← eb)
-      (same-append p base (slash ∷ (name ++ ending))
-      ∙ ap (λ (t : Bool). has_prefix p base && t)
-      (same-append (drop (length base) p) root (name ++ ending)
-      ∙ ap (λ (t : Bool). has_prefix (drop (length base) p) root && t) (same-append (drop 1 (drop (length base) p)) name ending)))
-
-  -- a path of another length
-  pub child-longer : (length p ≡ length base + (1 + (length name + length ending)) → ⊥) → same p (child d (name ++ ending)) ≡ false
-  unfolding child
-  child-longer f = rw (← eb) (different p (base ++ (slash ∷ (name ++ ending))) (λ e. f (ap length e ∙ (let a = length-append base (slash ∷ (name ++ ending)) in let b = length-append name ending in omega arith))))
-
-  module _ (rest : List ℕ) (er : rest ≡ drop (length base) p) (last : List ℕ) (el : last ≡ drop 1 rest) (end : List ℕ) (ee : end ≡ drop (length name) last) where
-    child-tests : same p (child d (name ++ ending)) ≡ (has_prefix p base && (has_prefix rest root && (has_prefix last name && same end ending)))
-    child-tests = rw (ee, el, er) child-parts
-
-    pub child-ended : same end ending ≡ false → same p (child d (name ++ ending)) ≡ false
-    child-ended h = child-tests ∙ simp (h, and-false)
-
-    pub child-named : has_prefix last name ≡ false → same p (child d (name ++ ending)) ≡ false
-    child-named h = child-tests ∙ simp (h, and-false)
-
-    pub child-led : has_prefix rest root ≡ false → same p (child d (name ++ ending)) ≡ false
-    child-led h = child-tests ∙ simp (h, and-false)
-
-    pub child-is : same end ending ≡ true → has_prefix last name ≡ true → has_prefix rest root ≡ true → same p (child d (name ++ ending)) ≡ has_prefix p base
-    child-is h k l = child-tests ∙ rw (h, k, l) (and-true _)
+pub ruleset from_the_end = (child_is, nat_tests)
 
 -- DIRECTLY IN A FOLDER
 
@@ -227,38 +181,33 @@ in_pieces (x ∷ a) (y ∷ b) = go (eqb x y) refl (in_pieces a b)
     go true h e = rw (eqb-true x y h, more (eqb y slash) (slashes a) (slashes b)) e
     go false h e = refl
 
--- no slash, where the first one is at the end
-no_slashes : (s : List ℕ) → eqb (first_slash s) (length s) ≡ eqb (slashes s) 0
-unfolding slashes first_slash
-no_slashes [] = refl
-no_slashes (b ∷ s) = go (eqb b slash) (no_slashes s)
+-- std's word for a search for a slash
+no_slash : (s : List ℕ) → eqb (slashes s) 0 ≡ not (list_any (λ b. eqb b slash) s)
+unfolding slashes
+no_slash [] = refl
+no_slash (b ∷ s) = go (eqb b slash) (no_slash s)
   where
-    go : (t : Bool) → eqb (first_slash s) (length s) ≡ eqb (slashes s) 0
-        → eqb (cond t 0 (suc (first_slash s))) (suc (length s)) ≡ eqb (cond t (suc (slashes s)) (slashes s)) 0
-    go true e = ne_eqb 0 (suc (length s)) (λ z. omega arith) ∙ sym (ne_eqb (suc (slashes s)) 0 (λ z. omega arith))
-    go false e = eqb-suc-suc (first_slash s) (length s) ∙ e
+    go : (t : Bool) → eqb (slashes s) 0 ≡ not (list_any (λ b. eqb b slash) s)
+        → eqb (cond t (suc (slashes s)) (slashes s)) 0 ≡ not (t || list_any (λ b. eqb b slash) s)
+    go true e = ne_eqb (suc (slashes s)) 0 (λ z. omega arith)
+    go false e = e
 
-module _ (f d : List ℕ) where
-  pub root_in_none : same f root ≡ true → directly_in f d ≡ false
-  unfolding directly_in
-  root_in_none h = rw (depth-root f h, ne_eqb 0 (suc (depth d)) (λ z. omega arith), and-false)
+-- what stands below the folder holds no slash
+abbrev pub name_test : Bool → List ℕ → List ℕ → Bool
+name_test u a b =
+    cond u (not (list_any (λ c. eqb c slash) a))
+    (pointwise eqb (take (length b) a) b
+    && (pointwise eqb (take 1 (drop (length b) a)) root && not (list_any (λ c. eqb c slash) (drop 1 (drop (length b) a)))))
 
-  module _ (nf : same f root ≡ false) (a : List ℕ) (ea : a ≡ drop 1 f) where
-    pub in_root : same d root ≡ true → directly_in f d ≡ eqb (first_slash a) (length a)
-    unfolding directly_in
-    in_root h = rw (starts-root f d h, depth-root d h, depth_is f nf, ← ea) (eqb-suc-suc (slashes a) 0 ∙ sym (no_slashes a))
+pub directly_in_is : (f d : List ℕ) → directly_in f d ≡ (not (same f root) && name_test (same d root) (drop 1 f) (drop 1 d))
+unfolding directly_in has_prefix
+directly_in_is f d = go (same f root) (same d root) refl refl
+  where
+    go : (t u : Bool) → same f root ≡ t → same d root ≡ u → (starts_with f d && eqb (depth f) (suc (depth d))) ≡ (not t && name_test u (drop 1 f) (drop 1 d))
+    go true u h k = rw (depth-root f h, ne_eqb 0 (suc (depth d)) (λ z. omega arith), and-false)
+    go false true h k = rw (starts_with_is f d, k, depth_is f h, depth-root d k, eqb-suc-suc) (no_slash (drop 1 f))
+    go false false h k =
+        rw (starts_with_is f d, h, k, depth_is f h, depth_is d k, begins-leads, in_pieces (drop 1 f) (drop 1 d), no_slash)
+        (rw (same_is (take (length (drop 1 d)) (drop 1 f)) (drop 1 d), same_is (take 1 (drop (length (drop 1 d)) (drop 1 f))) root))
 
-    module _ (nd : same d root ≡ false) (b : List ℕ) (eb : b ≡ drop 1 d) (rest : List ℕ) (er : rest ≡ drop (length b) a) (last : List ℕ) (el : last ≡ drop 1 rest) where
-      in_tests : directly_in f d ≡ (has_prefix a b && (has_prefix rest root && eqb (first_slash last) (length last)))
-      unfolding directly_in
-      in_tests =
-          rw (starts-pieces f d nd nf, depth_is f nf, depth_is d nd, ← ea, ← eb, begins-leads a b, in_pieces a b, ← er, ← el) (rw (no_slashes last))
-
-      pub in_other : has_prefix rest root ≡ false → directly_in f d ≡ false
-      in_other h = in_tests ∙ simp (h, and-false)
-
-      pub in_deeper : eqb (first_slash last) (length last) ≡ false → directly_in f d ≡ false
-      in_deeper h = in_tests ∙ simp (h, and-false)
-
-      pub in_is : has_prefix rest root ≡ true → eqb (first_slash last) (length last) ≡ true → directly_in f d ≡ has_prefix a b
-      in_is h k = in_tests ∙ rw (h, k) (and-true _)
+pub ruleset below_folder = (directly_in_is, nat_tests)

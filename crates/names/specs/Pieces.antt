@@ -1,9 +1,14 @@
 -- The pieces of a byte string between slashes: found one after the other, and compared byte by byte. Assumes nothing.
-use Rattle.std.specs.Prelude.{ℕ, zero, suc, ◌+◌, ◌≤◌, ◌<◌, Bool, true, false, cond, ◌&&◌, ◌≡◌, refl, List, [], ◌∷◌, eqb, ltb, length, get_or, take, drop}
+use Rattle.std.specs.Prelude.{ℕ, zero, suc, ◌+◌, ◌≤◌, ◌<◌, Bool, true, false, cond, ◌&&◌, ◌||◌, ◌≡◌, refl, List, [], ◌∷◌, eqb, ltb, length, get_or, take, drop, Option}
 use Rattle.std.proofs.Common.{suc-le-suc, not-suc-le-zero, le_of_suc-le-suc, suc-add, arith, add-one, sym, ap, ◌∙◌, drop_of_length-le}
 use Rattle.std.proofs.Math.Bool.{and_assoc, and-false, and-true}
 use Rattle.std.proofs.Math.Dec.{leb-suc-suc}
 use Rattle.std.proofs.Math.Seq.{drop-cons}
+use Rattle.std.specs.Option.{MatchOption, unwrap_or}
+use Rattle.std.specs.Cmp.Lexicographic.{pointwise}
+use Rattle.std.proofs.lemmas.Bool.Decides.{nat_tests}
+use Rattle.std.specs.List.{AllWithin, HoldsAt}
+use Rattle.std.proofs.lemmas.Iterator.{index_from_first}
 use borrow.Author.Tests.{eq-eqb, ne_eqb, eqb-true, eqb-false, lt-ltb}
 use Rattle.names.specs.Bytes.{slash, same, different}
 use Rattle.names.specs.Path.{split, onto, root}
@@ -14,20 +19,22 @@ unfoldable pub first_slash : List ℕ → ℕ
 first_slash [] = 0
 first_slash (b ∷ s) = cond (eqb b slash) 0 (suc (first_slash s))
 
-pub first_found : (s : List ℕ) (i : ℕ) → i < length s → ((k : ℕ) → k < i → get_or s k 0 ≡ slash → ⊥) → get_or s i 0 ≡ slash → first_slash s ≡ i
+-- what `position` finds, or the length
+pub first_slash_is : (s : List ℕ) (r : Option ℕ) → MatchOption r (AllWithin (λ b. b ≡ slash → ⊥) s 0 (length s)) (λ i. (i < length s) × HoldsAt (λ b. b ≡ slash) s i × AllWithin (λ b. b ≡ slash → ⊥) s 0 i)
+    → first_slash s ≡ unwrap_or r (length s)
 unfolding first_slash
-first_found [] i h f e = absurd (not-suc-le-zero h)
-first_found (b ∷ s) zero h f e = simp (eq-eqb _ _ e)
-first_found (b ∷ s) (suc i) h f e =
-    let r = first_found s i (le_of_suc-le-suc h) (λ k l. f (suc k) (suc-le-suc l)) e in
-    simp (ne_eqb _ _ (f 0 (omega arith)), r)
+first_slash_is =
+    index_from_first first_slash (λ b. b ≡ slash) (λ b. b ≡ slash → ⊥) refl
+    (λ b s e. simp (eq-eqb b slash e)) (λ b s n. simp (ne_eqb b slash n) (omega arith))
 
-pub first-none : (s : List ℕ) → ((k : ℕ) → k < length s → get_or s k 0 ≡ slash → ⊥) → first_slash s ≡ length s
+pub first_slash-le : (s : List ℕ) → first_slash s ≤ length s
 unfolding first_slash
-first-none [] f = refl
-first-none (b ∷ s) f =
-    let r = first-none s (λ k l. f (suc k) (suc-le-suc l)) in
-    simp (ne_eqb _ _ (f 0 (omega arith)), r)
+first_slash-le [] = omega arith
+first_slash-le (b ∷ s) = go (eqb b slash) (first_slash-le s)
+  where
+    go : (t : Bool) → first_slash s ≤ length s → cond t 0 (suc (first_slash s)) ≤ suc (length s)
+    go true h = omega arith
+    go false h = omega arith
 
 -- the first piece, and the pieces after the slash that ends it
 unfoldable pub later : List ℕ → List (List ℕ)
@@ -92,40 +99,21 @@ begins-leads (a ∷ f) (b ∷ p) = go (eqb a slash) (eqb b slash) refl refl (beg
         rw (split-is f, ne_eqb a b (λ z. eqb-false a slash h (z ∙ y)))
     go false false h k e = onto-begins a b f p ∙ rw e
 
--- LEADS, BYTE BY BYTE
-
-module _ (f p : List ℕ) where
-  pub leads-step : (i : ℕ) → i < length f → i < length p → get_or f i 0 ≡ get_or p i 0
-      → leads (drop i f) (drop i p) ≡ leads (drop (i + 1) f) (drop (i + 1) p)
-  unfolding leads
-  leads-step i h k e = rw (add-one, drop-cons f i 0 h, drop-cons p i 0 k, eq-eqb _ _ e)
-
-  pub leads_differs : (i : ℕ) → i < length f → i < length p → (get_or f i 0 ≡ get_or p i 0 → ⊥) → leads (drop i f) (drop i p) ≡ false
-  unfolding leads
-  leads_differs i h k e = rw (drop-cons f i 0 h, drop-cons p i 0 k, ne_eqb _ _ e)
-
-pub leads-short : (f p : List ℕ) → length f < length p → leads f p ≡ false
+-- p's bytes, and then the end or a slash
+leads_is : (f p : List ℕ) → leads f p ≡ (pointwise eqb (take (length p) f) p && (eqb (length (drop (length p) f)) 0 || eqb (get_or (drop (length p) f) 0 0) slash))
 unfolding leads
-leads-short f [] h = absurd (not-suc-le-zero h)
-leads-short [] (b ∷ p) h = refl
-leads-short (a ∷ f) (b ∷ p) h = rw (leads-short f p (le_of_suc-le-suc h), and-false)
+leads_is [] [] = refl
+leads_is (a ∷ f) [] = rw (ne_eqb (suc (length f)) 0 (λ z. omega arith))
+leads_is [] (b ∷ p) = refl
+leads_is (a ∷ f) (b ∷ p) = rw (leads_is f p) (sym (and_assoc (eqb a b) _ _))
 
--- at p's end
-pub leads-whole : (f p : List ℕ) (i : ℕ) → length f ≤ i → length p ≤ i → leads (drop i f) (drop i p) ≡ true
-unfolding leads
-leads-whole f p i h k = rw (drop_of_length-le f h, drop_of_length-le p k)
+pub pieces_begin_is : (f p : List ℕ) → begins (split f) (split p) ≡
+    (pointwise eqb (take (length p) f) p && (eqb (length (drop (length p) f)) 0 || eqb (get_or (drop (length p) f) 0 0) slash))
+pieces_begin_is f p = begins-leads f p ∙ leads_is f p
 
-pub leads_on : (f p : List ℕ) (i : ℕ) → i < length f → length p ≤ i → leads (drop i f) (drop i p) ≡ eqb (get_or f i 0) slash
-unfolding leads
-leads_on f p i h k = rw (drop-cons f i 0 h, drop_of_length-le p k)
+pub ruleset bytes_then_slash = (pieces_begin_is, nat_tests)
 
 -- THE LEADING SLASH
 
 pub not_root : (s : List ℕ) → (length s ≡ 1 → ⊥) → same s root ≡ false
 not_root s f = different s root (λ e. f (ap length e))
-
-pub root-byte : (s : List ℕ) → length s ≡ 1 → eqb (get_or s 0 0) slash ≡ same s root
-unfolding same
-root-byte [] h = absurd (omega arith)
-root-byte (b ∷ []) h = sym (and-true _)
-root-byte (b ∷ (d ∷ s)) h = absurd (omega arith)

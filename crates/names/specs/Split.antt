@@ -76,18 +76,3 @@ init-none s f = rw (split_one s f)
 pub render-split : (s : List ℕ) → render (split s) ≡ slash ∷ s
 unfolding render
 render-split s = rw split-is (sym (ap led (split-is s)) ∙ led-split s)
-
--- COUNTED FROM THE FRONT
-
-module _ (s : List ℕ) (i : ℕ) (h : i < length s) where
-  pub slashes-more : get_or s i 0 ≡ slash → slashes (drop i s) ≡ suc (slashes (drop (i + 1) s))
-  unfolding slashes
-  slashes-more e = rw (add-one, drop-cons s i 0 h, eq-eqb _ _ e)
-
-  pub slashes-same : (get_or s i 0 ≡ slash → ⊥) → slashes (drop i s) ≡ slashes (drop (i + 1) s)
-  unfolding slashes
-  slashes-same e = rw (add-one, drop-cons s i 0 h, ne_eqb _ _ e)
-
-pub slashes-none : (s : List ℕ) (i : ℕ) → length s ≤ i → slashes (drop i s) ≡ 0
-unfolding slashes
-slashes-none s i h = rw (drop_of_length-le s h)

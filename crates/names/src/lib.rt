@@ -14,20 +14,13 @@ pub use identifier::is_identifier;
 pub use keyword::{is_crate, is_keyword, is_main};
 pub use packed::{name_of, same_name};
 pub use path::{is_child, is_child_file, is_directly_in, is_path, parent_len, starts_with};
-pub use unit::unit_name;
+pub use unit::{UnitName, unit_name};
 
 // A name as a value: at most 32 bytes in four words, big-endian, zero past the end.
-#[derive(Clone, Copy)]
+#[derive(Clone, Copy, Debug, PartialEq, Eq)]
 pub struct Name {
     pub w0: u64,
     pub w1: u64,
     pub w2: u64,
     pub w3: u64,
-}
-
-// A unit's name: its bytes stand at the start, len of them. Five letters and at most twenty digits fit.
-#[derive(Clone, Copy)]
-pub struct UnitName {
-    pub bytes: [u8; 25],
-    pub len: usize,
 }

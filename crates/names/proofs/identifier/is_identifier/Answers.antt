@@ -1,39 +1,26 @@
--- `names::identifier::is_identifier` meets its contract: the bytes passed are letters, digits or `_`. Assumes nothing.
-use mathlib.Core.Path.{sym, ◌∙◌}
-use native.Mathlib.Omega.{arith}
-use borrow.Author.Count.{below_more}
-use Rattle.names.specs.Identifier.{no_identifier, long-identifier, wrong_start, wrong_byte, right-bytes}
+-- `names::identifier::is_identifier` meets its contract: a first byte, and those after it. Assumes nothing.
+use Rattle.std.proofs.Common.{tests, rules, ◌≡◌, drop, arith, ◌∙◌}
+use Rattle.std.proofs.lemmas.Iterator.{YieldsList-from_slice}
+use Rattle.std.proofs.lemmas.Iterator.Search.{all_from_yields_List}
+use Rattle.std.proofs.lemmas.Bool.Decides.{nat_tests}
+use Rattle.names.specs.Bytes.{rest-is, all, all_is}
+use Rattle.names.specs.Identifier.{inside, no_identifier, identifier_is}
 use Rattle.names.proofs.identifier.is_identifier.Goals as goal
+use Rattle.names.proofs.identifier.is_identifier.Goals.{then-s-le-NAME, else-s-le-NAME}
 
-pub returns-then-s-eq0 : goal.returns-then-s-eq0
-returns-then-s-eq0 c = sym (no_identifier _ c.if-s-eq0.true)
+pub returns-in_default : goal.returns-in_default
+returns-in_default c = grind (arith, no_identifier c.args.s.now)
 
-pub returns-then-s-gt-NAME : goal.returns-then-s-gt-NAME
-returns-then-s-gt-NAME c = sym (long-identifier _ c.if-s-gt-NAME.true)
+pub returns-then-class_of-eq1 : goal.returns-then-class_of-eq1
+returns-then-class_of-eq1 c =
+    let s = c.args.s.now in
+    let a : c.all.result ≡ all inside (drop 1 s) =
+    all_from_yields_List inside _ _ _ c.all.ensures.ran (YieldsList-from_slice (drop 1 s) (c.iter.ensures.rest ∙ rest-is s 1)) (λ x b q k. search (rules, tests))
+    ∙ all_is inside (drop 1 s) in
+    let e = identifier_is s c.in-len1-up.len_at_least in
+    elim c.if-s-le-NAME.branch [ then-s-le-NAME w ↦ grind (arith, nat_tests) | else-s-le-NAME w ↦ grind (arith, nat_tests) ]
 
-pub class_of-requires : goal.class_of-requires
-class_of-requires c = tt
-
-pub returns-then-class_of-ne1 : goal.returns-then-class_of-ne1
-returns-then-class_of-ne1 c = sym (wrong_start _ (λ e. c.if-class_of-ne1.true (c.class_of.ensures ∙ e)))
-
-pub loop-i-init : goal.loop-i-init
-loop-i-init c = (omega arith, omega arith, λ k h l. absurd (omega arith))
-
-pub class_of-requires-in-loop-i : goal.class_of-requires-in-loop-i
-class_of-requires-in-loop-i c = tt
-
-pub returns-then-class_of-eq0 : goal.returns-then-class_of-eq0
-returns-then-class_of-eq0 c = sym (wrong_byte _ c.loop-i.i (omega arith) (omega arith) (sym c.class_of-in-loop-i.ensures ∙ c.if-class_of-eq0.true))
-
-pub loop-i-preserved : goal.loop-i-preserved
-loop-i-preserved c = (
-  omega arith,
-  omega arith,
-  below_more _ _ c.loop-i.invariant.2 (λ l e. c.if-class_of-eq0.false (c.class_of-in-loop-i.ensures ∙ e)),
-)
-
-pub returns : goal.returns
-returns c =
-    sym (right-bytes _ (omega arith) (λ e. omega arith) (sym c.class_of.ensures ∙ c.if-class_of-ne1.false)
-    (λ k h. c.loop-i.invariant.2 k (omega arith)))
+pub returns-else-class_of-eq1 : goal.returns-else-class_of-eq1
+returns-else-class_of-eq1 c =
+    let e = identifier_is c.args.s.now c.in-len1-up.len_at_least in
+    elim c.if-s-le-NAME.branch [ then-s-le-NAME w ↦ grind (arith, nat_tests) | else-s-le-NAME w ↦ grind (arith, nat_tests) ]

@@ -1,22 +1,17 @@
--- `names::keyword::is_keyword` meets its contract: the bytes are none of the words passed. Assumes nothing.
-use Rattle.names.specs.Bytes.{member-found, member-none}
-use Rattle.names.specs.Keywords.{fourteen}
-use mathlib.Core.Path.{sym, ◌∙◌}
-use native.Mathlib.Omega.{arith}
-use borrow.Author.Count.{below_more}
-use Rattle.names.specs.Keywords.{keywords, is_keyword}
+-- `names::keyword::is_keyword` meets its contract: `any` over the table's words. Assumes nothing.
+use Rattle.std.proofs.Common.{rules, tests, ◌≡◌, ◌∙◌, eqb, refl, Bor, List, ℕ, ap, map}
+use Rattle.std.specs.Cmp.Lexicographic.{pointwise}
+use Rattle.std.proofs.lemmas.Iterator.{YieldsList-from_slice}
+use Rattle.std.proofs.lemmas.Iterator.Search.{any_from_yields_List}
+use Rattle.names.specs.Bytes.{member_is, member, ascii}
+use Rattle.names.specs.Keywords.{is_keyword, keywords}
 use Rattle.names.proofs.keyword.is_keyword.Goals as goal
 
-pub loop-i-init : goal.loop-i-init
-loop-i-init c = (omega arith, λ k h. absurd (omega arith))
-
-pub returns-then-is_row : goal.returns-then-is_row
-unfolding is_keyword
-returns-then-is_row c = sym (member-found _ keywords c.loop-i.i (omega (arith, fourteen)) (sym c.is_row.ensures ∙ c.if-is_row.true))
-
-pub loop-i-preserved : goal.loop-i-preserved
-loop-i-preserved c = (omega arith, below_more _ _ c.loop-i.invariant.1 (sym c.is_row.ensures ∙ c.if-is_row.false))
-
 pub returns : goal.returns
-unfolding is_keyword
-returns c = sym (member-none _ keywords (λ k h. c.loop-i.invariant.1 k (omega (arith, fourteen))))
+unfolding is_keyword keywords ascii
+returns c =
+    let s = c.args.s.now in
+    let words = c.iter.result.rest.now in
+    let e : map (λ (w : Bor (List ℕ)). w.now) words ≡ keywords = ap (map (λ (w : Bor (List ℕ)). w.now)) c.iter.ensures.rest in
+    any_from_yields_List (λ w. pointwise eqb s w.now) _ _ _ c.any.ensures.ran (YieldsList-from_slice words refl) (λ x b q k. search (rules, tests))
+    ∙ member_is (λ (w : Bor (List ℕ)). w.now) s words ∙ ap (member s) e

@@ -1,21 +1,13 @@
--- `names::path::first_slash` meets its contract: no byte passed is a slash. Assumes nothing.
-use mathlib.Core.Path.{◌≡◌, sym, ◌∙◌}
-use native.Mathlib.Omega.{arith}
-use lib.ListN.{length}
-use borrow.Author.Count.{below_more}
-use Rattle.names.specs.Pieces.{first_found, first-none}
+-- `names::path::first_slash` meets its contract: what `position` finds. Assumes nothing.
+use Rattle.std.proofs.Common.{rules, tests, ◌≡◌, sym, ◌∙◌, refl}
+use Rattle.std.proofs.lemmas.Iterator.{YieldsList-from_slice, IsFirst-from_position}
+use Rattle.names.specs.Bytes.{slash}
+use Rattle.names.specs.Pieces.{first_slash_is, first_slash-le, first_slash}
 use Rattle.names.proofs.path.first_slash.Goals as goal
-
-pub loop-i-init : goal.loop-i-init
-loop-i-init c = (omega arith, λ k h. absurd (omega arith))
-
-pub returns-then-s-i-eq-SLASH : goal.returns-then-s-i-eq-SLASH
-returns-then-s-i-eq-SLASH c = (sym (first_found _ _ (omega arith) c.loop-i.invariant.1 c.if-s-i-eq-SLASH.true), omega arith)
-
-pub loop-i-preserved : goal.loop-i-preserved
-loop-i-preserved c = (omega arith, below_more _ _ c.loop-i.invariant.1 c.if-s-i-eq-SLASH.false)
 
 pub returns : goal.returns
 returns c =
-    let e : c.loop-i.i ≡ length c.args.s.now = omega arith in
-    (e ∙ sym (first-none _ (λ k h. c.loop-i.invariant.1 k (omega arith))), omega arith)
+    let s = c.args.s.now in
+    let f = IsFirst-from_position _ _ _ (λ b. b ≡ slash) (λ b. b ≡ slash → ⊥) c.position.ensures.ran (YieldsList-from_slice s c.iter.ensures.rest) (λ x q k. search (rules, tests)) (λ x q k. search (rules, tests)) in
+    let e : c.unwrap_or.result ≡ first_slash s = c.unwrap_or.ensures ∙ sym (first_slash_is s c.position.result f) in
+    record { value = e; bound = rw e (first_slash-le s) }
