@@ -4,31 +4,15 @@
 
 use bundle::Checked;
 use std::io;
-use std::io::{BufWriter, Write};
+use std::io::Write;
 
-fn tell<W: Write>(out: &mut W, s: &[u8]) -> io::Result<()> {
-    let told = reader::check(s);
-    match told {
-        Checked::Ok => out.write_all(b"ok\n"),
+fn tell<W: Write>(out: &mut W, bundle: &[u8]) -> io::Result<()> {
+    match reader::check(bundle) {
+        Checked::Ok => writeln!(out, "ok"),
         Checked::Refused(n, p) => lines::tell_refusal(out, n, p),
     }
 }
 
-fn replay<W: Write>(out: &mut W, s: &[u8]) -> io::Result<()> {
-    let mut at = 0;
-    while at < s.len() {
-        let f = lines::frame_at(s, at);
-        if f.whole {
-            tell(out, lines::part(s, f.at, f.end))?;
-        }
-        at = f.end;
-    }
-    Ok(())
-}
-
 fn main(rt: HostRuntime) -> io::Result<()> {
-    let input = lines::input(&rt)?;
-    let mut out = BufWriter::new(rt.alloc(), io::writer(&rt))?;
-    replay(&mut out, &input)?;
-    out.flush()
+    lines::each_part(&rt, |out, bundle| tell(out, bundle))
 }
