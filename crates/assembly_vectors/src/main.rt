@@ -3,46 +3,32 @@
 // the number of units, and the image in hexadecimal.
 #![tactic(auto)]
 
+use lines::Hex;
+use refusal::Cause;
 use std::io;
-use std::io::{BufWriter, Write};
+use std::io::Write;
 
 const SIZE: usize = 65538;
 
-fn tell<W: Write>(out: &mut W, s: &[u8]) -> io::Result<()> {
+fn tell<W: Write>(out: &mut W, bundle: &[u8]) -> io::Result<()> {
     let mut report = [0u8; 4096];
     let mut image = [0u8; SIZE];
-    let a = program::assemble(s, &mut report, &mut image);
+    let a = program::assemble(bundle, &mut report, &mut image);
     if a.number != 0 {
         return lines::tell_refusal(out, a.number, a.place);
     }
-    let told = lines::part(&report, 0, a.report);
-    if told.len() > 0 {
-        if lines::is_ring(told) {
-            lines::tell_refusal(out, lines::RING, 0)?;
-            return lines::tell_ring(out, told);
-        }
+    let told = report.get(..a.report).unwrap_or(&[]);
+    if let Some(ids) = lines::ring(told) {
+        writeln!(out, "{}", Cause::Ring.at(0))?;
+        return lines::tell_ring(out, ids);
+    }
+    if !told.is_empty() {
         return lines::tell_faults(out, told);
     }
-    write!(out, "ok {}\nimage ", a.units)?;
-    lines::tell_hex(out, lines::part(&image, 0, a.image))?;
-    out.write_all(b"\n")
-}
-
-fn replay<W: Write>(out: &mut W, s: &[u8]) -> io::Result<()> {
-    let mut at = 0;
-    while at < s.len() {
-        let f = lines::frame_at(s, at);
-        if f.whole {
-            tell(out, lines::part(s, f.at, f.end))?;
-        }
-        at = f.end;
-    }
-    Ok(())
+    let image = image.get(..a.image).unwrap_or(&[]);
+    writeln!(out, "ok {}\nimage {}", a.units, Hex(image))
 }
 
 fn main(rt: HostRuntime) -> io::Result<()> {
-    let input = lines::input(&rt)?;
-    let mut out = BufWriter::new(rt.alloc(), io::writer(&rt))?;
-    replay(&mut out, &input)?;
-    out.flush()
+    lines::each_part(&rt, |out, bundle| tell(out, bundle))
 }

@@ -1,56 +1,38 @@
-// What the programs write of a refusal, of a report and of bytes.
-use crate::{RING, hex_digit, wide};
+// What the programs write of a refusal and of a report.
+ghost use Rattle.std.specs.Prelude.{◌≡◌, ◌<◌, ◌≢◌, ◌⊎◌, length, drop, slice_index, MatchOption};
+ghost use Rattle.refusal.specs.Numbers.{number_of};
+ghost use Rattle.refusal.specs.declared.Cause.TheVariants.{Ring};
+
+use refusal::Cause;
 use std::io;
 use std::io::Write;
-
-// The byte at `at`; 0 where there is none.
-fn byte(s: &[u8], at: usize) -> u8 {
-    if at < s.len() {
-        return s[at];
-    }
-    0
-}
 
 pub fn tell_refusal<W: Write>(out: &mut W, n: u8, p: usize) -> io::Result<()> {
     writeln!(out, "no {n} {p}")
 }
 
-// A report of faults.
+// A report of faults: a number and a place for each.
 pub fn tell_faults<W: Write>(out: &mut W, report: &[u8]) -> io::Result<()> {
-    let mut at = 0;
-    while at < report.len() {
-        tell_refusal(
-            out,
-            byte(report, at),
-            wide(byte(report, at + 1)) * 256 + wide(byte(report, at + 2)),
-        )?;
-        at += 3;
+    for [number, high, low] in report.as_chunks::<3>().0 {
+        tell_refusal(out, *number, usize::from(u16::from_be_bytes([*high, *low])))?;
     }
     Ok(())
 }
 
-pub fn is_ring(report: &[u8]) -> bool {
-    byte(report, 0) == RING
+// The ids of the ring that a report tells, where it tells one. Ruled out: a fault's place read as ids.
+pub fn ring(report: &[u8]) -> Option<&[u8]>
+    ensures { MatchOption result ((length report.now < 4) ⊎ (slice_index report.now 0 ≢ number_of Ring)) (λ ids. (slice_index report.now 0 ≡ number_of Ring) × (ids.now ≡ drop 4 report.now)) }
+{
+    match report {
+        [number, _, _, _, ids @ ..] if *number == u8::from(Cause::Ring) => Some(ids),
+        _ => None,
+    }
 }
 
-// The ids of a ring, in its record.
-pub fn tell_ring<W: Write>(out: &mut W, report: &[u8]) -> io::Result<()> {
-    out.write_all(b"ring")?;
-    for id in report.iter().skip(4) {
+pub fn tell_ring<W: Write>(out: &mut W, ids: &[u8]) -> io::Result<()> {
+    write!(out, "ring")?;
+    for id in ids {
         write!(out, " {id}")?;
     }
-    out.write_all(b"\n")
-}
-
-fn tell_byte<W: Write>(out: &mut W, b: u8) -> io::Result<()> {
-    let pair = [hex_digit(b / 16), hex_digit(b % 16)];
-    out.write_all(&pair)
-}
-
-// Bytes in hexadecimal.
-pub fn tell_hex<W: Write>(out: &mut W, s: &[u8]) -> io::Result<()> {
-    for b in s {
-        tell_byte(out, *b)?;
-    }
-    Ok(())
+    writeln!(out)
 }

@@ -6,108 +6,72 @@ ghost use Rattle.std.specs.Prelude.{◌≡◌};
 ghost use Rattle.bundle.specs.Read.{verdict};
 ghost use Rattle.bundle.specs.Results.{Ok};
 
-use bundle::Checked;
+use bundle::limits::FILES;
 use discovery::UNITS;
 use std::io;
-use std::io::{BufWriter, Write};
+use std::io::Write;
 
-fn id(x: u16) -> u64 {
-    x as u64
-}
-
-fn count(x: u16) -> usize {
-    x as usize
-}
-
-// So many ids from `first` on.
-fn tell_ids<W: Write>(out: &mut W, ids: &[u16], first: u16, n: usize) -> io::Result<()> {
-    let mut at = first as usize;
-    let mut i = 0;
-    while i < n {
-        if at >= ids.len() {
-            return Ok(());
-        }
-        write!(out, " {}", id(ids[at]))?;
-        at += 1;
-        i += 1;
+// Ids, and the line's end.
+fn tell_ids<W: Write>(out: &mut W, ids: &[u16]) -> io::Result<()> {
+    for id in ids {
+        write!(out, " {id}")?;
     }
-    Ok(())
+    writeln!(out)
 }
 
-fn tell_path<W: Write>(out: &mut W, s: &[u8], index: usize) -> io::Result<()> {
-    if index < bundle::limits::FILES {
-        let at = bundle::file_at(s, index);
-        out.write_all(bundle::file_path(s, at))?;
+// The path of the file of this index.
+fn path_of(bundle: &[u8], index: usize) -> &[u8] {
+    if index < FILES {
+        bundle::file_path(bundle, bundle::file_at(bundle, index))
+    } else {
+        b""
     }
-    Ok(())
 }
 
 // The units of a checked bundle, by id, with their lists.
-fn tell_units<W: Write>(out: &mut W, s: &[u8]) -> io::Result<()>
-    requires { verdict s.now ≡ Ok }
+fn tell_units<W: Write>(out: &mut W, bundle: &[u8]) -> io::Result<()>
+    requires { verdict bundle.now ≡ Ok }
 {
-    let g = driver::discover_dependencies(s);
-    let mut u = 0;
-    while u < UNITS {
-        if u < g.units {
-            write!(out, "unit {u} ")?;
-            tell_path(out, s, g.files[u])?;
-            let first = g.start[u];
-            let n = g.len[u];
-            tell_ids(out, &g.ids, first, count(n))?;
-            out.write_all(b"\n")?;
-        }
-        u += 1;
+    let g = driver::discover_dependencies(bundle);
+    for u in 0..g.units.min(UNITS) {
+        write!(out, "unit {u} ")?;
+        out.write_all(path_of(bundle, g.files[u]))?;
+        let first = usize::from(g.start[u]);
+        let list = g.ids.get(first..first + usize::from(g.len[u]));
+        tell_ids(out, list.unwrap_or(&[]))?;
     }
     Ok(())
 }
 
 // What the order of a checked bundle's units is.
-fn tell_order<W: Write>(out: &mut W, s: &[u8], report: &mut [u8; 1024]) -> io::Result<()>
-    requires { verdict s.now ≡ Ok }
+fn tell_order<W: Write>(out: &mut W, bundle: &[u8]) -> io::Result<()>
+    requires { verdict bundle.now ≡ Ok }
 {
-    let a = order::order(s, report);
+    let mut report = [0u8; 1024];
+    let a = order::order(bundle, &mut report);
     if a.number != 0 {
         return lines::tell_refusal(out, a.number, a.place);
     }
-    let told = lines::part(report, 0, a.report);
-    if told.len() == 0 {
-        tell_units(out, s)?;
-        out.write_all(b"order")?;
-        tell_ids(out, &a.ids, 0, a.units)?;
-        return out.write_all(b"\n");
+    let told = report.get(..a.report).unwrap_or(&[]);
+    if let Some(ids) = lines::ring(told) {
+        tell_units(out, bundle)?;
+        return lines::tell_ring(out, ids);
     }
-    if lines::is_ring(told) {
-        tell_units(out, s)?;
-        return lines::tell_ring(out, told);
+    if !told.is_empty() {
+        return lines::tell_faults(out, told);
     }
-    lines::tell_faults(out, told)
+    tell_units(out, bundle)?;
+    write!(out, "order")?;
+    tell_ids(out, a.ids.get(..a.units).unwrap_or(&[]))
 }
 
-fn tell<W: Write>(out: &mut W, s: &[u8]) -> io::Result<()> {
-    let mut report = [0u8; 1024];
-    let checked = reader::check(s);
-    match checked {
-        Checked::Ok => tell_order(out, s, &mut report),
-        Checked::Refused(n, p) => lines::tell_refusal(out, n, p),
+fn tell<W: Write>(out: &mut W, bundle: &[u8]) -> io::Result<()> {
+    match reader::check(bundle) {
+        Ok(_) => tell_order(out, bundle),
+        Err(refusal) => writeln!(out, "{refusal}"),
     }
-}
-
-fn replay<W: Write>(out: &mut W, s: &[u8]) -> io::Result<()> {
-    let mut at = 0;
-    while at < s.len() {
-        let f = lines::frame_at(s, at);
-        if f.whole {
-            tell(out, lines::part(s, f.at, f.end))?;
-        }
-        at = f.end;
-    }
-    Ok(())
 }
 
 fn main(rt: HostRuntime) -> io::Result<()> {
-    let input = lines::input(&rt)?;
-    let mut out = BufWriter::new(rt.alloc(), io::writer(&rt))?;
-    replay(&mut out, &input)?;
-    out.flush()
+    lines::each_part(&rt, |out, bundle| tell(out, bundle))
 }

@@ -4,39 +4,33 @@
 use std::io;
 use std::io::{BufWriter, Write};
 
-fn told<W: Write>(out: &mut W, code: u8, value: u16) -> io::Result<()> {
-    if code == 0 {
-        return out.write_all(b"ok\n");
-    }
-    if code == 1 {
-        return writeln!(out, "ok {value}");
-    }
-    writeln!(out, "no {value}")
-}
+// The most calls that are made.
+const CALLS: usize = 65536;
 
-fn replay<W: Write>(out: &mut W, s: &[u8]) -> io::Result<()> {
-    let mut t = scopes::empty();
-    let mut p: usize = 0;
-    let mut i: usize = 0;
-    while i < 65536 {
-        if s.len() <= p {
-            return Ok(());
-        }
-        if 16777216 <= p {
-            return Ok(());
-        }
-        let r = scopes_c::call_at(t, s, p);
-        told(out, r.code, r.value)?;
-        t = r.tree;
-        p = r.next;
-        i += 1;
+// No call is made that starts here or further on.
+const END: usize = 16777216;
+
+fn tell<W: Write>(out: &mut W, code: u8, value: u16) -> io::Result<()> {
+    match code {
+        0 => writeln!(out, "ok"),
+        1 => writeln!(out, "ok {value}"),
+        _ => writeln!(out, "no {value}"),
     }
-    Ok(())
 }
 
 fn main(rt: HostRuntime) -> io::Result<()> {
-    let input = lines::input(&rt)?;
+    let calls = lines::input(&rt)?;
     let mut out = BufWriter::new(rt.alloc(), io::writer(&rt))?;
-    replay(&mut out, &input)?;
+    let mut tree = scopes::empty();
+    let mut at = 0;
+    for _ in 0..CALLS {
+        if at >= calls.len().min(END) {
+            break;
+        }
+        let step = scopes_c::call_at(tree, &calls, at);
+        tell(&mut out, step.code, step.value)?;
+        tree = step.tree;
+        at = step.next;
+    }
     out.flush()
 }

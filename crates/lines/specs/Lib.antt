@@ -1,0 +1,3 @@
+-- DEFINITIONS: parts led by their length, and bytes in hexadecimal
+pub mod Frames
+pub mod Hex

@@ -1,6 +1,0 @@
--- Each line ends at or after its start.
-use Rattle.std.proofs.Common.{length, ◌-◌}
-use Rattle.names_vectors.proofs.answer_all.Given as goal
-
-abbrev pub decreases-loop-at : goal.decreases-loop-at
-decreases-loop-at g l = length l.s - l.at

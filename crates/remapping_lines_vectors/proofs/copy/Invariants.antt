@@ -1,9 +1,0 @@
--- What is written stays within what is lent.
-use Rattle.std.proofs.Common.{length, ◌-◌, ◌≤◌, ◌≡◌}
-use Rattle.remapping_lines_vectors.proofs.copy.Given as goal
-
-abbrev pub invariant-loop-n : goal.invariant-loop-n
-invariant-loop-n l = (l.n ≤ length l.initial.out) × (length l.out ≡ length l.initial.out)
-
-abbrev pub decreases-loop-n : goal.decreases-loop-n
-decreases-loop-n l = length l.initial.out - l.n

@@ -1,6 +1,0 @@
--- Each segment is passed once.
-use Rattle.std.proofs.Common.{◌-◌}
-use Rattle.resolution_vectors.proofs.tell_segments.Given as goal
-
-abbrev pub decreases-loop-i : goal.decreases-loop-i
-decreases-loop-i g l = l.n - l.i
