@@ -25,7 +25,5 @@ pub fn put_unit_start(out: &mut [u8], u: usize) -> usize
     ensures { (result ≡ 4 + length (string (unit_name u))) × (out.new ≡ started (take 2 out.old ++ (module_kind ∷ 0 ∷ string (unit_name u))) out.old) }
 {
     let unit = names::unit_name(u as u64);
-    let bytes = unit.bytes;
-    let n = unit.len;
-    put_start(out, MODULE, 0, &bytes[..n])
+    put_start(out, MODULE, 0, unit.as_slice())
 }

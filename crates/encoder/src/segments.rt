@@ -21,9 +21,7 @@ pub fn put_unit(out: &mut [u8], id: usize) -> usize
     ensures { (result ≡ length (string (unit_name id))) × (out.new ≡ started (string (unit_name id)) out.old) }
 {
     let unit = names::unit_name(id as u64);
-    let bytes = unit.bytes;
-    let n = unit.len;
-    put_string(out, &bytes[..n])
+    put_string(out, unit.as_slice())
 }
 
 // The name of the unit, and the `left` strings of s from `rest` on.

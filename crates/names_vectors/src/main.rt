@@ -80,10 +80,8 @@ fn number(s: &[u8]) -> u64 {
 }
 
 fn tell_unit<W: Write>(out: &mut W, id: u64) -> io::Result<()> {
-    let u = names::unit_name(id);
-    let n = u.len;
-    let bytes = u.bytes;
-    out.write_all(&bytes[..n])?;
+    let unit = names::unit_name(id);
+    out.write_all(unit.as_slice())?;
     out.write_all(b"\n")
 }
 

@@ -10,7 +10,7 @@ use Rattle.bundle.specs.Encode.{string, counted}
 use Rattle.assembly.specs.Walk.{segments_at, segments-read}
 use Rattle.assembly.specs.Targets.{path_by, Within}
 use Rattle.encoder.specs.Strings.{string_bytes}
-use Rattle.encoder.specs.Strings.{crate_length, name-length}
+use Rattle.encoder.specs.Strings.{crate_length, string-length}
 use Rattle.items.specs.Uses.{count-is, path-form, no_path}
 use Rattle.items.proofs.lengths.path_length.Goals as goal
 
@@ -32,7 +32,8 @@ returns-in-Unit c =
     let n = count-is c.args.s.now c.args.mark c.use_segments-segments.result.first c.use_segments-segments.result.count c.in-Unit.left (segments-read c.args.s.now c.args.mark c.requires.0.kind c.use_segments-segments.result.first c.use_segments-segments.result.count c.use_segments-segments.ensures.0) w.0 in
     let p = ap (λ t. length (counted string (path_by (segments_at c.args.s.now c.args.mark) t))) c.in-Unit.is in
     let f = ap length (path-form c.args.s.now c.args.mark c.use_segments-segments.result.first c.use_segments-segments.result.count c.in-Unit.left (segments-read c.args.s.now c.args.mark c.requires.0.kind c.use_segments-segments.result.first c.use_segments-segments.result.count c.use_segments-segments.ensures.0) w.0 c.in-Unit.id c.strings_end-rest.result c.strings_end-rest.ensures.0) in
-    let u = name-length c.unit_name-unit.result.bytes c.unit_name-unit.result.len c.in-Unit.id c.unit_name-unit.ensures.0 (omega (arith, c.unit_name-unit.ensures.1, c.unit_name-unit.ensures.2)) in
+    let u = ap length (c.as_slice.ensures.value ∙ c.unit_name-unit.ensures) in
+    let v = string-length (unit_name c.in-Unit.id) in
     let a = length-append (string (ascii "crate")) (string (unit_name c.in-Unit.id) ++ string_bytes c.args.s.now c.in-Unit.left c.strings_end-rest.result) in
     let b = length-append (string (unit_name c.in-Unit.id)) (string_bytes c.args.s.now c.in-Unit.left c.strings_end-rest.result) in
     (omega (arith, crate_length), omega arith)
