@@ -25,5 +25,5 @@ pub fn put_unit_start(out: &mut [u8], u: usize) -> usize
     ensures { (result ≡ 4 + length (string (unit_name u))) × (out.new ≡ started (take 2 out.old ++ (module_kind ∷ 0 ∷ string (unit_name u))) out.old) }
 {
     let unit = names::unit_name(u as u64);
-    put_start(out, MODULE, 0, &unit.bytes[..unit.len])
+    put_start(out, MODULE, 0, unit.as_slice())
 }

@@ -14,7 +14,7 @@ pub fn put_unit(out: &mut [u8], id: usize) -> usize
     ensures { (result ≡ length (string (unit_name id))) × (out.new ≡ started (string (unit_name id)) out.old) }
 {
     let unit = names::unit_name(id as u64);
-    put_string(out, &unit.bytes[..unit.len])
+    put_string(out, unit.as_slice())
 }
 
 // `crate`, the name of the unit, and the rest.

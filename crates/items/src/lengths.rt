@@ -43,7 +43,7 @@ fn path_length(s: &[u8], mark: usize, target: Target) -> usize
         Target::Nothing => 1,
         Target::Unit(id, left) => {
             let unit = names::unit_name(id as u64);
-            1 + 6 + 1 + unit.len + last_segments(s, mark, left).size()
+            1 + 6 + 1 + unit.as_slice().len() + last_segments(s, mark, left).size()
         }
     }
 }
@@ -122,7 +122,7 @@ fn unit_length(s: &[u8], files: &[usize], units: usize, u: usize) -> usize
     let items = unit_items(s, files, u);
     let name = names::unit_name(u as u64);
     let n = items_length(s, files, units, u, items.at, items.end, DEPTH);
-    capped(5 + name.len, n)
+    capped(5 + name.as_slice().len(), n)
 }
 
 // The program: the units in their order.

@@ -128,15 +128,11 @@ front-step (suc (suc j)) rest h l =
     go (yes s) = absurd (omega (arith, width_one rest s))
     go (no s) = (decimal-more rest (omega arith), omega (arith, width-more rest (omega arith)))
 
+-- all of them
 front_is : (id k : ℕ) → k ≡ width id → front k id ≡ decimal id
 unfolding front
 front_is id zero e = absurd (omega (arith, width_some id))
 front_is id (suc k) e = refl
-
-front-all : (id k : ℕ) → k ≡ width id → length (front k id) ≡ k
-unfolding front
-front-all id zero e = refl
-front-all id (suc k) e = sym e
 
 -- one digit more in place: the bytes from p on, of which n are written
 pub slice_step : (l : List ℕ) (p n d : ℕ) → suc p + n ≤ length l
@@ -165,7 +161,7 @@ written_none id k e h =
           let x : 25 - (5 + k) ≡ 20 - k = omega arith in
           sym (drop-drop k 5 (ascii "unit_" ++ replicate 20 0)) ∙ rw x (drop-replicate k 20 0);
       within = omega arith;
-      left = rw z (front-all id k e);
+      left = rw z (ap length (front_is id k e) ∙ sym e);
       so_far = rw (z, y) (append-nil (front k id) ∙ front_is id k e);
     }
 

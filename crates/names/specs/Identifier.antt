@@ -1,6 +1,6 @@
 -- The identifier form: 1 to 32 ASCII letters, digits or `_`, no leading digit. Assumes nothing.
 use Rattle.std.specs.Prelude.{ℕ, zero, suc, ◌≤◌, ◌<◌, ◌≡◌, refl, Bool, true, false, cond, ◌&&◌, ◌||◌, not, List, [], ◌∷◌, eqb, leb, length, get_or, drop}
-use Rattle.std.proofs.Common.{zero-le, suc-le-suc, not-suc-le-zero, le_of_suc-le-suc, arith, sym, ◌∙◌, le-leb, leb-true, eq-eqb, ne_eqb, eqb-true}
+use Rattle.std.proofs.Common.{zero-le, not-suc-le-zero, le_of_suc-le-suc, arith, sym, ◌∙◌, le-leb, leb-true, eq-eqb, ne_eqb, eqb-true}
 use Rattle.std.proofs.Math.Decide.{dec_lt}
 use Rattle.std.proofs.Math.Bool.{and-false}
 use Rattle.std.proofs.lemmas.Bool.{lt-leb}
@@ -71,6 +71,11 @@ pub no_identifier : (s : List ℕ) → length s ≡ 0 → is_identifier s ≡ fa
 unfolding is_identifier
 no_identifier [] h = refl
 no_identifier (b ∷ s) h = absurd (omega arith)
+
+pub long-identifier : (s : List ℕ) → name_limit < length s → is_identifier s ≡ false
+unfolding is_identifier
+long-identifier [] h = refl
+long-identifier (b ∷ s) h = simp (lt-leb _ _ h)
 
 -- an identifier's bytes: at most 32, none of them zero
 pub identifier-short : (s : List ℕ) → is_identifier s ≡ true → length s ≤ name_limit

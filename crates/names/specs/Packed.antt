@@ -1,7 +1,7 @@
 -- A name as a value: its bytes packed into four words, big-endian, zero past the end. Two names without a zero byte, of at
 -- most 32 bytes, have the same words only where they are the same. Assumes nothing.
-use Rattle.std.specs.Prelude.{ℕ, zero, suc, ◌+◌, ◌*◌, ◌-◌, ◌^◌, ◌≤◌, ◌<◌, ◌≡◌, refl, List, Bool, true, ◌&&◌, eqb, length}
-use Rattle.std.proofs.Common.{not-suc-le-zero, le_refl, arith, add-one, ap, sym, eq-eqb, eqb-true, lit≤, ext_get_or}
+use Rattle.std.specs.Prelude.{ℕ, zero, suc, ◌+◌, ◌*◌, ◌-◌, ◌^◌, ◌≤◌, ◌<◌, ◌≡◌, refl, List, Bool, true, ◌&&◌, eqb, length, Decides}
+use Rattle.std.proofs.Common.{not-suc-le-zero, le_refl, arith, ap, sym, eq-eqb, eqb-true, lit≤, ext_get_or, rules, tests}
 use Rattle.std.proofs.Math.Decide.{dec_lt, dec_le}
 use Rattle.names.specs.Bytes.{and_left, and_right}
 use Rattle.names.specs.Identifier.{name_limit}
@@ -107,13 +107,15 @@ of a b c d = record { w0 = a; w1 = b; w2 = c; w3 = d }
 pub names_same : (a b : Name) → same_name a b ≡ true → a ≡ b
 unfolding same_name of
 names_same a b h =
-    let t₁ = eqb a.w2 b.w2 && eqb a.w3 b.w3 in
-    let t₀ = eqb a.w1 b.w1 && t₁ in
-    let h₁ = and_right (eqb a.w0 b.w0) t₀ h in
-    let h₂ = and_right (eqb a.w1 b.w1) t₁ h₁ in
-    let e₀ : a.w0 ≡ b.w0 = eqb-true _ _ (and_left (eqb a.w0 b.w0) t₀ h) in
-    let e₁ : a.w1 ≡ b.w1 = eqb-true _ _ (and_left (eqb a.w1 b.w1) t₁ h₁) in
-    let e₂ : a.w2 ≡ b.w2 = eqb-true _ _ (and_left (eqb a.w2 b.w2) (eqb a.w3 b.w3) h₂) in
-    let e₃ : a.w3 ≡ b.w3 = eqb-true _ _ (and_right (eqb a.w2 b.w2) (eqb a.w3 b.w3) h₂) in
-    let e : of a.w0 a.w1 a.w2 a.w3 ≡ of b.w0 b.w1 b.w2 b.w3 = cc in
-    e
+    let e : (a.w0 ≡ b.w0) × (a.w1 ≡ b.w1) × (a.w2 ≡ b.w2) × (a.w3 ≡ b.w3) = search (rules, tests) in
+    let f : of a.w0 a.w1 a.w2 a.w3 ≡ of b.w0 b.w1 b.w2 b.w3 = cc in
+    f
+
+-- what the derived `==` answers
+pub name_eq_is : (a b : Name) → (eqb a.w0 b.w0 && (eqb a.w1 b.w1 && (eqb a.w2 b.w2 && eqb a.w3 b.w3))) ≡ same_name a b
+unfolding same_name
+name_eq_is a b = refl
+
+-- and what that means
+pub same_name_decides : (a b : Name) → Decides (same_name a b) (a ≡ b)
+same_name_decides a b = (names_same a b, same_names a b)

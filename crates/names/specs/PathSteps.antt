@@ -1,19 +1,17 @@
 -- Steps of the functions on paths: a component test after the other, and lengths. Assumes nothing.
 use Rattle.std.specs.Prelude.{ℕ, suc, ◌+◌, ◌-◌, ◌≤◌, ◌<◌, Bool, cond, ◌&&◌, ◌||◌, not, ◌≡◌, eqb, leb, ltb, get_or, take, drop}
 use Rattle.std.proofs.Common.{arith, ◌∙◌, append_assoc, drop-drop, get_or-drop, length-take-le}
-use Rattle.std.proofs.Math.Decide.{dec_le}
-use Rattle.std.proofs.Math.Bool.{true, false, and-false, and-true}
+use Rattle.std.proofs.Math.Bool.{true, false, and-false}
 use Rattle.std.proofs.Math.Path.{refl, sym, ap}
 use mathlib.Core.List.{List, [], ◌∷◌, ◌++◌}
 use Rattle.std.proofs.Math.Dec.{eqb-suc-suc, leb-suc-suc, leb-suc-zero, leb-zero}
-use Rattle.std.proofs.Math.ListN.{length, length-append, length-drop, get_or-eq_default}
-use borrow.Author.Tests.{eq-eqb, ne_eqb, eqb-true, lt-ltb, le-ltb, le-leb, lt-leb}
+use Rattle.std.proofs.Math.ListN.{length, length-drop}
+use borrow.Author.Tests.{eq-eqb, ne_eqb, eqb-true, le-leb}
 use Rattle.std.proofs.lemmas.Bool.Decides.{nat_tests}
 use Rattle.std.specs.List.{list_any}
 use Rattle.std.specs.Cmp.Lexicographic.{pointwise}
 use Rattle.names.specs.Bytes.{length_rest, ascii, slash, same, same-eq, same-append, different, has_prefix, same_is, same_ended, front_but, back, all}
-use Rattle.names.specs.Path.{split, components, render, root, printable, is_component, well_formed, is_path, component_limit, path_limit}
-use Rattle.names.specs.Identifier.{name_limit}
+use Rattle.names.specs.Path.{split, components, render, root, is_component, well_formed, is_path, component_limit, path_limit}
 use Rattle.names.specs.Prefix.{begins, starts_with, init, parent, depth, directly_in, stem_of, child}
 use Rattle.names.specs.Pieces.{first_slash, later, split-is, leads, begins-leads, not_root}
 use Rattle.names.specs.Split.{slashes, length-split, init-split, init-none, render-split}

@@ -1,8 +1,8 @@
 -- Laws of the pieces between slashes: joined again, cut in two, counted. Assumes nothing.
-use Rattle.std.specs.Prelude.{ℕ, suc, ◌+◌, ◌≤◌, ◌<◌, Bool, true, false, cond, ◌≡◌, refl, List, [], ◌∷◌, ◌++◌, eqb, length, get_or, take, drop}
-use Rattle.std.proofs.Common.{suc-le-suc, arith, add-one, sym, ap, ◌∙◌, length-drop, drop_of_length-le, get_or-drop}
-use Rattle.std.proofs.Math.Seq.{drop-cons, split_at}
-use borrow.Author.Tests.{eq-eqb, ne_eqb, eqb-true}
+use Rattle.std.specs.Prelude.{ℕ, suc, ◌+◌, ◌<◌, Bool, true, false, cond, ◌≡◌, refl, List, [], ◌∷◌, ◌++◌, eqb, length, get_or, take, drop}
+use Rattle.std.proofs.Common.{suc-le-suc, arith, sym, ap, ◌∙◌, length-drop, get_or-drop}
+use Rattle.std.proofs.Math.Seq.{split_at}
+use borrow.Author.Tests.{ne_eqb, eqb-true}
 use Rattle.names.specs.Bytes.{slash}
 use Rattle.names.specs.Path.{split, onto, led, render}
 use Rattle.names.specs.Prefix.{init}

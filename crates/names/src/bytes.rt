@@ -2,7 +2,8 @@
 ghost use Rattle.std.specs.Prelude.{◌≡◌, drop};
 ghost use Rattle.names.specs.Bytes.{has_prefix, same};
 
-// Whether two byte strings are equal. Ruled out: `true` where one is only the start of the other; `false` of equal ones.
+// Whether two byte strings are equal: `==`, which takes no array beside a slice. Ruled out: `true` where one is only the start of
+// the other; `false` of equal ones.
 #[tactic(auto, using(crate::specs::Bytes::equals))]
 pub fn same_bytes(a: &[u8], b: &[u8]) -> bool
     ensures { result ≡ same a.now b.now }

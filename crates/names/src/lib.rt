@@ -16,7 +16,8 @@ pub use packed::{name_of, same_name};
 pub use path::{is_child, is_child_file, is_directly_in, is_path, parent_len, starts_with};
 pub use unit::{UnitName, unit_name};
 
-// A name as a value: at most 32 bytes in four words, big-endian, zero past the end.
+// A name as a value: at most 32 bytes in four words, big-endian, zero past the end. Fields, not an array: the tree's arrays have one
+// word of a name each (document 01, "Form by location"), and so the C interface tells a name.
 #[derive(Clone, Copy, Debug, PartialEq, Eq)]
 pub struct Name {
     pub w0: u64,

@@ -7,7 +7,7 @@ use std::marker::Model;
 // Five letters and at most twenty digits.
 const ROOM: usize = 25;
 
-// A unit's name: its bytes stand at the start, zeros after them.
+// A unit's name: its bytes, and zeros after them. An array and a length, not a String: the linker has no heap.
 #[derive(Clone, Copy)]
 pub struct UnitName {
     bytes: [u8; ROOM],
@@ -33,7 +33,8 @@ impl Model for UnitName {
 
 impl UnitName {
     pub fn as_slice(&self) -> &[u8]
-        ensures { result.now ≡ self.now }
+        ensures value { result.now ≡ self.now }
+        ensures bound { length result.now ≤ 25 }
     {
         &self.bytes[..self.len]
     }

@@ -20,7 +20,7 @@ fn tell_parent<W: Write>(out: &mut W, path: &[u8]) -> io::Result<()> {
 
 fn tell_unit<W: Write>(out: &mut W, id: u64) -> io::Result<()> {
     let u = names::unit_name(id);
-    out.write_all(&u.bytes[..u.len])?;
+    out.write_all(u.as_slice())?;
     writeln!(out)
 }
 

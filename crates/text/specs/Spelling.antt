@@ -96,22 +96,9 @@ unfolding spelled
 name-put n p q r s = put_as (put_then (put_then (put_then p q) r) s) (simp append_assoc)
 
 -- A NUMBER: what follows `unit_` in the unit's name
-pub record DigitsAt (bytes : List ℕ) (len n : ℕ) : Type 0 where
-  pub start : 5 ≤ len
-  pub digits : take (len - 5) (drop 5 bytes) ≡ decimal n
-
-pub digits-at : (bytes : List ℕ) (len n : ℕ) → take len bytes ≡ unit_name n → len ≤ 25 → length bytes ≡ 25 → DigitsAt bytes len n
+pub digits-after : (n : ℕ) → drop 5 (unit_name n) ≡ decimal n
 unfolding unit_name ascii
-digits-at bytes len n e l k =
-    let z = ap length e in
-    let m = length-take-le len bytes (omega arith) in
-    let h : 5 ≤ len = omega (arith, length-append (ascii "unit_") (decimal n)) in
-    let i : 5 + (len - 5) ≡ len = omega arith in
-    let t : take len bytes ≡ take 5 bytes ++ take (len - 5) (drop 5 bytes) = ap (λ (x : ℕ). take x bytes) (sym i) ∙ take-add 5 (len - 5) bytes in
-    record {
-      start = h;
-      digits = sym (drop_at (take 5 bytes) (take (len - 5) (drop 5 bytes)) 5 (length-take-le 5 bytes (omega arith))) ∙ (ap (drop 5) (sym t ∙ e) ∙ refl);
-    }
+digits-after n = refl
 
 -- A LINE `no`
 pub no_put : (n p : ℕ) {o o₁ o₂ o₃ o₄ o₅ : List ℕ} {at a b c d e : ℕ} → Put (110 ∷ 111 ∷ 32 ∷ []) o at o₁ a → Put (decimal n) o₁ a o₂ b → Put (32 ∷ []) o₂ b o₃ c → Put (decimal p) o₃ c o₄ d → Put (10 ∷ []) o₄ d o₅ e

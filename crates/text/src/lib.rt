@@ -37,10 +37,8 @@ pub fn put_bytes(out: &mut [u8], at: usize, s: &[u8]) -> usize
 pub fn put_decimal(out: &mut [u8], at: usize, n: u64) -> usize
     ensures { Put (decimal n) out.old at out.new result }
 {
-    let u = names::unit_name(n);
-    let bytes = u.bytes;
-    let len = u.len;
-    put_bytes(out, at, &bytes[5..len])
+    let unit = names::unit_name(n);
+    put_bytes(out, at, names::after(unit.as_slice(), 5))
 }
 
 // The bytes of a word, big-endian, up to the first 0.

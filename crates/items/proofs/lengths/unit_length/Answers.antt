@@ -1,7 +1,7 @@
 -- `unit_length` meets its contract. Assumes nothing.
 use Prim.Native.Nat.{min}
 use native.Mathlib.Omega.{arith}
-use mathlib.Core.Path.{◌≡◌, ap}
+use mathlib.Core.Path.{◌≡◌, ap, ◌∙◌}
 use lib.ListN.{length, length-append}
 use Rattle.names.specs.Decimal.{unit_name}
 use Rattle.bundle.specs.Decode.{decode}
@@ -9,7 +9,7 @@ use Rattle.bundle.specs.Encode.{string}
 use Rattle.assembly.specs.Image.{length_cap}
 use Rattle.assembly.specs.Assemble.{file_of}
 use Rattle.assembly.specs.GivenLaws.{placed-unit, unit-of, unit_brief, unit-form}
-use Rattle.encoder.specs.Strings.{name-length}
+use Rattle.encoder.specs.Strings.{string-length}
 use Rattle.assembly.specs.Walk.{items_bytes}
 use Rattle.items.proofs.lengths.unit_length.Goals as goal
 
@@ -23,6 +23,7 @@ items_length-n-requires c =
 pub returns : goal.returns
 returns c =
     let f = ap length (unit-form c.args.s.now c.args.u c.unit_items-items.result.end c.unit_items-items.result.at c.unit_items-items.ensures.0) in
-    let l = name-length c.unit_name-name.result.bytes c.unit_name-name.result.len c.args.u c.unit_name-name.ensures.0 (omega arith) in
+    let e = ap length (c.as_slice.ensures.value ∙ c.unit_name-name.ensures) in
+    let l = string-length (unit_name c.args.u) in
     let m : c.items_length-n.result ≡ min (length (items_bytes c.args.s.now (file_of (decode c.args.s.now) c.args.u) 8 c.unit_items-items.result.end c.unit_items-items.result.at)) length_cap = c.items_length-n.ensures in
     omega (arith, length-append (string (unit_name c.args.u)) (items_bytes c.args.s.now (file_of (decode c.args.s.now) c.args.u) 8 c.unit_items-items.result.end c.unit_items-items.result.at))

@@ -1,5 +1,5 @@
 -- `names::path::first_slash` meets its contract: what `position` finds. Assumes nothing.
-use Rattle.std.proofs.Common.{rules, tests, ◌≡◌, sym, ◌∙◌, refl}
+use Rattle.std.proofs.Common.{rules, tests, ◌≡◌, sym, ◌∙◌}
 use Rattle.std.proofs.lemmas.Iterator.{YieldsList-from_slice, IsFirst-from_position}
 use Rattle.names.specs.Bytes.{slash}
 use Rattle.names.specs.Pieces.{first_slash_is, first_slash-le, first_slash}

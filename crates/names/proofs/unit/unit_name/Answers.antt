@@ -1,5 +1,5 @@
 -- `names::unit::unit_name` meets its contract: the last digits are in place. Assumes nothing.
-use Rattle.std.proofs.Common.{arith, sym}
+use Rattle.std.proofs.Common.{arith}
 use Rattle.names.specs.Bytes.{ascii}
 use Rattle.names.specs.Decimal.{written_none, written_more, written_all}
 use Rattle.names.proofs.unit.unit_name.Goals as goal
