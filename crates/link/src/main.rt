@@ -1,9 +1,9 @@
 // Reads a bundle on standard input and prints the lines for it: `printed` of its bytes (printing's specs/Lines.antt).
 //
-// For a file of whatever bytes that is the contract of `tell`, from that of `printing::tell` (printing's specs/Sent.antt:
-// program_sends). READ bytes are enough: the first 65,539 decide what is told of a file (specs/ReadTheorems.antt: verdict_enough,
-// read_enough). TEXT bytes are enough: no text is longer (specs/LengthTheorems.antt: printed-fits). Trusted, not proved: that what
-// is read of standard input are the file's bytes in order, and that what is written to standard output reaches the screen in order.
+// For a file of whatever bytes that is the contract of `tell`, from that of `printing::print`. READ bytes are enough: the first
+// 65,539 decide what is printed of a file (printing's specs/ReadTheorems.antt: verdict_enough, read_enough, printed_enough).
+// Trusted, not proved: that what is read of standard input are the file's bytes in order, and that what is written to standard
+// output reaches the screen in order.
 #![tactic(auto)]
 
 ghost use Rattle.std.specs.Prelude.{OnOk, IfSome};
@@ -11,9 +11,8 @@ ghost use Rattle.std.specs.Io.KnownBytes.{Appends};
 ghost use Rattle.bundle.specs.Read.{Bytes};
 ghost use Rattle.printing.specs.Lines.{printed};
 
-use printing::TEXT;
 use std::io;
-use std::io::{Read, Write};
+use std::io::{BufWriter, Read, Write};
 
 const READ: usize = 66048;
 
@@ -23,11 +22,11 @@ fn tell<R: Read, W: Write>(reader: &mut R, out: &mut W) -> io::Result<()>
 {
     let mut bundle = [0u8; READ];
     let n = lines::fill(reader, &mut bundle)?;
-    let mut text = [0u8; TEXT];
-    let r = printing::tell(&bundle[..n], &mut text);
-    out.write_all(&text[..r])
+    printing::print(out, &bundle[..n])
 }
 
 fn main(rt: HostRuntime) -> io::Result<()> {
-    tell(&mut rt.reader(), &mut io::writer(&rt))
+    let mut out = BufWriter::new(rt.alloc(), io::writer(&rt))?;
+    tell(&mut rt.reader(), &mut out)?;
+    out.flush()
 }

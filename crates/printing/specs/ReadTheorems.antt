@@ -11,10 +11,12 @@ use Rattle.bundle.specs.Stand.{Bytes}
 use Rattle.bundle.specs.Bundle.{Bundle}
 use Rattle.bundle.specs.Conflicts.{or_else, conflicts}
 use Rattle.bundle.specs.Decode.{decode}
-use Rattle.bundle.specs.Read.{form, lists, verdict, after, reading, read}
+use Rattle.bundle.specs.Read.{Reading, form, lists, verdict, after, reading, read}
 use Rattle.bundle.specs.Results.{Bad}
 use Rattle.bundle.specs.Results.{Checked}
 use Rattle.bundle.specs.Results.{Refused}
+use Rattle.text.specs.Words.{lines}
+use Rattle.printing.specs.Lines.{reading_lines, printed}
 
 -- what is told of bytes that go on past the longest length: the version, or the first byte past what is declared
 abbrev past_length : Bool → ℕ → Checked
@@ -78,3 +80,8 @@ module _ (s : List ℕ) (B : Bytes s) (n : ℕ) (enough : 65539 ≤ n) where
       go : Dec (n < length s) → reading (verdict (take n s)) (decode (take n s)) ≡ reading (verdict s) (decode s)
       go (yes l) = let b = both_told l in rw (b.0, b.1) (reading-long (defined (version_of s)) (word s 1) (decode (take n s)) (decode s))
       go (no l) = ap (λ (x : List ℕ). reading (verdict x) (decode x)) (take_all n s (omega arith))
+
+  -- so the same is printed of them
+  pub printed_enough : printed (take n s) ≡ printed s
+  unfolding printed
+  printed_enough = ap (λ (r : Reading). lines (reading_lines r)) read_enough

@@ -1,26 +1,18 @@
--- What is sent of the buffer that tell wrote: as many of its first bytes as tell answers. Assumes nothing.
+-- Where the text is written into a lent buffer, cut at the buffer's end: how much of a file and of a buffer is enough. Assumes nothing.
 use Rattle.std.specs.Prelude.{ℕ, ◌≤◌, ◌≡◌, List, ◌++◌, length, take, drop, replicate}
 use Rattle.std.proofs.Common.{arith, ap, subst, ◌∙◌, length-append, length-take, length-drop, take_all}
 use Rattle.std.proofs.lemmas.List.{length-replicate, take-append-le}
 use Rattle.bundle.specs.Read.{Bytes, Reading, read}
 use Rattle.text.specs.Words.{Text, lines}
-use Rattle.text.specs.Writing.{shown-all}
+use Rattle.text.specs.Writing.{shown, reach, shown-all}
 use Rattle.printing.specs.Lines.{reading_lines, printed}
-use Rattle.printing.specs.Answers.{Shows}
 use Rattle.printing.specs.ReadTheorems.{read_enough}
 use Rattle.printing.specs.LengthTheorems.{printed-fits}
 use Rattle.printing.specs.Sizes.{text_size, read_size}
 
--- there are so many
-pub told-counts : (ls : List (List Text)) (o o₁ : List ℕ) (r : ℕ) → Shows ls o o₁ r → (r ≤ length o₁) × (r ≡ length (take r o₁))
-told-counts ls o o₁ r x =
-    let e = ap length x.0 in
-    let a = length-append (take (length o) (lines ls)) (drop (length (lines ls)) o) in
-    let b = length-take (length o) (lines ls) in
-    let d = length-drop (length (lines ls)) o in
-    let f = x.1 in
-    let l : r ≤ length o₁ = omega arith in
-    (l, omega (arith, length-take r o₁))
+-- the buffer o then shows the lines, up to r
+abbrev pub Shows : List (List Text) → List ℕ → List ℕ → ℕ → Type 0
+Shows ls o o₁ r = (o₁ ≡ shown (lines ls) o) × (r ≡ reach (lines ls) o)
 
 -- WHERE THE BUFFER HAS ROOM FOR IT, what is sent is all that is printed of the bytes, and nothing else
 pub sent_whole : (s o o₁ : List ℕ) (r : ℕ) → length (printed s) ≤ length o → Shows (reading_lines (read s)) o o₁ r → take r o₁ ≡ printed s

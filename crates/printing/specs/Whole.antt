@@ -29,7 +29,7 @@ use Rattle.order.specs.Run.{ordered, units_of}
 use Rattle.order.specs.Run as order
 use Rattle.order.specs.Theorems.{first_half, ring-met_always}
 use Rattle.order.specs.Exact.{fault-numbers, place-small, ring_exact}
-use Rattle.order.specs.Report.{Record, fault, ring, report_length, reporting, lent_report}
+use Rattle.order.specs.Report.{Record, fault, ring, report_bytes, report_length, reporting, lent_report}
 use Rattle.order.specs.Report as report
 use Rattle.order.specs.declared.Reported.{Reported}
 use Rattle.order.specs.Call.{unit_files, padded, order_answer, order_report}
@@ -57,11 +57,11 @@ use Rattle.linker.specs.Call.{records_of, answering, TreeWith, TreeAfter, link_a
 use Rattle.text.specs.Words.{Text, lines, no_line}
 use Rattle.printing.specs.Lines.{unit_line, linked_lines, fault_line, ring_lines, outcome_lines, reading_lines}
 use Rattle.tree_lines.specs.Entries.{has_lines}
-use Rattle.printing.specs.Reports.{ReportAt}
+use Rattle.printing.specs.Reports.{report_lines}
 use Rattle.text.specs.LineLaws.{lines-append}
 use Rattle.printing.specs.Reported.{Tellable, faults-length, faults_reported, ring-length, ring_reported}
 use Rattle.printing.specs.Room.{report-fits}
-use Rattle.printing.specs.Answers.{LinkedLines, Lined, AnswerLines}
+use Rattle.printing.specs.Answers.{LinkedLines, ReportLines, Lined, AnswerLines}
 use Rattle.printing.specs.Sizes.{report_size, image_size}
 
 -- a number and a place alone
@@ -166,10 +166,15 @@ tellable b w l (of_step5 o e q) f m =
 
 -- A REPORT THAT FITS
 reported_lines : (s : List ℕ) (rs : List Record) (rep : List ℕ) (T : Tree → Type 0) (ls : List (List Text)) → report_length rs ≤ length rep → 0 < report_length rs
-    → ReportAt (lent_report rs rep) (report_length rs) ls → Lined s (reported_to (reporting rs (length rep))) (lent_report rs rep) T ls
+    → report_lines (report_bytes rs) ≡ ls → Lined s (reported_to (reporting rs (length rep))) (lent_report rs rep) T ls
 reported_lines s rs rep T ls h some x =
-    subst (λ (r : Reported). Lined s (reported_to r) (lent_report rs rep) T ls) (sym (report.fits rs rep h).answered)
-    (record { linked = λ k. absurd (k refl); report = λ e k. x; number = λ e k. absurd (omega arith) })
+    let f = report.fits rs rep h in
+    subst (λ (r : Reported). Lined s (reported_to r) (lent_report rs rep) T ls) (sym f.answered)
+    (record {
+      linked = λ k. absurd (k refl);
+      report = λ e k. record { fits = rw (report.same_length rs rep) h; is = ap report_lines f.written ∙ x };
+      number = λ e k. absurd (omega arith);
+    })
 
 -- OF ACCEPTED BYTES, in buffers of the program's sizes
 module _ (s : List ℕ) (B : Bytes s) (rep img : List ℕ) (rep-size : length rep ≡ report_size) (img-size : length img ≡ image_size) (t : Tree) (v : verdict s ≡ Ok) where
@@ -192,7 +197,7 @@ module _ (s : List ℕ) (B : Bytes s) (rep img : List ℕ) (rep-size : length re
       let few = x.1 in
       let n = ring-length r in
       let fit : report_length (ring r ∷ []) ≤ length rep = omega arith in
-      reported_lines s (ring r ∷ []) rep (λ u. u ≡ t) (ring_lines r) fit (omega arith) (ring_reported r rep x.0 fit)
+      reported_lines s (ring r ∷ []) rep (λ u. u ≡ t) (ring_lines r) fit (omega arith) (ring_reported r x.0)
 
   -- 20 to 25, 27, 28
   faults-due : (l : List Fault) → link_bundle (decode s) ≡ faulty l → Due (faulty l)
@@ -202,7 +207,7 @@ module _ (s : List ℕ) (B : Bytes s) (rep img : List ℕ) (rep-size : length re
       let n = faults-length l in
       let k = report-fits s B (decode s) (accepted s v) l e in
       let fit : report_length (map fault l) ≤ length rep = omega arith in
-      reported_lines s (map fault l) rep (λ u. u ≡ t) (map fault_line l) fit (omega (arith, some l met.some)) (faults_reported l rep met.some (tellable (decode s) well l met.from) fit)
+      reported_lines s (map fault l) rep (λ u. u ≡ t) (map fault_line l) fit (omega (arith, some l met.some)) (faults_reported l (tellable (decode s) well l met.from))
     where
       some : (l : List Fault) → (l ≡ [] → ⊥) → 0 < length l
       some [] h = absurd (h refl)

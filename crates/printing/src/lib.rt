@@ -1,35 +1,36 @@
-// The specification's printed lines: what the linker answers to a bundle, written into a lent buffer.
+// The specification's printed lines: what the linker answers to a bundle, to whatever writer.
 #![tactic(auto)]
 
-ghost use Rattle.bundle.specs.Read.{read};
-ghost use Rattle.printing.specs.Lines.{reading_lines};
-ghost use Rattle.printing.specs.Answers.{Shows};
+ghost use Rattle.std.specs.Prelude.{OnOk};
+ghost use Rattle.std.specs.Io.KnownBytes.{Appends};
+ghost use Rattle.printing.specs.Lines.{printed};
 
 mod report;
 mod units;
 
-// Room for the longest report: 1,025 faults. The longest image. Room for the longest text.
+use std::io;
+use std::io::Write;
+
+// Room for the longest report: 1,025 faults. The longest image.
 pub const REPORT: usize = 4096;
 
 pub const IMAGE: usize = 65538;
 
-pub const TEXT: usize = 440000;
-
-// All that is printed of a bundle, written at the start of the buffer; answers how many bytes that is. TEXT bytes are enough for
-// every bundle; a shorter buffer has as much as there is room for.
-pub fn tell(s: &[u8], out: &mut [u8]) -> usize
-    ensures { Shows (reading_lines (read s.now)) out.old out.new result }
+// All that is printed of a bundle, or of any other bytes. Ruled out: a line left out or cut; a line of a tree where no image fits.
+pub fn print<W: Write>(out: &mut W, s: &[u8]) -> io::Result<()>
+    ensures { OnOk result (Appends (W.contents out.old) (W.contents out.new) (printed s.now)) }
 {
     let mut report = [0u8; REPORT];
     let mut image = [0u8; IMAGE];
-    let r = linker::link_new(s, &mut report, &mut image);
-    let a = r.answer;
-    if a.image != 0 {
-        let to = units::put_units(out, 0, s, &a.files, &a.ids, a.units);
-        return tree_lines::put_tree(out, to, r.tree);
+    let linked = linker::link_new(s, &mut report, &mut image);
+    let answer = linked.answer;
+    if answer.image != 0 {
+        let units = &answer.ids[..answer.units];
+        units::put_units(out, s, &answer.files, units)?;
+        return tree_lines::put_tree(out, &linked.tree);
     }
-    if a.report != 0 {
-        return report::put_report(out, 0, &report, a.report);
+    if answer.report != 0 {
+        return report::put_report(out, &report[..answer.report]);
     }
-    text::put_no(out, 0, text::read::wide(a.number), a.place as u64)
+    text::put_no(out, u64::from(answer.number), answer.place as u64)
 }

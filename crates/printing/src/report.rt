@@ -1,62 +1,50 @@
 // The lines of a report.
-ghost use Rattle.std.specs.Prelude.{List, map, ℕ, ◌*◌, ◌^◌, ◌<◌};
+ghost use Rattle.std.specs.Prelude.{OnOk};
+ghost use Rattle.std.specs.Io.KnownBytes.{Appends};
 ghost use Rattle.text.specs.Words.{lines};
-ghost use Rattle.text.specs.Writing.{Put};
-ghost use Rattle.discovery.specs.Discovery.{Fault};
-ghost use Rattle.text.specs.Words.{Text};
-ghost use Rattle.printing.specs.Lines.{fault_line, ring_lines};
-ghost use Rattle.printing.specs.Reports.{FaultsAt, RingAt, ids_after, ReportAt};
+ghost use Rattle.printing.specs.Lines.{ring_lines};
+ghost use Rattle.printing.specs.Reports.{fault_lines, report_lines};
 
-use text::read::byte;
-
-const RING: u64 = 26;
+use refusal::Cause;
+use std::io;
+use std::io::Write;
 
 // A line for each of the faults.
-fn put_faults(out: &mut [u8], at: usize, report: &[u8], count: usize) -> usize
-    requires { 3 * count < 2 ^ 64 }
-    ensures { (l : List Fault) → FaultsAt l report.now count → Put (lines (map fault_line l)) out.old at out.new result }
+#[tactic(auto, using(text::specs::Appending::written, crate::specs::Reports::reports), unfolding(text::specs::Words::lines, crate::specs::Reports::fault_lines))]
+fn put_faults<W: Write>(out: &mut W, report: &[u8]) -> io::Result<()>
+    ensures { OnOk result (Appends (W.contents out.old) (W.contents out.new) (lines (fault_lines report.now))) }
 {
-    let mut to = at;
-    let mut i = 0;
-    while i < count {
-        let n = byte(report, 3 * i);
-        let p = byte(report, 3 * i + 1) * 256 + byte(report, 3 * i + 2);
-        to = text::put_no(out, to, n, p);
-        i += 1;
+    let (records, _) = report.as_chunks::<3>();
+    for [number, high, low] in records {
+        text::put_no(
+            out,
+            u64::from(*number),
+            u64::from(u16::from_be_bytes([*high, *low])),
+        )?;
     }
-    to
-}
-
-// A blank and an id for each of the ids.
-fn put_ids(out: &mut [u8], at: usize, report: &[u8], n: usize) -> usize
-    ensures { (ids : List ℕ) → RingAt ids report.now n → Put (ids_after ids) out.old at out.new result }
-{
-    let mut to = at;
-    let mut i = 4;
-    while i < n {
-        let a = text::put(out, to, 32);
-        to = text::put_decimal(out, a, byte(report, i));
-        i += 1;
-    }
-    to
+    Ok(())
 }
 
 // The line `ring` and the ids, after `no 26 0`.
-fn put_ring(out: &mut [u8], at: usize, report: &[u8], n: usize) -> usize
-    ensures { (ids : List ℕ) → RingAt ids report.now n → Put (lines (ring_lines ids)) out.old at out.new result }
+#[tactic(auto, using(text::specs::Appending::written, crate::specs::Reports::reports), unfolding(text::specs::Words::lines, names::specs::Bytes::ascii))]
+fn put_ring<W: Write>(out: &mut W, ids: &[u8]) -> io::Result<()>
+    ensures { OnOk result (Appends (W.contents out.old) (W.contents out.new) (lines (ring_lines ids.now))) }
 {
-    let a = text::put_no(out, at, RING, 0);
-    let b = text::put_bytes(out, a, b"ring");
-    let c = put_ids(out, b, report, n);
-    text::put(out, c, 10)
+    text::put_no(out, u64::from(u8::from(Cause::Ring)), 0)?;
+    out.write_all(b"ring")?;
+    for id in ids {
+        write!(out, " {id}")?;
+    }
+    out.write_all(b"\n")
 }
 
-// A report of n bytes: a line for each record.
-pub fn put_report(out: &mut [u8], at: usize, report: &[u8], n: usize) -> usize
-    ensures { (ls : List (List Text)) → ReportAt report.now n ls → Put (lines ls) out.old at out.new result }
+// A line for each record.
+#[tactic(auto, unfolding(crate::specs::Reports::report_lines))]
+pub fn put_report<W: Write>(out: &mut W, report: &[u8]) -> io::Result<()>
+    ensures { OnOk result (Appends (W.contents out.old) (W.contents out.new) (lines (report_lines report.now))) }
 {
-    if byte(report, 0) == RING {
-        return put_ring(out, at, report, n);
+    match report {
+        [number, _, _, _, ids @ ..] if *number == u8::from(Cause::Ring) => put_ring(out, ids),
+        _ => put_faults(out, report),
     }
-    put_faults(out, at, report, n / 3)
 }

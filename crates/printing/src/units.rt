@@ -1,69 +1,38 @@
 // The line `ok` and the units in linked order: id and path.
-ghost use Rattle.text.specs.Words.{line};
-ghost use Rattle.text.specs.Writing.{Put};
+ghost use Rattle.std.specs.Prelude.{OnOk, ◌∷◌, [], map, length, EachIndex, slice_index};
+ghost use Rattle.std.specs.Io.KnownBytes.{Appends};
+ghost use Rattle.names.specs.Bytes.{ascii};
+ghost use Rattle.names.specs.Decimal.{decimal};
+ghost use Rattle.text.specs.Words.{line, lines};
 ghost use Rattle.bundle.specs.Decode.{decode};
 ghost use Rattle.order.specs.Run.{units_of};
 ghost use Rattle.assembly.specs.Given.{OneUnit};
 ghost use Rattle.printing.specs.Lines.{unit_line};
-ghost use Rattle.printing.specs.Units.{PathOf, UnitLines, OkLines};
 
-use bundle::limits::FILES;
-use text::read::{half, place};
+use std::io;
+use std::io::Write;
 
-// The path of a file of the bundle.
-fn put_path(out: &mut [u8], at: usize, s: &[u8], f: usize) -> usize
-    ensures { PathOf s.now f out.old at out.new result }
+// The line of a unit.
+#[tactic(auto, using(text::specs::Appending::written, crate::specs::Units::units), unfolding(text::specs::Words::line, names::specs::Bytes::ascii))]
+fn put_unit<W: Write>(out: &mut W, s: &[u8], files: &[usize], unit: u16) -> io::Result<()>
+    requires { OneUnit s.now files.now unit }
+    ensures { OnOk result (Appends (W.contents out.old) (W.contents out.new) (line (unit_line (units_of (decode s.now)) unit))) }
 {
-    if f < FILES {
-        let p = bundle::file_at(s, f);
-        return text::put_bytes(out, at, bundle::file_path(s, p));
+    write!(out, "unit {unit} ")?;
+    let file = bundle::file_at(s, files[usize::from(unit)]);
+    out.write_all(bundle::file_path(s, file))?;
+    out.write_all(b"\n")
+}
+
+#[tactic(auto, using(text::specs::Appending::written, crate::specs::Units::units), unfolding(text::specs::Words::lines, text::specs::Words::line, names::specs::Bytes::ascii))]
+pub fn put_units<W: Write>(out: &mut W, s: &[u8], files: &[usize], units: &[u16]) -> io::Result<()>
+    requires { EachIndex units.now (λ i. OneUnit s.now files.now (slice_index units.now i)) }
+    ensures { OnOk result (Appends (W.contents out.old) (W.contents out.new)
+        (lines ((ascii "ok" ∷ decimal (length units.now) ∷ []) ∷ map (unit_line (units_of (decode s.now))) units.now))) }
+{
+    writeln!(out, "ok {}", units.len())?;
+    for unit in units {
+        put_unit(out, s, files, *unit)?;
     }
-    at
-}
-
-fn put_unit<'a>(out: &mut [u8], at: usize, s: &'a [u8], files: &'a [usize], u: usize) -> usize
-    ensures { OneUnit s.now files.now u → Put (line (unit_line (units_of (decode s.now)) u)) out.old at out.new result }
-{
-    let a = text::put_bytes(out, at, b"unit ");
-    let b = text::put_decimal(out, a, u as u64);
-    let c = text::put(out, b, 32);
-    let f = place(files, u);
-    let d = put_path(out, c, s, f);
-    text::put(out, d, 10)
-}
-
-fn put_list<'a>(
-    out: &mut [u8],
-    at: usize,
-    s: &'a [u8],
-    files: &'a [usize],
-    ids: &'a [u16],
-    units: usize,
-) -> usize
-    ensures { UnitLines s.now files.now ids.now units out.old at out.new result }
-{
-    let mut to = at;
-    let mut i = 0;
-    while i < units {
-        let u = half(ids, i);
-        to = put_unit(out, to, s, files, u);
-        i += 1;
-    }
-    to
-}
-
-pub fn put_units<'a>(
-    out: &mut [u8],
-    at: usize,
-    s: &'a [u8],
-    files: &'a [usize],
-    ids: &'a [u16],
-    units: usize,
-) -> usize
-    ensures { OkLines s.now files.now ids.now units out.old at out.new result }
-{
-    let a = text::put_bytes(out, at, b"ok ");
-    let b = text::put_decimal(out, a, units as u64);
-    let c = text::put(out, b, 10);
-    put_list(out, c, s, files, ids, units)
+    Ok(())
 }

@@ -1,82 +1,47 @@
-// Text written into a lent buffer, as much of it as there is room for. Each function writes on from `at` and answers where its text
-// ends; what the buffer then holds is the definition's (specs/Writing.antt).
+// What is written of numbers, names and refusals, to whatever writer: what is then appended is the definition's.
 #![tactic(auto)]
 
-pub mod read;
-
 ghost use Rattle.names.specs.Decimal.{decimal};
-ghost use Rattle.text.specs.Writing.{Put};
 ghost use Rattle.text.specs.Words.{line, no_line, bytes_of, spelled};
-ghost use Rattle.std.specs.Prelude.{[], ◌∷◌};
+ghost use Rattle.std.specs.Prelude.{OnOk};
+ghost use Rattle.std.specs.Io.KnownBytes.{Appends};
 
-// One byte.
-pub fn put(out: &mut [u8], at: usize, b: u8) -> usize
-    ensures { Put (b ∷ []) out.old at out.new result }
-{
-    if at < out.len() {
-        out[at] = b;
-        return at + 1;
-    }
-    at
-}
+use names::Name;
+use std::io;
+use std::io::Write;
 
-// All bytes of a slice.
-pub fn put_bytes(out: &mut [u8], at: usize, s: &[u8]) -> usize
-    ensures { Put s.now out.old at out.new result }
+// A number in decimal.
+#[tactic(auto, using(crate::specs::Appending::written))]
+pub fn put_decimal<W: Write>(out: &mut W, n: u64) -> io::Result<()>
+    ensures { OnOk result (Appends (W.contents out.old) (W.contents out.new) (decimal n)) }
 {
-    let mut to = at;
-    let mut i = 0;
-    while i < s.len() {
-        to = put(out, to, s[i]);
-        i += 1;
-    }
-    to
-}
-
-// A number in decimal: the digits of the unit's name with that id.
-pub fn put_decimal(out: &mut [u8], at: usize, n: u64) -> usize
-    ensures { Put (decimal n) out.old at out.new result }
-{
-    let unit = names::unit_name(n);
-    put_bytes(out, at, names::after(unit.as_slice(), 5))
+    write!(out, "{n}")
 }
 
 // The bytes of a word, big-endian, up to the first 0.
-fn put_word(out: &mut [u8], at: usize, w: u64) -> usize
-    ensures { Put (bytes_of 8 w) out.old at out.new result }
+fn put_word<W: Write>(out: &mut W, word: u64) -> io::Result<()>
+    ensures { OnOk result (Appends (W.contents out.old) (W.contents out.new) (bytes_of 8 word)) }
 {
-    let mut to = at;
-    let mut d: u64 = 72057594037927936;
-    let mut k: usize = 8;
-    while k > 0 {
-        let b = w / d % 256;
-        if b == 0 {
-            return to;
-        }
-        to = put(out, to, b as u8);
-        d /= 256;
-        k -= 1;
-    }
-    to
+    let bytes = word.to_be_bytes();
+    let end = bytes.iter().position(|b| *b == 0).unwrap_or(bytes.len());
+    out.write_all(&bytes[..end])
 }
 
-// A name, by its four words.
-pub fn put_name(out: &mut [u8], at: usize, w0: u64, w1: u64, w2: u64, w3: u64) -> usize
-    ensures { Put (spelled (record { w0 = w0; w1 = w1; w2 = w2; w3 = w3 })) out.old at out.new result }
+// A name as it stands in the source.
+#[tactic(auto, using(crate::specs::Appending::written), unfolding(crate::specs::Words::spelled))]
+pub fn put_name<W: Write>(out: &mut W, name: Name) -> io::Result<()>
+    ensures { OnOk result (Appends (W.contents out.old) (W.contents out.new) (spelled name)) }
 {
-    let a = put_word(out, at, w0);
-    let b = put_word(out, a, w1);
-    let c = put_word(out, b, w2);
-    put_word(out, c, w3)
+    put_word(out, name.w0)?;
+    put_word(out, name.w1)?;
+    put_word(out, name.w2)?;
+    put_word(out, name.w3)
 }
 
 // A line `no`, a number and a place.
-pub fn put_no(out: &mut [u8], at: usize, n: u64, p: u64) -> usize
-    ensures { Put (line (no_line n p)) out.old at out.new result }
+#[tactic(auto, using(crate::specs::Appending::written), unfolding(crate::specs::Words::line, names::specs::Bytes::ascii))]
+pub fn put_no<W: Write>(out: &mut W, n: u64, p: u64) -> io::Result<()>
+    ensures { OnOk result (Appends (W.contents out.old) (W.contents out.new) (line (no_line n p))) }
 {
-    let a = put_bytes(out, at, b"no ");
-    let b = put_decimal(out, a, n);
-    let c = put(out, b, 32);
-    let d = put_decimal(out, c, p);
-    put(out, d, 10)
+    writeln!(out, "no {n} {p}")
 }

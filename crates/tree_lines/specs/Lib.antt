@@ -1,4 +1,4 @@
 -- DEFINITIONS: the lines `has` of a tree
 pub mod Entries
--- LAWS for the code's proofs
-pub mod Modules
+pub mod Shows
+pub mod Paths

@@ -1,194 +1,101 @@
-// The lines `has` of a tree, written into a lent buffer.
+// The lines `has` of a tree, to whatever writer.
 #![tactic(auto)]
 
-ghost use Rattle.std.specs.Prelude.{◌≡◌, List, [], ◌∷◌, ℕ, suc, ◌<◌, get_or};
-ghost use Rattle.names.specs.Decimal.{decimal};
-ghost use Rattle.text.specs.Words.{line, lines, spelled};
-ghost use Rattle.text.specs.Writing.{Put};
-ghost use Rattle.scope_tree.specs.Flat.{Entry, none};
-ghost use Rattle.scope_tree.specs.Trees.{part, flat_of};
-ghost use Rattle.tree_lines.specs.Entries.{module_path, has_lines};
-ghost use Rattle.tree_lines.specs.Modules.{Paths, Tells, parent_in, around_in, Deepest, step_of};
+ghost use Rattle.std.specs.Prelude.{◌≡◌, [], ◌∷◌, get_or, OnOk};
+ghost use Rattle.std.specs.Io.KnownBytes.{Appends};
+ghost use Rattle.text.specs.Words.{line, lines};
+ghost use Rattle.scope_tree.specs.Flat.{none};
+ghost use Rattle.scope_tree.specs.Trees.{flat_of};
+ghost use Rattle.tree_lines.specs.Entries.{module_path, has_line, has_lines};
+ghost use Rattle.tree_lines.specs.Shows.{shown_of};
 
-use scopes::{CELLS, Tree};
-use text::read::{half, word};
+use names::Name;
+use scopes::{ENTRIES, Tree};
+use std::io;
+use std::io::Write;
 
-// The scope around the module of a scope; the root for the root.
-fn parent(scopes: &[u16], count: usize, s: usize) -> usize
-    ensures { result ≡ parent_in scopes.now count s }
-{
-    if s == 0 {
-        return 0;
-    }
-    let e = s - 1;
-    if e < count {
-        return half(scopes, e);
-    }
-    0
+// What is printed of an entry.
+#[derive(Clone, Copy)]
+struct Shown {
+    // 0 the root, i + 1 the module at entry i
+    scope: usize,
+    kind: u16,
+    name: Name,
+    mark: u16,
 }
 
-// The k-th scope around a scope.
-fn around(scopes: &[u16], count: usize, s: usize, k: usize) -> usize
-    ensures { result ≡ around_in scopes.now count s k }
+// What is printed where there is no entry.
+const NONE: Shown = Shown {
+    scope: 0,
+    kind: 0,
+    name: Name {
+        w0: 0,
+        w1: 0,
+        w2: 0,
+        w3: 0,
+    },
+    mark: 0,
+};
+
+// Entry i of a tree.
+#[tactic(auto, using(crate::specs::Shows::entries_at))]
+fn entry_at(tree: &Tree, i: usize) -> Shown
+    ensures { result ≡ shown_of (get_or (flat_of tree.now).entries i none) }
 {
-    let mut at = s;
-    let mut i = 0;
-    while i < k {
-        at = parent(scopes, count, at);
-        i += 1;
+    let count = scopes::count_of(&tree.opened);
+    if i >= count || i >= ENTRIES {
+        return NONE;
     }
-    at
+    Shown {
+        scope: usize::from(tree.scopes[i]),
+        kind: scopes::kind_at(&tree.cells, i),
+        name: Name {
+            w0: tree.n0[i],
+            w1: tree.n1[i],
+            w2: tree.n2[i],
+            w3: tree.n3[i],
+        },
+        mark: tree.marks[i],
+    }
 }
 
-// How many modules a scope lies in, its own included.
-fn depth_of(scopes: &[u16], count: usize, s: usize) -> usize
-    ensures { Deepest scopes.now count s result }
+// The path of the module of a scope, from `crate` on: the modules around it, outermost first, of which there are at most `depth`.
+#[tactic(auto, using(text::specs::Appending::written), unfolding(crate::specs::Entries::module_path, names::specs::Bytes::ascii))]
+fn put_module<W: Write>(out: &mut W, tree: &Tree, scope: usize, depth: usize) -> io::Result<()>
+    ensures { OnOk result (Appends (W.contents out.old) (W.contents out.new) (module_path depth (flat_of tree.now).entries scope)) }
 {
-    let mut at = s;
-    let mut d = 0;
-    while d < count {
-        if at == 0 {
-            return d;
-        }
-        at = parent(scopes, count, at);
-        d += 1;
+    if scope == 0 || depth == 0 {
+        return out.write_all(b"crate");
     }
-    d
+    let module = entry_at(tree, scope - 1);
+    put_module(out, tree, module.scope, depth - 1)?;
+    out.write_all(b"::")?;
+    text::put_name(out, module.name)
 }
 
-// The name of the module of a scope, after `::`.
-fn put_step<'a>(
-    out: &mut [u8],
-    at: usize,
-    n0: &'a [u64],
-    n1: &'a [u64],
-    n2: &'a [u64],
-    n3: &'a [u64],
-    count: usize,
-    s: usize,
-) -> usize
-    ensures { (l : List Entry) (scopes : List ℕ) → Paths l count scopes n0.now n1.now n2.now n3.now → (i : ℕ) → s ≡ suc i → Put (step_of l i) out.old at out.new result }
+// The line of entry i of `count`; none of a unit.
+#[tactic(auto, using(text::specs::Appending::written, crate::specs::Shows::entries_at), unfolding(crate::specs::Entries::has_lines, text::specs::Words::lines, text::specs::Words::line, names::specs::Bytes::ascii))]
+fn put_entry<W: Write>(out: &mut W, tree: &Tree, i: usize) -> io::Result<()>
+    ensures { OnOk result (Appends (W.contents out.old) (W.contents out.new) (lines (has_lines (flat_of tree.now).entries (get_or (flat_of tree.now).entries i none ∷ [])))) }
 {
-    let a = text::put_bytes(out, at, b"::");
-    if s == 0 {
-        return a;
+    let entry = entry_at(tree, i);
+    if entry.scope == 0 {
+        return Ok(());
     }
-    let e = s - 1;
-    if e < count {
-        return text::put_name(out, a, word(n0, e), word(n1, e), word(n2, e), word(n3, e));
-    }
-    a
-}
-
-// The path of the module of a scope, from `crate` on: the modules around it, outermost first.
-fn put_module<'a>(
-    out: &mut [u8],
-    at: usize,
-    scopes: &'a [u16],
-    n0: &'a [u64],
-    n1: &'a [u64],
-    n2: &'a [u64],
-    n3: &'a [u64],
-    count: usize,
-    s: usize,
-) -> usize
-    ensures { (l : List Entry) → Paths l count scopes.now n0.now n1.now n2.now n3.now → Put (module_path count l s) out.old at out.new result }
-{
-    let mut to = text::put_bytes(out, at, b"crate");
-    let mut k = depth_of(scopes, count, s);
-    while k > 0 {
-        k -= 1;
-        let m = around(scopes, count, s, k);
-        to = put_step(out, to, n0, n1, n2, n3, count, m);
-    }
-    to
-}
-
-// An entry's kind, name and mark, and the line's end.
-fn put_shows(
-    out: &mut [u8],
-    at: usize,
-    kind: u64,
-    w0: u64,
-    w1: u64,
-    w2: u64,
-    w3: u64,
-    mark: u64,
-) -> usize
-    ensures { Put (32 ∷ line (decimal kind ∷ spelled (record { w0 = w0; w1 = w1; w2 = w2; w3 = w3 }) ∷ decimal mark ∷ [])) out.old at out.new result }
-{
-    let a = text::put(out, at, 32);
-    let b = text::put_decimal(out, a, kind);
-    let c = text::put(out, b, 32);
-    let d = text::put_name(out, c, w0, w1, w2, w3);
-    let e = text::put(out, d, 32);
-    let f = text::put_decimal(out, e, mark);
-    text::put(out, f, 10)
-}
-
-// The line of an entry; none of a unit.
-fn put_entry<'a>(
-    out: &mut [u8],
-    at: usize,
-    scopes: &'a [u16],
-    cells: &'a [u16; CELLS],
-    marks: &'a [u16],
-    n0: &'a [u64],
-    n1: &'a [u64],
-    n2: &'a [u64],
-    n3: &'a [u64],
-    count: usize,
-    i: usize,
-) -> usize
-    ensures { (l : List Entry) → Tells l count scopes.now (part 0 cells.now) marks.now n0.now n1.now n2.now n3.now → i < count → Put (lines (has_lines l (get_or l i none ∷ []))) out.old at out.new result }
-{
-    let s = half(scopes, i);
-    if s == 0 {
-        return at;
-    }
-    let a = text::put_bytes(out, at, b"has ");
-    let b = put_module(out, a, scopes, n0, n1, n2, n3, count, s);
-    put_shows(
-        out,
-        b,
-        scopes::kind_at(cells, i) as u64,
-        word(n0, i),
-        word(n1, i),
-        word(n2, i),
-        word(n3, i),
-        half(marks, i) as u64,
-    )
-}
-
-fn put_entries<'a>(
-    out: &mut [u8],
-    at: usize,
-    scopes: &'a [u16],
-    cells: &'a [u16; CELLS],
-    marks: &'a [u16],
-    n0: &'a [u64],
-    n1: &'a [u64],
-    n2: &'a [u64],
-    n3: &'a [u64],
-    count: usize,
-) -> usize
-    ensures { (l : List Entry) → Tells l count scopes.now (part 0 cells.now) marks.now n0.now n1.now n2.now n3.now → Put (lines (has_lines l l)) out.old at out.new result }
-{
-    let mut to = at;
-    let mut i = 0;
-    while i < count {
-        to = put_entry(out, to, scopes, cells, marks, n0, n1, n2, n3, count, i);
-        i += 1;
-    }
-    to
+    out.write_all(b"has ")?;
+    put_module(out, tree, entry.scope, scopes::count_of(&tree.opened))?;
+    write!(out, " {} ", entry.kind)?;
+    text::put_name(out, entry.name)?;
+    writeln!(out, " {}", entry.mark)
 }
 
 // The entries in the order made; units are not shown.
-pub fn put_tree(out: &mut [u8], at: usize, t: Tree) -> usize
-    ensures { Put (lines (has_lines (flat_of t).entries (flat_of t).entries)) out.old at out.new result }
+#[tactic(auto, using(text::specs::Appending::written, crate::specs::Shows::entries_at, crate::specs::Paths::all_entries), unfolding(crate::specs::Entries::has_lines, text::specs::Words::lines))]
+pub fn put_tree<W: Write>(out: &mut W, tree: &Tree) -> io::Result<()>
+    ensures { OnOk result (Appends (W.contents out.old) (W.contents out.new) (lines (has_lines (flat_of tree.now).entries (flat_of tree.now).entries))) }
 {
-    let count = scopes::count_of(&t.opened);
-    put_entries(
-        out, at, &t.scopes, &t.cells, &t.marks, &t.n0, &t.n1, &t.n2, &t.n3, count,
-    )
+    for i in 0..scopes::count_of(&tree.opened) {
+        put_entry(out, tree, i)?;
+    }
+    Ok(())
 }

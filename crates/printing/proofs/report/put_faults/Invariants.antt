@@ -1,11 +1,9 @@
-use Prim.Native.Nat.{◌-◌, ◌≤◌}
-use mathlib.Core.Path.{◌≡◌}
-use lib.ListN.{length}
-use Rattle.printing.specs.Reports.{FaultsPut}
+-- The lines of the records so far are written.
+use Rattle.std.proofs.Common.{map, take}
+use Rattle.std.specs.Io.KnownBytes.{Appends}
+use Rattle.text.specs.Words.{lines}
+use Rattle.printing.specs.Reports.{record_line}
 use Rattle.printing.proofs.report.put_faults.Given as goal
 
-abbrev pub invariant-loop-i : goal.invariant-loop-i
-invariant-loop-i l = (l.i ≤ l.count) × FaultsPut l.report l.count l.initial.out l.at l.out l.to l.i × (length l.out ≡ length l.initial.out)
-
-abbrev pub decreases-loop-i : goal.decreases-loop-i
-decreases-loop-i l = l.count - l.i
+abbrev pub invariant-loop-number : goal.invariant-loop-number
+invariant-loop-number g l = Appends (g.W.Write.contents l.initial.out) (g.W.Write.contents l.out) (lines (map record_line (take l.number-index l.records)))
