@@ -189,6 +189,10 @@ same_ended s u t = rw same_is (both_ways (same s (u ++ t)) (same (back (length t
 pub rest-is : (s : List ℕ) (at : ℕ) → take (length s - at) (drop at s) ≡ drop at s
 rest-is s at = take_all (length s - at) (drop at s) (omega (arith, length-drop at s))
 
+-- what a pattern `[first, rest @ ..]` binds
+pub after_first : (s : List ℕ) → take (length s - 1) (drop 1 s) ≡ drop 1 s
+after_first s = rest-is s 1
+
 pub length_rest : (s : List ℕ) (at : ℕ) → length (take (length s - at) (drop at s)) ≡ length s - at
 length_rest s at = ap length (rest-is s at) ∙ length-drop at s
 

@@ -4,6 +4,7 @@ use Rattle.std.proofs.Common.{zero-le, not-suc-le-zero, le_of_suc-le-suc, arith,
 use Rattle.std.proofs.Math.Decide.{dec_lt}
 use Rattle.std.proofs.Math.Bool.{and-false}
 use Rattle.std.proofs.lemmas.Bool.{lt-leb}
+use Rattle.std.proofs.lemmas.Bool.Decides.{nat_tests}
 use Rattle.names.specs.Bytes.{all, all-each, and_left, and_right, false_true}
 
 -- the most bytes that an identifier, and a path's component, may have
@@ -62,15 +63,17 @@ class-other b d u l n =
 -- IDENTIFIERS
 
 -- a first byte and those after it
-pub identifier_is : (s : List ℕ) → 1 ≤ length s → is_identifier s ≡ (leb (length s) name_limit && (eqb (class (get_or s 0 0)) 1 && all inside (drop 1 s)))
-unfolding is_identifier
-identifier_is [] h = absurd (omega arith)
-identifier_is (b ∷ s) h = refl
+pub identifier_is : (s : List ℕ) → is_identifier s ≡ (leb (length s) name_limit && (eqb (class (get_or s 0 0)) 1 && all inside (drop 1 s)))
+unfolding is_identifier class letter digit
+identifier_is [] = refl
+identifier_is (b ∷ s) = refl
 
 pub no_identifier : (s : List ℕ) → length s ≡ 0 → is_identifier s ≡ false
 unfolding is_identifier
 no_identifier [] h = refl
 no_identifier (b ∷ s) h = absurd (omega arith)
+
+pub ruleset first_and_rest = (identifier_is, no_identifier, nat_tests)
 
 pub long-identifier : (s : List ℕ) → name_limit < length s → is_identifier s ≡ false
 unfolding is_identifier

@@ -1,9 +1,8 @@
 -- A name as a value: its bytes packed into four words, big-endian, zero past the end. Two names without a zero byte, of at
 -- most 32 bytes, have the same words only where they are the same. Assumes nothing.
 use Rattle.std.specs.Prelude.{ℕ, zero, suc, ◌+◌, ◌*◌, ◌-◌, ◌^◌, ◌≤◌, ◌<◌, ◌≡◌, refl, List, Bool, true, ◌&&◌, eqb, length, Decides}
-use Rattle.std.proofs.Common.{not-suc-le-zero, le_refl, arith, ap, sym, eq-eqb, eqb-true, lit≤, ext_get_or, rules, tests}
+use Rattle.std.proofs.Common.{not-suc-le-zero, le_refl, arith, ap, sym, eq-eqb, lit≤, ext_get_or, rules, tests}
 use Rattle.std.proofs.Math.Decide.{dec_lt, dec_le}
-use Rattle.names.specs.Bytes.{and_left, and_right}
 use Rattle.names.specs.Identifier.{name_limit}
 use Rattle.std.proofs.Math.ListN.{get_or, get_or-eq_default}
 use Rattle.names.specs.declared.Name.{Name}

@@ -10,7 +10,7 @@ use borrow.Author.Tests.{eq-eqb, ne_eqb, eqb-true, le-leb}
 use Rattle.std.proofs.lemmas.Bool.Decides.{nat_tests}
 use Rattle.std.specs.List.{list_any}
 use Rattle.std.specs.Cmp.Lexicographic.{pointwise}
-use Rattle.names.specs.Bytes.{length_rest, ascii, slash, same, same-eq, same-append, different, has_prefix, same_is, same_ended, front_but, back, all}
+use Rattle.names.specs.Bytes.{after_first, length_rest, ascii, slash, same, same-eq, same-append, different, has_prefix, same_is, same_ended, front_but, back, all}
 use Rattle.names.specs.Path.{split, components, render, root, is_component, well_formed, is_path, component_limit, path_limit}
 use Rattle.names.specs.Prefix.{begins, starts_with, init, parent, depth, directly_in, stem_of, child}
 use Rattle.names.specs.Pieces.{first_slash, later, split-is, leads, begins-leads, not_root}
@@ -53,7 +53,7 @@ pub fits-first : (s : List ℕ) → well_formed (split s) ≡ fits (component_li
 unfolding fits well_formed
 fits-first s = refl
 
-pub ruleset piece_by_piece = (fits-first, fits_step, fits_none, nat_tests)
+pub ruleset piece_by_piece = (fits-first, fits_step, fits_none, after_first, nat_tests)
 
 -- HOW MANY COMPONENTS
 
@@ -135,7 +135,7 @@ path_is s = go (eqb (get_or s 0 0) slash) refl
 pub root_path : (s : List ℕ) → length s ≡ 1 → get_or s 0 0 ≡ slash → is_path s ≡ true
 root_path s h e = path_is s ∙ rw (eq-eqb _ _ e, h, le-leb 1 path_limit (omega arith))
 
-pub ruleset slash_and_rest = (path_is, length_rest, nat_tests)
+pub ruleset slash_and_rest = (path_is, length_rest, after_first, nat_tests)
 
 -- BELOW A FOLDER
 

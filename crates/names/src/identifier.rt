@@ -19,6 +19,7 @@ fn class_of(b: u8) -> u8
 pub const NAME: usize = 32;
 
 // Whether the bytes are an identifier. Ruled out: `true` of `9a`, of 33 letters or of no byte; `false` of `_`.
+#[tactic(auto, using(crate::specs::Identifier::first_and_rest))]
 pub fn is_identifier(s: &[u8]) -> bool
     ensures { result ≡ is_identifier s.now }
 {
