@@ -1,5 +1,5 @@
 -- Facts of the tests of a graph given directly. Assumes nothing.
-use Rattle.std.specs.Prelude.{◌≡◌, refl, Bool, true, false, cond, ◌&&◌, ℕ, zero, suc, ◌<◌, ◌≤◌, ◌+◌, length, get_or, eqb, leb, ltb, Some, None}
+use Rattle.std.specs.Prelude.{◌≡◌, refl, Bool, true, false, cond, ◌&&◌, ℕ, zero, suc, ◌<◌, ◌≤◌, ◌+◌, get_or, eqb, leb, ltb, Some, None}
 use Rattle.std.proofs.Common.{sym, ap, ◌∙◌, ⊎_elim, add-one, arith}
 use Rattle.std.specs.List.{list_all}
 use Rattle.std.proofs.Math.Path.{subst}
@@ -127,12 +127,11 @@ module _ (g : Graph) (e : refusal g ≡ 0) where
   pub within_of : Within (deps_of g) g.units
   within_of = record { some = (counts g tests.0).0; lists = λ u d h m. list-known g u d tests.2 h m }
 
-  pub sound-of : length g.ids ≡ id_limit → Sound g
-  sound-of long =
+  pub sound-of : Sound g
+  sound-of =
       let n = counts g tests.0 in
       record {
         small = n.1;
-        ids_long = long;
         within = within_of;
         rooms = λ u h. let f = list_fits g u tests.1 h in let k = n.2 in omega arith;
       }

@@ -13,6 +13,6 @@ pub mod Cases
 -- laws, for the code and for proofs
 pub mod Facts
 pub mod State
-pub mod Arrays
+pub mod Position
 pub mod Steps
 pub mod GivenFacts

@@ -11,7 +11,6 @@ use Rattle.graph.specs.Given.{deps_of}
 -- the counts are within the limits, the lists within the ids, and each id in a list is a unit
 pub record Sound (g : Graph) : Type 0 where
   pub small : g.units ≤ unit_limit
-  pub ids_long : length g.ids ≡ id_limit
   pub within : Within (deps_of g) g.units
   pub rooms : (x : ℕ) → x < g.units → get_or g.start x 0 + get_or g.len x 0 ≤ id_limit
 

@@ -15,7 +15,7 @@ use Rattle.graph.specs.Facts.{memb_false, mem_snoc, once_snoc, pigeonhole, path_
 use Rattle.graph.specs.OrderTheorems.{Done, Apart, On, Post, on-push, trail_snoc, visit-right, done-once, done-reach, start}
 use Rattle.graph.specs.Given.{deps_of}
 use Rattle.graph.specs.State.{Sound, Fine, Ready, visit_of, Walked}
-use Rattle.graph.specs.Arrays.{member-position, no_member-position}
+use Rattle.graph.specs.Position.{member-position, no_member-position}
 
 -- the definition, a case at a time
 module _ (deps : ℕ → List ℕ) (k : ℕ) (s o : List ℕ) (u : ℕ) where

@@ -1,6 +1,6 @@
 -- What the code makes of the record that discovery left. Assumes nothing.
 use Rattle.std.specs.Prelude.{ℕ, ◌+◌, ◌<◌, ◌≤◌, ◌≡◌, refl, List, [], ◌∷◌, ◌++◌, length, get_or, set, take, drop, Ok, Err}
-use Rattle.std.proofs.Common.{add-one, arith, sym, ap, subst, ◌∙◌, length-append, length-take-le, take-suc, take_at}
+use Rattle.std.proofs.Common.{add-one, arith, sym, ap, ◌∙◌, length-take-le, take-suc}
 use Rattle.std.proofs.lemmas.List.{length-replicate}
 use Rattle.std.proofs.Math.Seq.{take-length}
 use Rattle.bundle.specs.Limits.{file_limit, use_limit}
@@ -10,13 +10,12 @@ use Rattle.driver.specs.Meaning.{faults_in, faults-counted, faults_of}
 use Rattle.graph.specs.declared.Graph as given
 use Rattle.graph.specs.declared.Unordered.TheVariants.{Ring}
 use Rattle.graph.specs.Linearize.{Out, order, ring, linearize}
-use Rattle.graph.specs.Limits.{unit_limit, id_limit}
 use Rattle.graph.specs.Given.{deps_of, refusal, linearize_given}
 use Rattle.graph.specs.GivenFacts.{sound-of}
 use Rattle.graph.specs.Padded.{padded}
 use Rattle.graph.specs.Told.{told}
 use Rattle.graph.specs.ToldTheorems.{order-told, ring-told}
-use Rattle.order.specs.Run.{Outcome, faulty, closed, step4, outcome}
+use Rattle.order.specs.Run.{Outcome, faulty, step4, outcome}
 use Rattle.order.specs.Report.{records_of, lent_report, reporting, nothing_lent}
 use Rattle.order.specs.Writing.{fault_records, ring_records}
 use Rattle.encoder.specs.Started.{put_one}
@@ -78,8 +77,8 @@ module _ (g : Graph) (f : Found g) where
   abbrev walk : Out
   walk = linearize (deps_of (given_of g)) g.units
 
-  pub units-few : length g.ids ≡ id_limit → g.units ≤ file_limit
-  units-few long = (sound-of (given_of g) f.sound long).small
+  pub units-few : g.units ≤ file_limit
+  units-few = (sound-of (given_of g) f.sound).small
 
   module _ (out : List ℕ) (a : Answer) where
     pub told-faults : (r : Reported) (final : List ℕ) → 0 < g.faults → g.faults ≤ length g.numbers → g.faults ≤ length g.places

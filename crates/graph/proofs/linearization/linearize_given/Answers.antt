@@ -1,5 +1,5 @@
 -- `linearization::linearize_given` answers the refusal, or what the walk of a graph that is not refused answers. Assumes nothing.
-use Rattle.std.proofs.Common.{rules, sym, ap, ◌∙◌}
+use Rattle.std.proofs.Common.{sym, ap, ◌∙◌}
 use Rattle.std.proofs.lemmas.Result.{err_from_is_err_and}
 use Rattle.graph.specs.Given.{numbered}
 use Rattle.graph.specs.GivenFacts.{sound-of, given-accepted, given-cause}
@@ -12,7 +12,7 @@ returns-in_err-check c =
     rw (p.1, p.2) (given-cause c.args.g _ c.in_err-check.ensures)
 
 pub dfs_linearize-requires : goal.dfs_linearize-requires
-dfs_linearize-requires c = rw (c.new.ensures, c.new-2.ensures) (ready c.args.g (sound-of c.args.g (sym c.in_ok-check.ensures) (search rules)))
+dfs_linearize-requires c = rw (c.new.ensures, c.new-2.ensures) (ready c.args.g (sound-of c.args.g (sym c.in_ok-check.ensures)))
 
 pub returns-in-Ok : goal.returns-in-Ok
 returns-in-Ok c =

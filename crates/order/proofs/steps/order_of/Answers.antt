@@ -3,7 +3,6 @@ use mathlib.Core.Path.{◌≡◌, ◌∙◌}
 use native.Mathlib.Omega.{arith}
 use lib.ListN.{length}
 use Rattle.bundle.specs.Limits.{file_limit, use_limit}
-use Rattle.graph.specs.Limits.{id_limit}
 use Rattle.graph.specs.ToldTheorems.{refusal-told}
 use Rattle.order.specs.Steps.{given_of, units-few, told-faults, told-order, told-ring}
 use Rattle.std.proofs.Common.{rules}
@@ -19,10 +18,9 @@ returns-then-g-gt0 c =
 
 pub linked-requires : goal.linked-requires
 linked-requires c =
-    let zi : length c.args.g.ids ≡ id_limit = search (rules, c.well_formed) in
     let zf : length c.args.g.files ≡ file_limit = search (rules, c.well_formed) in
-    let few = units-few c.args.g c.requires zi in
-    (few, omega arith)
+    let few = units-few c.args.g c.requires in
+    (omega arith, omega arith)
 
 pub unreachable-requires : goal.unreachable-requires
 unreachable-requires c = refusal-told (given_of c.args.g) c.requires.sound _ (rw c.in-Err-Refused.field-0-is at c.in-Err-Refused.ensures)
