@@ -4,8 +4,7 @@ use Rattle.std.specs.Prelude.{ℕ, ◌/◌, ◌≤◌, ◌<◌, true, length}
 use Rattle.std.proofs.Common.{arith, ⊎_elim, sym, ap, ◌∙◌, length-append}
 use Rattle.std.proofs.Math.Decide.{dec_lt}
 use Rattle.std.proofs.Math.Path.{◌≡◌, refl, subst}
-use Rattle.std.proofs.Math.Option.{Option}
-use Rattle.std.proofs.Math.Option as option
+use Rattle.std.specs.Prelude.{Option, Some, None}
 use mathlib.Core.List.Memᴰ
 use mathlib.Core.List.{List, [], ◌∷◌, ◌++◌, Memᴰ}
 use Rattle.names.specs.Bytes.{ascii, same, all}
@@ -56,16 +55,16 @@ module _ (l : Lists) (file : Text) where
     itself-leaves root (missing m) h = cond_elim (Leaves parts) (directly_in file root) (λ e. record { before = []; is = refl }) (λ e. tt)
 
     below-leaves : (x : Option Text) → Leaves parts (resolve_below l file parts x)
-    below-leaves option.none = tt
-    below-leaves (option.some root) = itself-leaves root (build_and_verify_path l root parts) (lookup-leaves root parts)
+    below-leaves None = tt
+    below-leaves (Some root) = itself-leaves root (build_and_verify_path l root parts) (lookup-leaves root parts)
 
     external-leaves : (x : Lookup) → LeftBy parts x → Leaves parts (external l file x)
     external-leaves (found p rest) h = cond_elim (Leaves parts) (check_local_file_imported_as_external l file p) (λ e. tt) (λ e. h)
     external-leaves (missing m) h = tt
 
     outside-leaves : (x : Option Remapping) → Leaves parts (resolve_external_path l file parts x)
-    outside-leaves option.none = tt
-    outside-leaves (option.some r) = external-leaves (build_and_verify_path l r.target parts) (lookup-leaves r.target parts)
+    outside-leaves None = tt
+    outside-leaves (Some r) = external-leaves (build_and_verify_path l r.target parts) (lookup-leaves r.target parts)
 
     resolved-leaves : (name : Text) → Leaves parts (resolve_path_internal l file (name ∷ parts))
     unfolding resolve_path_internal resolve_crate_path
