@@ -217,20 +217,6 @@ module _ (out x all : List ℕ) (v : ℕ) (is : all ≡ v ∷ x) (room : length 
   pub one_front : Front (v ∷ []) x out (set out 0 v) 1
   one_front = record { starts = put_one [] out 0 refl v one_some; is = refl; room = let l = ap length is in omega arith }
 
--- two numbers behind the first two, and what comes behind them
-pub start_front : (out x : List ℕ) (k v : ℕ) → 4 + length x ≤ length out → Front (take 2 out ++ (k ∷ v ∷ [])) x out (set (set out 2 k) 3 v) 4
-start_front out x k v h =
-    let l = length-take-le 2 out (omega arith) in
-    let four : 4 ≡ length (take 2 out ++ (k ∷ v ∷ [])) = omega (arith, length-append (take 2 out) (k ∷ v ∷ [])) in
-    record { starts = go out (omega arith); is = four; room = omega (arith, length-append (take 2 out ++ (k ∷ v ∷ [])) x) }
-  where
-    go : (out : List ℕ) → 4 ≤ length out → set (set out 2 k) 3 v ≡ started (take 2 out ++ (k ∷ v ∷ [])) out
-    go [] h = absurd (omega arith)
-    go (_ ∷ []) h = absurd (omega arith)
-    go (_ ∷ _ ∷ []) h = absurd (omega arith)
-    go (_ ∷ _ ∷ _ ∷ []) h = absurd (omega arith)
-    go (_ ∷ _ ∷ _ ∷ _ ∷ out) h = refl
-
 -- the 2-byte length set at last, ahead of a body
 pub put-length : (body out cur final : List ℕ) (n k v : ℕ) → 2 ≤ length out → cur ≡ started (take 2 out ++ (k ∷ v ∷ body)) out → final ≡ set (set cur 0 (n / 256)) 1 (n % 256)
     → final ≡ started (head_bytes n k v ++ body) out

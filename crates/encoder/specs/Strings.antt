@@ -2,23 +2,21 @@
 use Prim.Native.Nat.{ℕ, zero, suc, ◌+◌, ◌-◌, ◌*◌, ◌≤◌, ◌<◌}
 use native.Mathlib.Omega.{arith}
 use Rattle.std.proofs.Common.{sym, ◌∙◌, length-take, length-take-le}
-use Rattle.std.specs.Prelude.{◌≡◌, refl, set, Option, Some, None, IfSome}
+use Rattle.std.specs.Prelude.{◌≡◌, refl, Option, Some, None, IfSome}
 use Rattle.std.specs.Borrow.{Bor}
 use Rattle.std.specs.Iterator.{YieldsFirstRef}
 use Rattle.std.proofs.Math.Path.{ap}
 use mathlib.Core.List.{List, [], ◌∷◌, ◌++◌, append_assoc}
-use Rattle.std.proofs.Math.ListN.{length, take, drop}
+use Rattle.std.proofs.Math.ListN.{length, take, drop, length-append}
 use Rattle.names.specs.Bytes.{ascii}
 use Rattle.names.specs.Decimal.{unit_name}
-use borrow.Rule.Slice.PartMut.{put_mid}
 use Rattle.bundle.specs.Bundle.{Text}
-use Rattle.bundle.specs.Limits.{capacity}
+use Rattle.bundle.specs.Limits.{capacity, string_size}
 use Rattle.bundle.specs.declared.Width.TheVariants.{Byte}
 use Rattle.bundle.specs.Encode.{string, joined, element}
 use Rattle.bundle.specs.Scan.{byte, text}
 use Rattle.bundle.specs.Stand.{Bytes}
 use Rattle.bundle.specs.Decode.{each, after, after_element, element_at}
-use Rattle.encoder.specs.Started.{started}
 
 abbrev pub strings_at : List ℕ → ℕ → ℕ → List Text
 strings_at s n first = each (after s) (text s) n first
@@ -46,9 +44,9 @@ unfolding each
 strings-count s zero at = refl
 strings-count s (suc n) at = ap suc (strings-count s n (after s at))
 
-pub given-rest : (old new : List Text) (r : Option (Bor Text)) → GivesString old r new → new ≡ drop 1 old
-given-rest old new None h = rw (h.0.0, h.0.1)
-given-rest old new (Some t) h = rw h.0
+pub given_rest : (old new : List Text) (r : Option (Bor Text)) → GivesString old r new → new ≡ drop 1 old
+given_rest old new None h = rw (h.0.0, h.0.1)
+given_rest old new (Some t) h = rw h.0
 
 pub joined_none : (l : List Text) → l ≡ [] → joined string l ≡ []
 unfolding joined
@@ -63,11 +61,16 @@ pub string-length : (t : Text) → length (string t) ≡ 1 + length t
 unfolding string
 string-length t = omega arith
 
--- the length byte is set, and the bytes are copied behind it
-pub text_put : (t out : List ℕ) (k : ℕ) → k ≡ length t → 0 < length out → put_mid 1 k (set out 0 (length t)) t ≡ started (string t) out
-unfolding string
-text_put t [] k e h = absurd (omega arith)
-text_put t (b ∷ o) k e h = rw e
+-- one that is passed is short
+pub text_few : (s : List ℕ) (at : ℕ) → after s at ≤ at + string_size → length (text s at) < capacity Byte
+text_few s at h = omega (arith, length-take (byte s at) (drop (at + 1) s))
+
+pub joined_size : (t : Text) (l : List Text) → length (joined string (t ∷ l)) ≡ 1 + length t + length (joined string l)
+joined_size t l = omega (arith, ap length (joined_more (t ∷ l) l t refl), length-append (string t) (joined string l), string-length t)
+
+pub ruleset one_string = (strings_none, strings_more, strings-count, text_few)
+
+pub ruleset sizes = (strings-count, joined_none, joined_size)
 
 -- AN ELEMENT is two strings
 pair-bytes : (s : List ℕ) (n m first : ℕ) → m ≡ n + n → joined element (each (after_element s) (element_at s) n first) ≡ joined string (strings_at s m first)

@@ -27,6 +27,7 @@ pub fn put_head(out: &mut [u8], n: usize, kind: usize, visibility: usize)
 }
 
 // A string: its length byte, then its bytes.
+#[tactic(auto, unfolding(bundle::specs::Encode::string))]
 pub fn put_string(out: &mut [u8], t: &[u8]) -> usize
     requires { (length t.now < capacity Byte) × (1 + length t.now ≤ length out.old) }
     ensures { (result ≡ length (string t.now)) × (out.new ≡ started (string t.now) out.old) }

@@ -10,6 +10,7 @@ use crate::bytes::put_string;
 use bundle::limits::MODULE;
 
 // The start of an item but for its length: the kind, the visibility and the name.
+#[tactic(auto, unfolding(bundle::specs::Encode::string))]
 pub fn put_start(out: &mut [u8], kind: usize, visibility: usize, name: &[u8]) -> usize
     requires { ((kind < 256) × (visibility < 256)) × ((length name.now < capacity Byte) × (4 + length (string name.now) ≤ length out.old)) }
     ensures { (result ≡ 4 + length (string name.now)) × (out.new ≡ started (take 2 out.old ++ (kind ∷ visibility ∷ string name.now)) out.old) }

@@ -9,6 +9,7 @@ use crate::Strings;
 use crate::bytes::put_string;
 
 // The name of the unit, as a string.
+#[tactic(auto, unfolding(bundle::specs::Encode::string))]
 pub fn put_unit(out: &mut [u8], id: usize) -> usize
     requires { length (string (unit_name id)) ≤ length out.old }
     ensures { (result ≡ length (string (unit_name id))) × (out.new ≡ started (string (unit_name id)) out.old) }
@@ -18,6 +19,7 @@ pub fn put_unit(out: &mut [u8], id: usize) -> usize
 }
 
 // `crate`, the name of the unit, and the rest.
+#[tactic(auto, unfolding(bundle::specs::Encode::string, names::specs::Bytes::ascii))]
 pub fn put_segments(out: &mut [u8], id: usize, rest: Strings) -> usize
     requires { length (string (ascii "crate") ++ (string (unit_name id) ++ joined string rest)) ≤ length out.old }
     ensures { (result ≡ length (string (ascii "crate") ++ (string (unit_name id) ++ joined string rest.entry))) × (out.new ≡ started (string (ascii "crate") ++ (string (unit_name id) ++ joined string rest.entry)) out.old) }

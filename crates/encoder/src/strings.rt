@@ -33,6 +33,7 @@ impl<'a> Iterator for Strings<'a> {
 
     ghost remaining = { item_count (λ l. l) };
 
+    #[tactic(auto, using(crate::specs::Strings::one_string))]
     fn next(&mut self) -> Option<&'a [u8]> {
         if self.count == 0 {
             return None;
@@ -63,6 +64,7 @@ impl<'a> Strings<'a> {
     }
 
     // How many bytes they take: a length byte each, and what it counts.
+    #[tactic(auto, using(crate::specs::Strings::sizes))]
     pub fn size(self) -> usize
         ensures { (result ≡ length (joined string self.entry)) × (result ≤ string_size * length self.entry) }
     {

@@ -1,6 +1,5 @@
 -- How the answer to a remapping list is told in numbers. Assumes nothing.
-use Rattle.std.specs.Prelude.{ℕ, ◌≡◌, refl}
-use Rattle.std.proofs.Common.{sym, ◌∙◌}
+use Rattle.std.specs.Prelude.{ℕ}
 use Rattle.remapping_lines.specs.Lines.{Lines, Section, Refused}
 
 -- 0 for a section, else the number of a refusal
@@ -12,11 +11,3 @@ lines_number (Refused n p) = n
 abbrev pub lines_told : Lines → ℕ
 lines_told (Section n) = n
 lines_told (Refused n p) = p
-
--- AS THE CODE HAS IT
-module _ (v w : Lines) (same : w ≡ v) where
-  pub told-section : (n : ℕ) → w ≡ Section n → (0 ≡ lines_number v) × (n ≡ lines_told v)
-  told-section n e = rw (sym same ∙ e) (refl, refl)
-
-  pub told-turned : (n p : ℕ) → w ≡ Refused n p → (n ≡ lines_number v) × (p ≡ lines_told v)
-  told-turned n p e = rw (sym same ∙ e) (refl, refl)

@@ -2,15 +2,14 @@
 use Prim.Native.Nat.{ℕ, zero, suc, ◌+◌, ◌-◌, ◌≤◌, ◌<◌, suc-le-suc}
 use Rattle.std.proofs.Common.{not-suc-le-zero, le_of_suc-le-suc, append-nil, length-append, eq-eqb, ne_eqb, eqb-true}
 use native.Mathlib.Omega.{arith}
-use Rattle.std.specs.Prelude.{Bool, ◌||◌, ◌≡◌, eqb, get_or}
-use Rattle.std.specs.Prelude.{Some}
+use Rattle.std.specs.Prelude.{Bool, ◌||◌, ◌≡◌, eqb, get_or, Some}
 use Rattle.std.specs.Bool.{MatchBool}
 use Rattle.std.specs.Borrow.{Bor}
 use Rattle.std.specs.Fn.{ComputesKey}
 use Rattle.std.specs.Slice.Iter.{split_steps}
 use Rattle.std.specs.declared.slice.Split.{Split}
-use denote.Param.Members.{Mut}
 use Rattle.std.specs.List.{AllWithin, HoldsAt, IsFirstMatchOrLen}
+use denote.Param.Members.{Mut}
 use Rattle.std.proofs.Math.Bool.{true, false, cond}
 use Rattle.std.proofs.Math.Path.{refl, sym, ap}
 use mathlib.Core.List.{List, [], ◌∷◌, ◌++◌}

@@ -1,6 +1,8 @@
 -- The second pass: the remappings of lines that passed, one after the other. Assumes nothing.
-use Rattle.std.specs.Prelude.{ℕ, ◌+◌, ◌<◌, Bool, true, false, cond, ◌≡◌, refl, List, [], ◌∷◌, ◌++◌, eqb, length}
+use Rattle.std.specs.Prelude.{ℕ, ◌+◌, ◌<◌, Bool, true, false, cond, ◌≡◌, refl, List, [], ◌∷◌, ◌++◌, eqb, length, Option, Some, MatchOption}
+use Rattle.std.specs.Borrow.{Bor}
 use Rattle.std.proofs.Common.{arith, sym, ap, ◌∙◌, append_assoc, append-nil, ne_eqb}
+use Rattle.names.specs.Bytes.{false_true}
 use Rattle.bundle.specs.Bundle.{Text}
 use Rattle.bundle.specs.Limits.{capacity}
 use Rattle.bundle.specs.Encode.{string, joined, remapping}
@@ -10,9 +12,6 @@ use Rattle.bundle.specs.Form.{Every}
 use Rattle.encoder.specs.Parts.{Filled, filled_none}
 use Rattle.remapping_lines.specs.Lines.{has, line_feed, equals, pieces, Line, placed, content, lines_of, left, right, context_in, name_in, target_in, remapping_of, verdict, remappings_of}
 use Rattle.remapping_lines.specs.Splitting.{piece, piece-one, pieces_step}
-use Rattle.std.specs.Prelude.{Option, Some, MatchOption}
-use Rattle.std.specs.Borrow.{Bor}
-use Rattle.names.specs.Bytes.{false_true}
 use Rattle.remapping_lines.specs.Testing.{Passes, part-lengths, line_bytes, lines-pass, remapping_bytes}
 
 -- THE WRITING, line by line

@@ -45,6 +45,7 @@ impl Counted {
         if line.name.len() > NAME {
             return Err(Cause::OddName.at(at + line.name_at));
         }
+        // A context, a name and a target, each behind its length byte.
         Ok(Counted {
             lines: self.lines + 1,
             size: self.size + (3 + line.context.len() + line.name.len() + target.len()),

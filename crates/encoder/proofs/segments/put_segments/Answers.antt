@@ -1,11 +1,10 @@
 -- `put_segments` meets its contract. Assumes nothing.
-use Rattle.std.proofs.Common.{arith, ℕ, ◌≡◌, ◌≤◌, sym, List, ◌∷◌, [], ◌++◌, length, length-append, append_assoc}
+use Rattle.std.proofs.Common.{ℕ, ◌≡◌, ◌≤◌, sym, List, ◌∷◌, [], ◌++◌, length, append_assoc}
 use Rattle.names.specs.Bytes.{ascii}
 use Rattle.names.specs.Decimal.{unit_name}
 use Rattle.bundle.specs.Encode.{string, joined}
 use Rattle.encoder.specs.Started.{started}
-use Rattle.encoder.specs.Parts.{Front, front-room, front-part, front_next, front-done, same-filled}
-use Rattle.encoder.specs.Strings.{crate_length}
+use Rattle.encoder.specs.Parts.{Front, front_next, front-done, same-filled}
 use Rattle.encoder.proofs.segments.put_segments.Goals as goal
 
 -- `crate` stands, and two parts are to come
@@ -13,25 +12,6 @@ crate_front : (x y out cur : List ℕ) (a : ℕ) → length (string (ascii "crat
     → (a ≡ length (string (99 ∷ 114 ∷ 97 ∷ 116 ∷ 101 ∷ []))) × (cur ≡ started (string (99 ∷ 114 ∷ 97 ∷ 116 ∷ 101 ∷ [])) out) → Front (string (ascii "crate")) (x ++ y) out cur a
 unfolding ascii
 crate_front x y out cur a r h = record { starts = h.1; is = h.0; room = r }
-
-pub put_string-a-requires : goal.put_string-a-requires
-put_string-a-requires c =
-    let e = crate_length in
-    let p = c.requires in
-    (omega arith, omega (arith, length-append (string (ascii "crate")) (string (unit_name c.args.id) ++ joined string c.args.rest)))
-
-pub put_unit-requires : goal.put_unit-requires
-put_unit-requires c =
-    let unit = string (unit_name c.args.id) in
-    let rest = joined string c.args.rest in
-    front-part unit rest (crate_front unit rest c.args.out.now c.put_string-a.new.out c.put_string-a.result c.requires c.put_string-a.ensures)
-
-pub put-requires : goal.put-requires
-put-requires c =
-    let unit = string (unit_name c.args.id) in
-    let rest = joined string c.args.rest in
-    let front = crate_front unit rest c.args.out.now c.put_string-a.new.out c.put_string-a.result c.requires c.put_string-a.ensures in
-    front-room (front_next unit rest front c.put_unit.new.out c.put_unit.result c.put_unit.ensures)
 
 pub returns : goal.returns
 returns c =
