@@ -5,7 +5,7 @@
 use graph::{Graph, IDS, Ids, UNITS, Unordered};
 use refusal::Cause;
 use std::io;
-use std::io::{BufWriter, Read, Write};
+use std::io::Write;
 
 // A number in decimal, 65,535 if it is larger.
 fn number(word: &str) -> u16 {
@@ -65,13 +65,8 @@ fn answer<W: Write>(out: &mut W, g: Graph) -> io::Result<()> {
 }
 
 fn main(rt: HostRuntime) -> io::Result<()> {
-    let mut input = String::new(rt.alloc());
-    rt.reader().read_to_string(&mut input)?;
-    let mut out = BufWriter::new(rt.alloc(), io::writer(&rt))?;
-    for line in input.lines() {
-        if let Some((lists, ids)) = line.split_once(' ') {
-            answer(&mut out, graph_of(lists, ids))?;
-        }
-    }
-    out.flush()
+    lines::each_line(&rt, |out, line| match line.split_once(' ') {
+        Some((lists, ids)) => answer(out, graph_of(lists, ids)),
+        None => Ok(()),
+    })
 }
