@@ -6,7 +6,7 @@ use Rattle.scope_tree.specs.Staging.{Staged}
 use Rattle.scope_tree.specs.Rows.{name_at}
 use Rattle.scope_tree.specs.Views.{View, pushed, committed, commits}
 use Rattle.scope_tree.specs.declared.Tree.{Tree}
-use Rattle.scope_tree.specs.declared.Entry.{Entry}
+use Rattle.scope_tree.specs.Entries.{Entry}
 use Rattle.scope_tree.specs.Trees.{view, Sized}
 use Rattle.scope_tree.specs.Pack.{view-sized, added, added-sized, shut-view}
 

@@ -9,7 +9,7 @@ use Rattle.names.specs.declared.Name.{Name}
 use Rattle.names.specs.Packed.{packed}
 use Rattle.names.specs.Bytes.{false_true}
 use Rattle.names.specs.Identifier.{is_identifier}
-use Rattle.scope_tree.specs.declared.Answer.TheVariants.{Refused}
+use Rattle.scope_tree.specs.Told.{Refused}
 use Rattle.scope_tree.specs.Index.{look_up}
 use Rattle.scope_tree.specs.Nav.{current_of}
 use Rattle.scope_tree.specs.Staging.{is_at}

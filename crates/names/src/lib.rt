@@ -17,7 +17,7 @@ pub use path::{is_child, is_child_file, is_directly_in, is_path, parent_len, sta
 pub use unit::unit_name;
 
 // A name as a value: at most 32 bytes in four words, big-endian, zero past the end.
-#[derive(Clone, Copy)]
+#[derive(Clone, Copy, Debug, PartialEq, Eq)]
 pub struct Name {
     pub w0: u64,
     pub w1: u64,

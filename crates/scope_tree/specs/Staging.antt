@@ -3,24 +3,21 @@ use Prim.Native.Nat.{ℕ, zero, suc, ◌+◌, ◌-◌, ◌≤◌, ◌<◌}
 use native.Mathlib.Omega.{arith}
 use Rattle.std.proofs.Common.{add-one, ◌∙◌, get_or-set_other}
 use Rattle.std.proofs.Math.Path.{◌≡◌, refl, ap, sym}
-use Rattle.std.specs.Prelude.{Bool, ◌&&◌, ◌||◌, List, get_or, set, replicate}
+use Rattle.std.specs.Prelude.{Bool, ◌&&◌, ◌||◌, List, get_or, set, replicate, Option, Some, None}
 use Rattle.std.proofs.Math.Bool.{true, false, cond}
 use Rattle.std.proofs.Math.Dec.{eqb}
 use borrow.Author.Tests.{eq-eqb, ne_eqb}
 use Rattle.names.specs.declared.Name.{Name}
 use Rattle.names.specs.Bytes.{false_true}
 use Rattle.names.specs.Packed.{packed, same_name}
-use Rattle.scope_tree.specs.declared.look.Spot.{Spot}
-use Rattle.scope_tree.specs.declared.look.Spot.TheVariants.{At, Nothing}
 use Rattle.scope_tree.specs.declared.look.Place.{Place as Site}
-use Rattle.scope_tree.specs.declared.Choice.{Choice}
 use Rattle.scope_tree.specs.Form.{string, local_name, after_element}
 use Rattle.scope_tree.specs.Rows.{Arrays, name_at, is_row, site}
 use Rattle.scope_tree.specs.Index.{look_up}
 
-abbrev pub is_at : Spot → Bool
-is_at Nothing = false
-is_at (At i) = true
+abbrev pub is_at : Option ℕ → Bool
+is_at None = false
+is_at (Some i) = true
 
 -- whether p holds of a number below n
 unfoldable pub any_to : (ℕ → Bool) → ℕ → Bool
@@ -67,6 +64,14 @@ pub record Staged : Type 0 where
   pub origins : List ℕ
   pub targets : List ℕ
   pub times : List ℕ
+
+-- what an item of a use copies: number 0 and the entry's mark, its number plus one, and what is inside it; or a number
+pub record Choice : Type 0 where
+  pub number : ℕ
+  pub mark : ℕ
+  pub origin : ℕ
+  pub target : ℕ
+  pub moment : ℕ
 
 -- nothing staged, with a number
 abbrev pub refusal : ℕ → Staged
@@ -161,7 +166,7 @@ with_choice s here k l c =
 
 module _ (A : Arrays) (total here scope time : ℕ) where
   -- the entry of that name in the module of the path
-  unfoldable pub sought : ℕ → Name → Spot
+  unfoldable pub sought : ℕ → Name → Option ℕ
   sought k n = look_up A scope time k n
 
   -- whether the current module holds the name
@@ -172,9 +177,9 @@ module _ (A : Arrays) (total here scope time : ℕ) where
   inside_of e = site e (get_or A.kinds e 0) (get_or A.origins e 0) (get_or A.targets e 0) (get_or A.times e 0) time
 
   -- the entry that an item copies, or its number: 43, 44, or 45 where the current module holds the local name
-  unfoldable pub chosen : ℕ → Name → Spot → Choice
-  chosen k l Nothing = no_choice 43
-  chosen k l (At e) =
+  unfoldable pub chosen : ℕ → Name → Option ℕ → Choice
+  chosen k l None = no_choice 43
+  chosen k l (Some e) =
       cond (eqb (get_or A.visible e 0) 1)
       (cond (occupied k l) (no_choice 45) (record { number = 0; mark = get_or A.marks e 0; origin = e + 1; target = (inside_of e).scope; moment = (inside_of e).time }))
       (no_choice 44)
@@ -203,11 +208,11 @@ module _ (A : Arrays) (total here scope time : ℕ) where
 
 -- AS THE CODE HAS IT
 module _ (A : Arrays) (total here scope time k : ℕ) (n l : Name) where
-  pub choice_missing : (r : Spot) → r ≡ look_up A scope time k n → r ≡ Nothing → no_choice 43 ≡ choice_of A total here scope time k n l
+  pub choice_missing : (r : Option ℕ) → r ≡ look_up A scope time k n → r ≡ None → no_choice 43 ≡ choice_of A total here scope time k n l
   unfolding choice_of sought chosen
   choice_missing r q z = rw (← q, z)
 
-  module _ (e : ℕ) (q : At e ≡ look_up A scope time k n) where
+  module _ (e : ℕ) (q : Some e ≡ look_up A scope time k n) where
     pub choice_private : (get_or A.visible e 0 ≡ 1 → ⊥) → no_choice 44 ≡ choice_of A total here scope time k n l
     unfolding choice_of sought chosen
     choice_private v = rw (← q, ne_eqb (get_or A.visible e 0) 1 v)

@@ -1,18 +1,15 @@
 -- A declaration, a get and an exit, as the code makes them. Assumes nothing.
-use Rattle.std.specs.Prelude.{ℕ, ◌-◌, ◌<◌, ◌≡◌, Bool, true, false, cond, List, eqb, ltb, get_or, set, take}
+use Rattle.std.specs.Prelude.{ℕ, ◌-◌, ◌<◌, ◌≡◌, Bool, true, false, cond, List, eqb, ltb, get_or, set, take, Option, Some, None}
 use Rattle.std.proofs.Common.{arith, ap, sym, subst, ◌∙◌, length-set, get_or-set_same, get_or-set_other, eqb-true, ne_eqb}
 use Rattle.std.proofs.Math.Path.{refl}
 use Rattle.std.proofs.lemmas.List.{take-set-le}
 use Rattle.names.specs.Packed.{packed}
 use Rattle.names.specs.Identifier.{is_identifier}
-use Rattle.scope_tree.specs.declared.look.Spot.{Spot}
-use Rattle.scope_tree.specs.declared.look.Spot.TheVariants.{At, Nothing}
-use Rattle.scope_tree.specs.declared.Answer.{Answer as Told}
-use Rattle.scope_tree.specs.declared.Answer.TheVariants.{Done, Refused}
+use Rattle.scope_tree.specs.Told.{Told, Done, Refused}
 use Rattle.scope_tree.specs.declared.Tree.{Tree}
 use Rattle.decision.specs.declared.decide.Plan.{Plan}
 use Rattle.scopes.specs.declared.lent.Kind.{Kind}
-use Rattle.scope_tree.specs.declared.Entry.{Entry}
+use Rattle.scope_tree.specs.Entries.{Entry}
 use Rattle.scope_tree.specs.Note.{accepted}
 use Rattle.scope_tree.specs.Form.{Request, enters, exits, inserts_alias, inserts_enum, inserts_function, resolves_use, gets_alias, gets_function}
 use Rattle.scope_tree.specs.Views.{View, ViewOutcome, ViewMeets, told, bit_of, no_entry, pushed, added_of, ended, ended_no, ended_yes, opened_last, current_spot, mark_at, got_of}
@@ -113,12 +110,12 @@ got-numbered : (t : Tree) (s : List ℕ) (k : ℕ) {a : Told} → a ≡ got_of (
 unfolding got_of
 got-numbered t s k q = subst (λ (x : Told). number_of_told x ≡ 0 → accepted (told x) ≡ true) (sym q) (go (is_identifier s) (ltb 1024 (view t).count) (ltb 9 (view t).depth) (current_spot (view t) k (packed s)))
   where
-    go : (a b c : Bool) (d : Spot) → number_of_told (cond a (cond b (Refused 51) (cond c (Refused 51) (mark_at (view t) d))) (Refused 5)) ≡ 0 → accepted (told (cond a (cond b (Refused 51) (cond c (Refused 51) (mark_at (view t) d))) (Refused 5))) ≡ true
+    go : (a b c : Bool) (d : Option ℕ) → number_of_told (cond a (cond b (Refused 51) (cond c (Refused 51) (mark_at (view t) d))) (Refused 5)) ≡ 0 → accepted (told (cond a (cond b (Refused 51) (cond c (Refused 51) (mark_at (view t) d))) (Refused 5))) ≡ true
     go false b c d z = absurd (omega arith)
     go true true c d z = absurd (omega arith)
     go true false true d z = absurd (omega arith)
-    go true false false Nothing z = absurd (omega arith)
-    go true false false (At i) z = refl
+    go true false false None z = absurd (omega arith)
+    go true false false (Some i) z = refl
 
 pub meets_get-alias : (t : Tree) (s : List ℕ) {a : Told} → a ≡ got_of (view t) s 1 → Meets t (gets_alias s) (left a t)
 meets_get-alias t s {a} q = let w = answers-alias t s a q in record { good = λ g. g; tree = w.tree; answer = w.answer; kept = λ e. refl; numbered = got-numbered t s _ q }

@@ -7,8 +7,7 @@ use Rattle.scope_tree.specs.Form.{Request, enters, exits, inserts_alias, inserts
 use Rattle.scope_tree.specs.Views.{told}
 use Rattle.scope_tree.specs.Trees.{Good, flat_of}
 use Rattle.scope_tree.specs.declared.Tree.{Tree}
-use Rattle.scope_tree.specs.declared.Answer.{Answer as Told}
-use Rattle.scope_tree.specs.declared.Answer.TheVariants.{Done, Mark, Refused}
+use Rattle.scope_tree.specs.Told.{Told, Done, Mark, Refused}
 use Rattle.scopes.specs.declared.Outcome.{Outcome}
 
 -- the number that a refusal tells; 0 where the call was accepted

@@ -4,7 +4,7 @@ use Rattle.std.proofs.Common.{arith, ap, sym, subst, ◌∙◌}
 use Rattle.std.specs.Prelude.{ℕ, zero, ◌≡◌, refl, List, [], ◌∷◌, length, replicate}
 use Rattle.std.proofs.lemmas.List.{length-replicate}
 use Rattle.scope_tree.specs.declared.Tree.{Tree}
-use Rattle.scope_tree.specs.declared.Answer.{Answer as Told}
+use Rattle.scope_tree.specs.Told.{Told}
 use Rattle.scopes.specs.declared.Outcome.{Outcome}
 use Rattle.scope_tree.specs.Step.{Answer, step, run}
 use Rattle.scope_tree.specs.Flat.{Flat, flat, first_flat, flattened}

@@ -11,9 +11,8 @@ use borrow.Author.Tests.{ne_eqb, lt-ltb, le-ltb}
 use Rattle.rows.specs.Written.{put_at, written}
 use Rattle.scope_tree.specs.declared.Tree.{Tree}
 use Rattle.scopes_c.specs.declared.Step.{Step}
-use Rattle.scope_tree.specs.declared.Answer.{Answer as Told}
+use Rattle.scope_tree.specs.Told.{Told, Done, Mark, Refused}
 use Rattle.scopes.specs.declared.Outcome.{Outcome}
-use Rattle.scope_tree.specs.declared.Answer.TheVariants.{Done, Mark, Refused}
 use Rattle.scope_tree.specs.Step.{Answer, ok, marked, refused, step}
 use Rattle.scope_tree.specs.Flat.{Flat, flat, first_flat}
 use Rattle.scope_tree.specs.Form.{Request, enters, exits, inserts_alias, inserts_enum, inserts_function, resolves_use, gets_alias, gets_function, call_of}
