@@ -11,14 +11,13 @@ use Rattle.std.proofs.lemmas.List.{drop-append-le}
 use borrow.Author.Tests.{ne_eqb, eqb-true}
 use Rattle.names.specs.declared.Name.{Name}
 use Rattle.names.specs.Packed.{packed}
-use Rattle.scope_tree.specs.declared.Choice.{Choice}
 use Rattle.scope_tree.specs.Step.{used, head, Elem, got, Tried, done, fail, is_got, after, bind, held, import, attempt, judge, element, stage}
 use Rattle.scope_tree.specs.Register.{is}
 use Rattle.scope_tree.specs.Flat.{copy, Entry, Flat, Place, inside, look, flat, top}
 use Rattle.scope_tree.specs.Form.{string, local_name, after_element, element_at, elements_from}
 use Rattle.scope_tree.specs.Rows.{tab, tab_agree, length-tab, Arrays, row, row_at, is_own, is_row, hit, first_in, looked, spotted, find_spot, placed, inside-site}
 use Rattle.scope_tree.specs.Index.{look_up, IndexOf, spot_found, spot_first}
-use Rattle.scope_tree.specs.Staging.{Staged, is_at, any_to, numbered, put, staged_test, staged_held, no_choice, with_choice, sought, occupied, inside_of, chosen, choice_of, staged_item, verdict_of, staged_element, staged_all, item_count_within, element-count}
+use Rattle.scope_tree.specs.Staging.{Choice, Staged, is_at, any_to, numbered, put, staged_test, staged_held, no_choice, with_choice, sought, occupied, inside_of, chosen, choice_of, staged_item, verdict_of, staged_element, staged_all, item_count_within, element-count}
 use Rattle.scope_tree.specs.Views.{staged_row}
 
 -- WHETHER AN ENTRY IS AMONG THEM

@@ -1,5 +1,6 @@
 -- The numbers of a kind. Assumes nothing.
-use Rattle.std.specs.Prelude.{ℕ}
+use Rattle.std.specs.Prelude.{ℕ, zero, suc, ◌+◌, ◌<◌, ◌≡◌, refl, [], ◌∷◌, get_or}
+use Rattle.std.proofs.Common.{arith}
 use Rattle.scope_tree.specs.declared.Kind.{Kind}
 use Rattle.scope_tree.specs.declared.Kind.TheVariants.{«Type», Function, Module}
 
@@ -20,3 +21,10 @@ abbrev pub deepest_for : Kind → ℕ
 deepest_for «Type» = 9
 deepest_for Function = 9
 deepest_for Module = 8
+
+-- the kinds in the order of their numbers
+pub kinds-in_order : (i : ℕ) → i < 3 → kind_number (get_or («Type» ∷ Function ∷ Module ∷ []) i «Type») ≡ i + 1
+kinds-in_order zero h = refl
+kinds-in_order (suc zero) h = refl
+kinds-in_order (suc (suc zero)) h = refl
+kinds-in_order (suc (suc (suc i))) h = absurd (omega arith)

@@ -6,18 +6,22 @@ use Rattle.refusal.specs.declared.Cause.TheVariants.{TreeFull}
 use Rattle.scope_tree.specs.declared.Tree.{Tree}
 use Rattle.scope_tree.specs.declared.look.Place.{Place as Site}
 use Rattle.scope_tree.specs.declared.look.Way.{Way}
-use Rattle.scope_tree.specs.Rows.{site}
+use Rattle.scope_tree.specs.Rows.{Arrays, site}
 use Rattle.scope_tree.specs.Index.{sought_at, look_up}
 use Rattle.scope_tree.specs.Nav.{current_of, leads_on, Arrived}
 use Rattle.scope_tree.specs.Views.{arrays_of}
 use Rattle.scope_tree.specs.Trees.{part, index_of, doors_of, view}
+
+-- the arrays that a tree's view has
+abbrev pub arrays_in : Tree → Arrays
+arrays_in t = arrays_of (view t)
 
 -- the test of entry i in a lookup in a scope among the first u entries, of a kind and a name; and the lookup
 abbrev pub sought_in : Tree → ℕ → ℕ → ℕ → Name → ℕ → Bool
 sought_in t s u k n i = sought_at t.scopes (part 0 t.cells) t.n0 t.n1 t.n2 t.n3 s u k n i
 
 abbrev pub found_in : Tree → ℕ → ℕ → ℕ → Name → Option ℕ
-found_in t s u k n = look_up (arrays_of (view t)) s u k n
+found_in t s u k n = look_up (arrays_in t) s u k n
 
 -- what is inside entry i, among the first u entries
 abbrev pub site_in : Tree → ℕ → ℕ → Site

@@ -266,7 +266,8 @@ impl<'a> View<'a> {
     #[tactic(auto, unfolding(crate::specs::Rows::site, crate::specs::Rows::is_own))]
     pub fn inside(&self, i: usize, time: usize) -> Place
         requires { i < 1024 }
-        ensures { result ≡ site_in (tree_in self.now) i time }
+        ensures shown { result ≡ site_in (tree_in self.now) i time }
+        ensures early { result.time ≤ time }
     {
         let kind = cell(self.cells, KINDS, i);
         if kind == u16::from(Kind::Module) && cell(self.cells, ORIGINS, i) == 0 {

@@ -16,7 +16,7 @@ pub loop-i-preserved : goal.loop-i-preserved
 loop-i-preserved c =
     walking_turn _ _ _ _ _ _ _ _ _ _ _ _ _ _ _ _ _ c.loop-i.invariant c.loop-i-test.true c.name_at-name.ensures (sym c.in-Some.is ∙ c.find.ensures.found) c.requires.sound.0
     (elim c.else-self-e-ne1.branch [ else-self-e-ne1-via-then-self-e-ne1+else-not-led w ↦ inr w.if-not-led.false | else-self-e-ne1-via-else-self-e-ne1 w ↦ inl w.if-self-e-ne1.false ])
-    c.inside-to.ensures c.leads-led.ensures c.next-p.ensures
+    c.inside-to.ensures.shown c.leads-led.ensures c.next-p.ensures
 
 pub returns : goal.returns
 returns c = walking_end _ _ _ _ _ _ _ _ _ _ _ _ _ _ _ _ _ c.loop-i.invariant c.loop-i-test.false
