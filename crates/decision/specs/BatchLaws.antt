@@ -34,12 +34,11 @@ module _ (f : Entry → ℕ) (n : ℕ) (es : List Entry) where
       rw (take_more_set es n e l, map-append, append_assoc) (sym (r ∙ rw (z, m)))
 
   -- AN ENTRY READ
-  column-get : (i : ℕ) (d : Entry) → i < n → n ≤ length es → get_or (column f n es) i 0 ≡ f (get_or es i d)
+  pub column-get : (i : ℕ) (d : Entry) → i < length (take n es) → get_or (column f n es) i 0 ≡ f (get_or (take n es) i d)
   unfolding column
-  column-get i d h l =
-      let k : i < length (map f (take n es)) = rw column-length h in
-      let j : i < length (take n es) = rw length-take (omega arith) in
-      get_or-append (map f (take n es)) (replicate (96 - n) 0) 0 i k ∙ get_or-map f (take n es) i d 0 j ∙ ap f (get_or-take n es i d h)
+  column-get i d h =
+      let k : i < length (map f (take n es)) = rw length-map h in
+      get_or-append (map f (take n es)) (replicate (96 - n) 0) 0 i k ∙ get_or-map f (take n es) i d 0 h
 
 pub batch_put : (n : ℕ) (es : List Entry) (e : Entry) → n < 96 → length es ≡ 96 → staged_in (n + 1) (set es n e) ≡ stored (staged_in n es) (kind_number e.kind) e.mark e.name e.origin e.target e.moment
 batch_put n es e h l =
@@ -64,7 +63,8 @@ module _ (n : ℕ) (es : List Entry) (l : n ≤ length es) (here k : ℕ) (x : N
   unfolding any_to staged_test is_row
   held-to zero h = refl
   held-to (suc m) h =
-      let get : (f : Entry → ℕ) → get_or (column f n es) m 0 ≡ f (get_or es m none) = λ f. column-get f n es m none (omega arith) l in
+      let small : m < length (take n es) = rw length-take (omega arith) in
+      let get : (f : Entry → ℕ) → get_or (column f n es) m 0 ≡ f (get_or es m none) = λ f. column-get f n es m none small ∙ ap f (get_or-take n es m none (omega arith)) in
       rw (held-to m (omega arith), get (λ (e : Entry). kind_number e.kind), get (λ (e : Entry). e.name.w0), get (λ (e : Entry). e.name.w1), get (λ (e : Entry). e.name.w2), get (λ (e : Entry). e.name.w3), eq-eqb here here refl, ← add-one)
       (sym (list_any_more (is_named k x) es m none (omega arith)))
     where
