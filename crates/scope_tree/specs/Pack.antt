@@ -295,4 +295,4 @@ unfolding doors_of
 door_get o i h = get_or-take 9 o i 0 h
 
 -- what is read of an array's part, for the tactics
-pub ruleset parts = (part-get, index-get, stack-current, door_get)
+pub ruleset parts = (part-get, part-past, index-get, stack-current, door_get)

@@ -3,7 +3,7 @@
 #![tactic(auto)]
 
 ghost use Rattle.std.specs.Prelude.{◌≡◌};
-ghost use Rattle.scope_tree.specs.Kinds.{kind_number, twice_number, deepest_for};
+ghost use Rattle.scope_tree.specs.Kinds.{kind_number, twice_number, opens_for, deepest_for};
 ghost use Rattle.scope_tree.specs.Trees.{tree_in};
 ghost use Rattle.refusal.specs.Numbers.{number_of};
 
@@ -81,7 +81,14 @@ impl Kind {
         }
     }
 
-    // How many modules may be open where this is declared: a module is opened with its declaration.
+    // Whether a module opens with its declaration.
+    pub fn opens(self) -> bool
+        ensures { result ≡ opens_for self }
+    {
+        self == Kind::Module
+    }
+
+    // How many modules may be open where this is declared.
     pub fn deepest(self) -> usize
         ensures { result ≡ deepest_for self }
     {

@@ -284,27 +284,23 @@ impl<'a> View<'a> {
 
     // The scope of the innermost open module.
     #[tactic(auto, using(crate::specs::Pack::parts), unfolding(crate::specs::Nav::current_of))]
-    fn current(&self, depth: usize) -> u16
-        requires { depth ≤ 9 }
-        ensures { result ≡ current_of (doors_of self.now.opened.now) depth }
+    pub fn current(&self) -> u16
+        requires { get_or self.now.opened.now 10 0 ≤ 9 }
+        ensures { result ≡ current_of (doors_of self.now.opened.now) (get_or self.now.opened.now 10 0) }
     {
-        if depth == 0 {
-            0
-        } else {
-            self.opened[depth - 1]
-        }
+        let depth = self.depth();
+        if depth == 0 { 0 } else { self.opened[depth - 1] }
     }
 
     // The current module among all entries; a record that no calls left has none.
     pub fn here(&self) -> Result<Place, Cause>
         ensures { Here (tree_in self.now) result }
     {
-        let depth = self.depth();
-        if ENTRIES < self.count() || OPEN < depth {
+        if ENTRIES < self.count() || OPEN < self.depth() {
             return Err(Cause::TreeFull);
         }
         Ok(Place {
-            scope: self.current(depth),
+            scope: self.current(),
             time: self.count(),
         })
     }
