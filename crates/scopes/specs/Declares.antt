@@ -142,6 +142,9 @@ leave_module t o z =
         let stack : take 9 (set o 10 d) ≡ take 9 o = take-set-le 9 o 10 d (omega arith) in
         λ i. of_view Done (record { count = count i; kinds = part 0 t.cells; visible = t.visible; scopes = t.scopes; marks = t.marks; n0 = t.n0; n1 = t.n1; n2 = t.n2; n3 = t.n3; origins = part 1024 t.cells; targets = part 2048 t.cells; times = part 3072 t.cells; index = index_of t.cells; depth = depth i; stack = stack i })
 
+-- the laws of an exit, for the tactics
+pub ruleset exit_steps = (leave-root, leave_module)
+
 -- BY ITS CODE
 module _ (t u : Tree) (c : ℕ) (s : List ℕ) (v : Bool) (m : ℕ) (a : Told) where
   pub call_enter : c ≡ 1 → Declares t s 3 47 8 v m true a u → Meets t (request c s v m) (left a u)

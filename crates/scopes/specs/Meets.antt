@@ -1,5 +1,5 @@
 -- What a tree call promises, by value or over lent arrays. Assumes nothing.
-use Rattle.std.specs.Prelude.{ℕ, ◌≡◌, Bool, true, false, cond, List, eqb}
+use Rattle.std.specs.Prelude.{ℕ, ◌≡◌, refl, Option, Some, None, Result, Ok, Err, Bool, true, false, cond, List, eqb}
 use Rattle.scope_tree.specs.Step.{step}
 use Rattle.scope_tree.specs.Flat.{flat}
 use Rattle.scope_tree.specs.Note.{accepted}
@@ -7,6 +7,8 @@ use Rattle.scope_tree.specs.Form.{Request, enters, exits, inserts_alias, inserts
 use Rattle.scope_tree.specs.Views.{told}
 use Rattle.scope_tree.specs.Trees.{Good, flat_of}
 use Rattle.scope_tree.specs.declared.Tree.{Tree}
+use Rattle.refusal.specs.declared.Cause.{Cause}
+use Rattle.scope_tree.specs.Forms.{fault}
 use Rattle.scope_tree.specs.Told.{Told, Done, Mark, Refused, call_told}
 use Rattle.scopes.specs.declared.Outcome.{Outcome as Given}
 
@@ -15,6 +17,11 @@ abbrev pub number_of_told : Told → ℕ
 number_of_told Done = 0
 number_of_told (Mark m) = 0
 number_of_told (Refused n) = n
+
+pub number-told : (r : Result (Option ℕ) Cause) → fault r ≡ number_of_told (call_told r)
+number-told (Ok None) = refl
+number-told (Ok (Some m)) = refl
+number-told (Err c) = refl
 
 -- what a call tells, and the tree that it leaves
 pub record Outcome : Type 0 where

@@ -40,6 +40,7 @@ fn declare(tree: &mut Lent, name: &[u8], kind: Kind, public: bool, mark: u16) ->
 }
 
 // The innermost open module is left.
+#[tactic(auto, using(crate::specs::Declares::exit_steps))]
 pub fn exit(opened: &mut [u16; OPENED]) -> Result<(), Cause>
     ensures { Leaves opened.old (done_told result) opened.new }
 {
