@@ -1,13 +1,17 @@
 -- What a commit makes of a tree. Assumes nothing.
-use Rattle.std.specs.Prelude.{ℕ, zero, suc, ◌+◌, ◌≤◌, ◌<◌, ◌≡◌, false, get_or}
+use Rattle.std.specs.Prelude.{ℕ, zero, suc, ◌+◌, ◌≤◌, ◌<◌, ◌≡◌, false, List, length, take, get_or}
 use Rattle.std.proofs.Common.{arith, add-one, sym, ◌∙◌}
 use Rattle.std.proofs.Math.Path.{refl, ap}
+use Rattle.scope_tree.specs.Kinds.{kind_number}
 use Rattle.scope_tree.specs.Staging.{Staged}
 use Rattle.scope_tree.specs.Rows.{name_at}
 use Rattle.scope_tree.specs.Views.{View, pushed, committed, commits}
 use Rattle.scope_tree.specs.declared.Tree.{Tree}
-use Rattle.scope_tree.specs.declared.Entry.{Entry}
+use Rattle.scope_tree.specs.Entries.{Entry}
 use Rattle.scope_tree.specs.Trees.{view, Sized}
+use Rattle.decision.specs.declared.batch.Staged.{Staged as Listed}
+use Rattle.decision.specs.Batches.{column, staged_in}
+use Rattle.decision.specs.BatchLaws.{column-get}
 use Rattle.scope_tree.specs.Pack.{view-sized, added, added-sized, shut-view}
 
 -- THE COMMIT: the first n staged entries, from the place c on
@@ -36,24 +40,24 @@ fills c t s h v (suc n) p z l =
           ∙ ap (λ (x : View). pushed x (get_or s.kinds n 0) v h (get_or s.marks n 0) (name_at s.n0 s.n1 s.n2 s.n3 n) (get_or s.origins n 0) (get_or s.targets n 0) (get_or s.times n 0)) f.same;
     }
 
--- the loop
-pub record Filling (c : ℕ) (t₀ : Tree) (s : Staged) (h v : ℕ) (t : Tree) (i : ℕ) : Type 0 where
-  pub within : i ≤ s.count
-  pub same : t ≡ filled c t₀ s h v i
+-- AS THE CODE HAS IT: one more of the staged entries
+pub fills_more : (c : ℕ) (t : Tree) (s : Staged) (h v i : ℕ) {u : Tree} → u ≡ filled c t s h v i → {e : Entry} → e ≡ staged_entry s h v i → added (c + i) u e ≡ filled c t s h v (i + 1)
+unfolding filled
+fills_more c t s h v i {u} p {e} q = (λ j. added (c + i) (p j) (q j)) ∙ ap (filled c t s h v) (sym (add-one i))
 
-module _ (c : ℕ) (t₀ : Tree) (s : Staged) (h v : ℕ) where
-  pub filling_start : Filling c t₀ s h v t₀ 0
-  unfolding filled
-  filling_start = record { within = omega arith; same = refl }
-
-  module _ (t : Tree) (i : ℕ) (w : Filling c t₀ s h v t i) where
-    pub filling_turn : i < s.count → (e : Entry) → e ≡ staged_entry s h v i → (u : Tree) → u ≡ added (c + i) t e → Filling c t₀ s h v u (i + 1)
-    unfolding filled
-    filling_turn l e q u p =
-        record {
-          within = omega arith;
-          same = p ∙ ap (λ (x : Entry). added (c + i) t x) q ∙ ap (λ (x : Tree). added (c + i) x (staged_entry s h v i)) w.same ∙ ap (λ (n : ℕ). filled c t₀ s h v n) (sym (add-one i));
-        }
-
-    pub filling_end : s.count ≤ i → t ≡ filled c t₀ s h v s.count
-    filling_end l = let e : i ≡ s.count = omega (arith, w.within) in w.same ∙ ap (λ (n : ℕ). filled c t₀ s h v n) e
+-- what is read of them
+pub entry-read : (n : ℕ) (es : List Listed) (i : ℕ) (d : Listed) → i < length (take n es) → (h v : ℕ)
+    → (let e = get_or (take n es) i d in record { kind = kind_number e.kind; visible = v; scope = h; mark = e.mark; name = e.name; origin = e.origin; target = e.target; moment = e.moment; opens = false }) ≡ staged_entry (staged_in n es) h v i
+entry-read n es i d k h v =
+    let read : (f : Listed → ℕ) → f (get_or (take n es) i d) ≡ get_or (column f n es) i 0 = λ f. sym (column-get f n es i d k) in
+    λ j. record {
+      kind = read (λ (e : Listed). kind_number e.kind) j;
+      visible = v;
+      scope = h;
+      mark = read (λ (e : Listed). e.mark) j;
+      name = record { w0 = read (λ (e : Listed). e.name.w0) j; w1 = read (λ (e : Listed). e.name.w1) j; w2 = read (λ (e : Listed). e.name.w2) j; w3 = read (λ (e : Listed). e.name.w3) j };
+      origin = read (λ (e : Listed). e.origin) j;
+      target = read (λ (e : Listed). e.target) j;
+      moment = read (λ (e : Listed). e.moment) j;
+      opens = false;
+    }

@@ -2,104 +2,123 @@
 #![tactic(auto)]
 
 ghost use Rattle.std.specs.Prelude.{◌≡◌, true, get_or, ◌+◌, ◌<◌, ◌≤◌};
-ghost use Rattle.scope_tree.specs.Trees.{packed_in};
-ghost use Rattle.scope_tree.specs.Pack.{added, cells_of, doors_added};
-ghost use Rattle.scope_tree.specs.Batches.{staged_of};
+ghost use Rattle.scope_tree.specs.Trees.{tree_in};
+ghost use Rattle.scope_tree.specs.Views.{bit_of};
+ghost use Rattle.scope_tree.specs.Pack.{added};
+ghost use Rattle.decision.specs.Batches.{staged_of};
+ghost use Rattle.commit.specs.Lending.{entry_told, lent_in, Kept};
 ghost use Rattle.commit.specs.Filled.{filled};
 
-use decision::stage::entry_at;
-use scope_tree::{Batch, CELLS, COUNT, DEPTH, Entry, INDEX, OPENED, ORIGINS, TARGETS, TIMES, look};
+use decision::batch::Batch;
+use names::Name;
+use scope_tree::look::{Key, View, free_slot};
+use scope_tree::{CELLS, COUNT, DEPTH, INDEX, KINDS, Kind, OPENED, ORIGINS, TARGETS, TIMES};
 
-// The cells of entry `at`, and its slot of the index.
-fn put_cells(cells: &mut [u16; CELLS], at: usize, slot: usize, entry: Entry)
-    requires { (at < 1024) × (slot < 3072) }
-    ensures { cells.new ≡ cells_of cells.old at slot entry.kind entry.origin entry.target entry.moment }
-{
-    cells[at] = entry.kind;
-    cells[ORIGINS + at] = entry.origin;
-    cells[TARGETS + at] = entry.target;
-    cells[TIMES + at] = entry.moment;
-    cells[INDEX + slot] = (at + 1) as u16;
+// An entry to add.
+#[derive(Clone, Copy)]
+pub struct Entry {
+    pub kind: Kind,
+    pub public: bool,
+    pub scope: u16,
+    pub mark: u16,
+    pub name: Name,
+    pub origin: u16,
+    pub target: u16,
+    pub moment: u16,
+    // whether a module opens
+    pub opens: bool,
 }
 
-// Entry `at` counted, and its module opened.
-fn put_opened(opened: &mut [u16; OPENED], at: usize, opens: bool)
-    requires { (at < 1024) × (opens ≡ true → get_or opened.old 10 0 < 9) }
-    ensures { opened.new ≡ doors_added opened.old at opens }
-{
-    let d = look::wide(opened[DEPTH]);
-    let next = (at + 1) as u16;
-    opened[COUNT] = next;
-    if opens {
-        opened[d] = next;
-        opened[DEPTH] = (d + 1) as u16;
+// The nine arrays of a tree, lent to be written.
+#[derive(Drop)]
+pub struct Lent<'a> {
+    pub opened: &'a mut [u16; OPENED],
+    pub cells: &'a mut [u16; CELLS],
+    pub visible: &'a mut [u8; 1024],
+    pub scopes: &'a mut [u16; 1024],
+    pub marks: &'a mut [u16; 1024],
+    pub n0: &'a mut [u64; 1024],
+    pub n1: &'a mut [u64; 1024],
+    pub n2: &'a mut [u64; 1024],
+    pub n3: &'a mut [u64; 1024],
+}
+
+impl<'a> Lent<'a> {
+    pub fn view(&self) -> View<'_>
+        ensures { tree_in result ≡ lent_in self.now }
+    {
+        View {
+            opened: &*self.opened,
+            cells: &*self.cells,
+            visible: &*self.visible,
+            scopes: &*self.scopes,
+            marks: &*self.marks,
+            n0: &*self.n0,
+            n1: &*self.n1,
+            n2: &*self.n2,
+            n3: &*self.n3,
+        }
     }
-}
 
-// An entry at the tree's end, and a module opened with it.
-pub fn add(
-    opened: &mut [u16; OPENED],
-    cells: &mut [u16; CELLS],
-    visible: &mut [u8; 1024],
-    scopes: &mut [u16; 1024],
-    marks: &mut [u16; 1024],
-    n0: &mut [u64; 1024],
-    n1: &mut [u64; 1024],
-    n2: &mut [u64; 1024],
-    n3: &mut [u64; 1024],
-    at: usize,
-    entry: Entry,
-)
-    requires { (at < 1024) × (entry.opens ≡ true → get_or opened.old 10 0 < 9) }
-    ensures { packed_in opened.new cells.new visible.new scopes.new marks.new n0.new n1.new n2.new n3.new ≡ added at (packed_in opened.old cells.old visible.old scopes.old marks.old n0.old n1.old n2.old n3.old) entry }
-{
-    let b = look::free_slot(&*cells, entry.scope, entry.kind, entry.name);
-    visible[at] = entry.visible;
-    scopes[at] = entry.scope;
-    marks[at] = entry.mark;
-    n0[at] = entry.name.w0;
-    n1[at] = entry.name.w1;
-    n2[at] = entry.name.w2;
-    n3[at] = entry.name.w3;
-    put_cells(&mut *cells, at, b, entry);
-    put_opened(&mut *opened, at, entry.opens);
-}
-
-// The staged entries, one after another at the tree's end.
-pub fn commit(
-    opened: &mut [u16; OPENED],
-    cells: &mut [u16; CELLS],
-    visible: &mut [u8; 1024],
-    scopes: &mut [u16; 1024],
-    marks: &mut [u16; 1024],
-    n0: &mut [u64; 1024],
-    n1: &mut [u64; 1024],
-    n2: &mut [u64; 1024],
-    n3: &mut [u64; 1024],
-    first: usize,
-    staged: Batch,
-    scope: u16,
-    public: u8,
-)
-    requires { (first + staged.count ≤ 1024) × (staged.count ≤ 96) }
-    ensures { packed_in opened.new cells.new visible.new scopes.new marks.new n0.new n1.new n2.new n3.new ≡ filled first (packed_in opened.old cells.old visible.old scopes.old marks.old n0.old n1.old n2.old n3.old) (staged_of staged) scope public staged.count }
-{
-    let mut i: usize = 0;
-    while i < staged.count {
-        let e = entry_at(&staged.cells, &staged.names, i, scope, public);
-        add(
-            &mut *opened,
-            &mut *cells,
-            &mut *visible,
-            &mut *scopes,
-            &mut *marks,
-            &mut *n0,
-            &mut *n1,
-            &mut *n2,
-            &mut *n3,
-            first + i,
-            e,
+    // Entry `at`, at the tree's end, and a module opened with it.
+    #[tactic(auto, unfolding(scope_tree::specs::Pack::added))]
+    pub fn add(&mut self, at: usize, entry: Entry)
+        requires few { at < 1024 }
+        requires shallow { entry.opens ≡ true → get_or self.old.opened.now 10 0 < 9 }
+        ensures kept { Kept self.old self.new }
+        ensures added { lent_in self.new ≡ added at (lent_in self.old) (entry_told entry) }
+    {
+        let depth = usize::from(self.opened[DEPTH]);
+        let scope = (at + 1) as u16;
+        let slot = free_slot(
+            &*self.cells,
+            Key {
+                scope: entry.scope,
+                kind: entry.kind,
+                name: entry.name,
+            },
         );
-        i += 1;
+        self.visible[at] = u8::from(entry.public);
+        self.scopes[at] = entry.scope;
+        self.marks[at] = entry.mark;
+        self.n0[at] = entry.name.w0;
+        self.n1[at] = entry.name.w1;
+        self.n2[at] = entry.name.w2;
+        self.n3[at] = entry.name.w3;
+        self.cells[KINDS + at] = u16::from(entry.kind);
+        self.cells[ORIGINS + at] = entry.origin;
+        self.cells[TARGETS + at] = entry.target;
+        self.cells[TIMES + at] = entry.moment;
+        self.cells[INDEX + slot] = scope;
+        self.opened[COUNT] = scope;
+        if entry.opens {
+            self.opened[depth] = scope;
+            self.opened[DEPTH] = (depth + 1) as u16;
+        }
+    }
+
+    // The entries of a use, one after another at the tree's end.
+    pub fn commit(&mut self, batch: &Batch, scope: u16, public: bool)
+        requires { get_or self.old.opened.now 9 0 + batch.now.count ≤ 1024 }
+        ensures kept { Kept self.old self.new }
+        ensures filled { lent_in self.new ≡ filled (get_or self.old.opened.now 9 0) (lent_in self.old) (staged_of batch.now) scope (bit_of public) batch.now.count }
+    {
+        let first = self.view().count();
+        for (i, e) in batch.entries[..batch.count].iter().enumerate() {
+            self.add(
+                first + i,
+                Entry {
+                    kind: e.kind,
+                    public,
+                    scope,
+                    mark: e.mark,
+                    name: e.name,
+                    origin: e.origin,
+                    target: e.target,
+                    moment: e.moment,
+                    opens: false,
+                },
+            );
+        }
     }
 }

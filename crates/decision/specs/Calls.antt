@@ -3,7 +3,7 @@ use Prim.Native.Nat.{ℕ, zero, suc, ◌+◌, ◌-◌, ◌≤◌, ◌<◌}
 use native.Mathlib.Omega.{arith}
 use Rattle.std.proofs.Math.Decide.{dec_lt, dec_le}
 use Rattle.std.proofs.Common.{add-one, sym, ◌∙◌, length-append, get_or-set_other}
-use Rattle.std.specs.Prelude.{◌≡◌, Bool, cond, ◌||◌, List, [], ◌∷◌, ◌++◌, eqb, get_or, set}
+use Rattle.std.specs.Prelude.{◌≡◌, Bool, cond, ◌||◌, List, [], ◌∷◌, ◌++◌, eqb, get_or, set, Option, Some, None}
 use Rattle.std.proofs.Math.Path.{refl, ap}
 use Rattle.std.proofs.Math.Bool.{true, false}
 use Rattle.std.proofs.Math.Dec.{ltb, leb}
@@ -13,9 +13,7 @@ use borrow.Author.Tests.{ne_eqb, lt-ltb, le-ltb, le-leb, lt-leb}
 use Rattle.names.specs.declared.Name.{Name}
 use Rattle.names.specs.Packed.{packed}
 use Rattle.names.specs.Identifier.{is_identifier}
-use Rattle.scope_tree.specs.declared.Answer.TheVariants.{Refused}
-use Rattle.scope_tree.specs.declared.look.Spot.{Spot}
-use Rattle.scope_tree.specs.declared.look.Spot.TheVariants.{At, Nothing}
+use Rattle.scope_tree.specs.Told.{Refused}
 use Rattle.scope_tree.specs.Step.{declared, head, Call, enter, alias, enum, function, get_alias, get_function, bad, Answer, ok, refused, done, fail, is_got, told_mark, held, full, deep, fresh, settle, close, step}
 use Rattle.scope_tree.specs.Flat.{Body, own, copy, Entry, Flat, flat, top, stack_names, pop, push}
 use Rattle.scope_tree.specs.Form.{Request, enters, exits, inserts_alias, inserts_enum, inserts_function, gets_alias, gets_function, named, call_of}
@@ -43,16 +41,16 @@ found_here t g k n =
     rw (spot_first g.indexed g.small (here_of t) t.count k n (omega arith), current-top t.stack t.depth)
     (find_spot (rows t) t.count (top (stack_of t.stack t.depth)) k n)
 
-spotted-got : (f : ℕ → Entry) (c : ℕ) (s : Spot) → is_got (spotted f c s) ≡ is_at s
-spotted-got f c Nothing = refl
-spotted-got f c (At i) = refl
+spotted-got : (f : ℕ → Entry) (c : ℕ) (s : Option ℕ) → is_got (spotted f c s) ≡ is_at s
+spotted-got f c None = refl
+spotted-got f c (Some i) = refl
 
 pub held-here : (t : View) → Good t → (k : ℕ) (n : Name) → held flat (flat_of t) k n ≡ is_at (current_spot t k n)
 held-here t g k n = ap is_got (found_here t g k n) ∙ spotted-got (rows t) t.count (current_spot t k n)
 
-told_spot : (t : View) (s : Spot) → told (mark_at t s) ≡ told_mark (spotted (rows t) t.count s)
-told_spot t Nothing = refl
-told_spot t (At i) = refl
+told_spot : (t : View) (s : Option ℕ) → told (mark_at t s) ≡ told_mark (spotted (rows t) t.count s)
+told_spot t None = refl
+told_spot t (Some i) = refl
 
 -- GET
 got-step : (t : View) (s : List ℕ) (k : ℕ) → Good t → (f : Name → Call) → ((n : Name) → step flat (flat_of t) (f n) ≡ (flat_of t, told_mark (flat.find (flat.here (flat_of t)) k n)))

@@ -3,7 +3,7 @@ use Prim.Native.Nat.{ℕ, zero, suc, ◌+◌, ◌*◌, ◌≤◌, ◌<◌}
 use native.Mathlib.Omega.{arith}
 use Rattle.std.proofs.Common.{add-one, ◌∙◌, append_assoc, length-set, get_or-set_same, get_or-set_other}
 use Rattle.std.proofs.Math.Path.{◌≡◌, refl, ap, sym}
-use Rattle.std.specs.Prelude.{Bool, ◌&&◌, ◌||◌, List, [], ◌∷◌, ◌++◌, set, drop}
+use Rattle.std.specs.Prelude.{Bool, ◌&&◌, ◌||◌, List, [], ◌∷◌, ◌++◌, set, drop, Option, Some, None}
 use Rattle.std.proofs.Math.Bool.{true, false, cond}
 use Rattle.std.proofs.Math.Dec.{eqb}
 use Rattle.std.proofs.Math.ListN.{length, get_or}
@@ -11,16 +11,13 @@ use Rattle.std.proofs.lemmas.List.{drop-append-le}
 use borrow.Author.Tests.{ne_eqb, eqb-true}
 use Rattle.names.specs.declared.Name.{Name}
 use Rattle.names.specs.Packed.{packed}
-use Rattle.scope_tree.specs.declared.look.Spot.{Spot}
-use Rattle.scope_tree.specs.declared.look.Spot.TheVariants.{At, Nothing}
-use Rattle.scope_tree.specs.declared.Choice.{Choice}
 use Rattle.scope_tree.specs.Step.{used, head, Elem, got, Tried, done, fail, is_got, after, bind, held, import, attempt, judge, element, stage}
 use Rattle.scope_tree.specs.Register.{is}
 use Rattle.scope_tree.specs.Flat.{copy, Entry, Flat, Place, inside, look, flat, top}
 use Rattle.scope_tree.specs.Form.{string, local_name, after_element, element_at, elements_from}
 use Rattle.scope_tree.specs.Rows.{tab, tab_agree, length-tab, Arrays, row, row_at, is_own, is_row, hit, first_in, looked, spotted, find_spot, placed, inside-site}
 use Rattle.scope_tree.specs.Index.{look_up, IndexOf, spot_found, spot_first}
-use Rattle.scope_tree.specs.Staging.{Staged, is_at, any_to, numbered, put, staged_test, staged_held, no_choice, with_choice, sought, occupied, inside_of, chosen, choice_of, staged_item, verdict_of, staged_element, staged_all, item_count_within, element-count}
+use Rattle.scope_tree.specs.Staging.{Choice, Staged, is_at, any_to, numbered, put, staged_test, staged_held, no_choice, with_choice, sought, occupied, inside_of, chosen, choice_of, staged_item, verdict_of, staged_element, staged_all, item_count_within, element-count}
 use Rattle.scope_tree.specs.Views.{staged_row}
 
 -- WHETHER AN ENTRY IS AMONG THEM
@@ -128,9 +125,9 @@ module _ (A : Arrays) (total here scope time : ℕ) (ss : List ℕ) (hh : top ss
   abbrev pub tried : Staged → Tried Flat
   tried s = cond (eqb s.number 0) (done (state s)) (fail s.number)
 
-  spotted-got : (f : ℕ → Entry) (c : ℕ) (r : Spot) → is_got (spotted f c r) ≡ is_at r
-  spotted-got f c Nothing = refl
-  spotted-got f c (At i) = refl
+  spotted-got : (f : ℕ → Entry) (c : ℕ) (r : Option ℕ) → is_got (spotted f c r) ≡ is_at r
+  spotted-got f c None = refl
+  spotted-got f c (Some i) = refl
 
   -- the current module and earlier elements
   held-state : (s : Staged) (k : ℕ) (l : Name) → held flat (state s) k l ≡ occupied A total here scope time k l || staged_held s here k l
@@ -146,7 +143,7 @@ module _ (A : Arrays) (total here scope time : ℕ) (ss : List ℕ) (hh : top ss
       (look-any (E ++ P) k l here here (drop here (E ++ P)) ∙ ap (any_hit here k l) (drop-append-le here E P b) ∙ any_append here k l (drop here E) P
       ∙ rw (x, any-tab here k l (staged_row v here s) s.count))
 
-  kind_of : (k : ℕ) (n : Name) (e : ℕ) → sought A total here scope time k n ≡ At e → get_or A.kinds e 0 ≡ k
+  kind_of : (k : ℕ) (n : Name) (e : ℕ) → sought A total here scope time k n ≡ Some e → get_or A.kinds e 0 ≡ k
   unfolding sought is_row
   kind_of k n e q =
       let f = spot_found A.index A.scopes A.kinds A.n0 A.n1 A.n2 A.n3 scope time k n e q in
@@ -182,11 +179,11 @@ module _ (A : Arrays) (total here scope time : ℕ) (ss : List ℕ) (hh : top ss
         ap (λ (m : ℕ). record { entries = (tab (row_at A) total ++ tab (staged_row v here s) s.count) ++ (record { scope = top ss; shows = head k l (eqb v 1) (get_or A.marks e 0) (used e); body = copy g.scope m } ∷ []); stack = ss }) (sym (length-tab (row_at A) g.time)) in
         (λ j. record { entries = w j; stack = ss }) ∙ base ∙ ap (λ (y : ℕ). F y (placed (row_at A) g.scope g.time)) (sym q) ∙ ap (F (get_or A.kinds e 0)) (sym i)
 
-    item-found : (k : ℕ) (n l : Name) (r : Spot) → sought A total here scope time k n ≡ r
+    item-found : (k : ℕ) (n l : Name) (r : Option ℕ) → sought A total here scope time k n ≡ r
         → import flat (eqb v 1) l (state s) (spotted (row_at A) time r) ≡ tried (with_choice s here k l (chosen A total here scope time k l r))
     unfolding with_choice chosen
-    item-found k n l Nothing q = refl
-    item-found k n l (At e) q = visible (eqb (get_or A.visible e 0) 1)
+    item-found k n l None q = refl
+    item-found k n l (Some e) q = visible (eqb (get_or A.visible e 0) 1)
       where
         kind : get_or A.kinds e 0 ≡ k
         kind = kind_of k n e q

@@ -3,7 +3,7 @@ use Prim.Native.Nat.{ℕ, zero, suc, pred, ◌+◌, ◌*◌, ◌-◌, ◌≤◌,
 use native.Mathlib.Omega.{arith}
 use Rattle.std.proofs.Math.Path.{◌≡◌, refl, ap}
 use Rattle.std.proofs.Common.{sym, subst, ◌∙◌, length-append}
-use Rattle.std.specs.Prelude.{Bool, true, false, cond, eqb, ltb, length, get_or, replicate}
+use Rattle.std.specs.Prelude.{Bool, true, false, cond, eqb, ltb, length, get_or, replicate, Result, Ok, Err}
 use mathlib.Core.List.{List, [], ◌++◌, append-nil}
 use Rattle.std.proofs.lemmas.List.{length-replicate}
 use borrow.Author.Tests.{eq-eqb, ne_eqb, lt-ltb, le-ltb}
@@ -15,7 +15,9 @@ use Rattle.scope_tree.specs.Step.{Answer, ok, refused, Tried, done, fail, any_ma
 use Rattle.scope_tree.specs.Flat.{Entry, Flat, flat, top, stack_names}
 use Rattle.scope_tree.specs.Form.{Request, resolves_use, string, after_string, after_strings, names_from, elements_from, led_by_crate, use_call, call_of, use_fault, rest_fault, names_fault, elements_fault, after_elements, or_else}
 use Rattle.scope_tree.specs.Rows.{tab, length-tab, placed}
-use Rattle.scope_tree.specs.Nav.{stack_of, current-top, Doors, way, Arrived}
+use Rattle.refusal.specs.declared.Cause.{Cause}
+use Rattle.refusal.specs.Numbers.{number_of}
+use Rattle.scope_tree.specs.Nav.{stack_of, current-top, Doors, way, Same_way, Reached}
 use Rattle.scope_tree.specs.Staging.{Staged, refusal, staged_all, element-count}
 use Rattle.scope_tree.specs.Views.{View, ViewMeets, bit_of, arrays_of, rows, entries_of, flat_of, Good, Sized, refusing, accepting, here_of, committed, staged_row, commits}
 use Rattle.decision.specs.Calls.{length-names, length-stack}
@@ -83,20 +85,20 @@ pub after-all : (s : List ℕ) (n a : ℕ) → n ≡ get_or s 0 0 → (n ≡ 0 �
 unfolding after_strings
 after-all s n a q z e = let x : n ≡ suc (n - 1) = omega arith in rw (← q, e) (sym (ap (λ (m : ℕ). after_strings s m 1) x))
 
-module _ (s : List ℕ) (f : ℕ) (fq : f ≡ use_fault s) (fz : f ≡ 0) (n : ℕ) (nq : (n ≡ get_or s 0 0) × (n < 256)) where
+module _ (s : List ℕ) (fz : use_fault s ≡ 0) {n : ℕ} (nq : (n ≡ get_or s 0 0) × (n < 256)) where
   pub segment_bound : n ≤ 17
-  segment_bound = let x = first_fine s (sym fq ∙ fz) in omega (arith, x.0, nq.0)
+  segment_bound = let x = first_fine s fz in omega (arith, x.0, nq.0)
 
-  pub element_bound : (n ≡ 0 → ⊥) → (a : ℕ) → (a ≡ after_string s 1) × (a ≤ 1 + 256) → (p : ℕ) → p ≡ after_strings s (n - 1) a → (m : ℕ) → (m ≡ get_or s p 0) × (m < 256) → m ≤ 32
-  element_bound nz a aq p pq m mq =
-      let x = first_fine s (sym fq ∙ fz) in
+  pub element_bound : (n ≡ 0 → ⊥) → {a : ℕ} → (a ≡ after_string s 1) × (a ≤ 1 + 256) → {p : ℕ} → p ≡ after_strings s (n - 1) a → {m : ℕ} → (m ≡ get_or s p 0) × (m < 256) → m ≤ 32
+  element_bound nz {a} aq {p} pq {m} mq =
+      let x = first_fine s fz in
       let e : p ≡ after_strings s (get_or s 0 0) 1 = pq ∙ after-all s n a nq.0 nz aq.0 in
       subst (λ (y : ℕ). y ≤ 32) (sym (mq.0 ∙ ap (λ (i : ℕ). get_or s i 0) e)) (second-fine s (after_strings s (get_or s 0 0) 1) x.1)
 
 module _ (t : View) (s : List ℕ) (v : Bool) where
-  pub use_bad : (n : ℕ) → n ≡ use_fault s → (n ≡ 0 → ⊥) → ViewMeets t (resolves_use s v) (refusing n t)
+  pub use_bad : (n : ℕ) → use_fault s ≡ n → (n ≡ 0 → ⊥) → ViewMeets t (resolves_use s v) (refusing n t)
   unfolding call_of step
-  use_bad n q z = refused_meets t (resolves_use s v) n (λ g. rw (← q, ne_eqb n 0 z))
+  use_bad n q z = refused_meets t (resolves_use s v) n (λ g. rw (q, ne_eqb n 0 z))
 
   pub use_many : 1024 < t.count → ViewMeets t (resolves_use s v) (refusing 51 t)
   use_many h = refused_meets t (resolves_use s v) 51 (λ g. absurd (omega (arith, g.small)))
@@ -104,7 +106,7 @@ module _ (t : View) (s : List ℕ) (v : Bool) where
   pub use_deep : 9 < t.depth → ViewMeets t (resolves_use s v) (refusing 51 t)
   use_deep h = refused_meets t (resolves_use s v) 51 (λ g. absurd (omega (arith, g.shallow)))
 
-  module _ (f : ℕ) (fq : f ≡ use_fault s) (fz : f ≡ 0) (n : ℕ) (nq : (n ≡ get_or s 0 0) × (n < 256)) where
+  module _ (fz : use_fault s ≡ 0) {n : ℕ} (nq : (n ≡ get_or s 0 0) × (n < 256)) where
     -- the use that the call is
     abbrev path : List Name
     path = names_from s (pred (get_or s 0 0)) (after_string s 1)
@@ -114,49 +116,54 @@ module _ (t : View) (s : List ℕ) (v : Bool) where
 
     stepped : step flat (flat_of t) (call_of (resolves_use s v)) ≡ settle flat (flat_of t) (use_of flat (flat_of t) (led_by_crate s) path v elems)
     unfolding call_of step use_call
-    stepped = rw (← fq, fz)
+    stepped = rw fz
 
     pub use_empty : n ≡ 0 → ViewMeets t (resolves_use s v) (refusing 40 t)
     use_empty z = refused_meets t (resolves_use s v) 40 (λ g. stepped ∙ rw (← nq.0, z))
 
-    module _ (nz : n ≡ 0 → ⊥) (l : List ℕ) (lq : l ≡ string s 1) (b : Bool) (bq : b ≡ is_crate l) where
+    module _ (nz : n ≡ 0 → ⊥) {l : List ℕ} (lq : l ≡ string s 1) {b : Bool} (bq : b ≡ is_crate l) where
       led : led_by_crate s ≡ b
       led = rw (← nq.0, ne_eqb n 0 nz, bq, lq)
 
       pub use_no_crate : b ≡ false → ViewMeets t (resolves_use s v) (refusing 40 t)
       use_no_crate z = refused_meets t (resolves_use s v) 40 (λ g. stepped ∙ rw (led, z))
 
-      module _ (bz : b ≡ true) (a : ℕ) (aq : (a ≡ after_string s 1) × (a ≤ 1 + 256)) (w : Way)
-          (wq : Arrived t.kinds t.visible t.scopes t.n0 t.n1 t.n2 t.n3 t.origins t.targets t.times t.index t.count t.stack t.depth s a (n - 1) w) where
-        walk : Good t → nav flat (shared (flat.names (flat_of t)) path) 0 path (flat.root (flat_of t)) ≡ way (rows t) w
-        walk g =
+      module _ (bz : b ≡ true) {a : ℕ} (aq : (a ≡ after_string s 1) × (a ≤ 1 + 256)) where
+        abbrev Way_same : Result Way Cause → Type 0
+        Way_same = Same_way t.kinds t.visible t.scopes t.n0 t.n1 t.n2 t.n3 t.origins t.targets t.times t.index t.count t.stack t.depth s a (n - 1)
+
+        walk : (r : Result Way Cause) → Way_same r → Good t → nav flat (shared (flat.names (flat_of t)) path) 0 path (flat.root (flat_of t)) ≡ way (rows t) r
+        walk r q g =
             let p : pred (get_or s 0 0) ≡ n - 1 = omega (arith, nq.0) in
-            rw (p, ← aq.0) (sym (wq.same g.small g.indexed g.doors t.marks))
+            rw (p, ← aq.0) (sym (q.same g.small g.indexed g.doors t.marks))
 
-        tail : Good t → step flat (flat_of t) (call_of (resolves_use s v)) ≡ settle flat (flat_of t) (bind (way (rows t) w) (λ c. cond (any_main elems) (fail 46) (stage flat c v elems (flat_of t))))
-        tail g = stepped ∙ rw (led, bz, walk g)
+        tail : (r : Result Way Cause) → Way_same r → Good t → step flat (flat_of t) (call_of (resolves_use s v)) ≡ settle flat (flat_of t) (bind (way (rows t) r) (λ c. cond (any_main elems) (fail 46) (stage flat c v elems (flat_of t))))
+        tail r q g = stepped ∙ rw (led, bz, walk r q g)
 
-        pub use_lost : (w.number ≡ 0 → ⊥) → ViewMeets t (resolves_use s v) (refusing w.number t)
-        use_lost z = refused_meets t (resolves_use s v) w.number (λ g. tail g ∙ rw (ne_eqb w.number 0 z))
+        pub use_lost : (c : Cause) → Way_same (Err c) → ViewMeets t (resolves_use s v) (refusing (number_of c) t)
+        use_lost c q = refused_meets t (resolves_use s v) (number_of c) (λ g. tail (Err c) q g)
 
-        module _ (wz : w.number ≡ 0) (m : ℕ) (mq : (m ≡ get_or s w.next 0) × (m < 256)) where
+        module _ {w : Way} (wq : Reached t.kinds t.visible t.scopes t.n0 t.n1 t.n2 t.n3 t.origins t.targets t.times t.index t.count t.stack t.depth s a (n - 1) w) {m : ℕ} (mq : (m ≡ get_or s w.next 0) × (m < 256)) where
           place : w.next ≡ after_strings s (get_or s 0 0) 1
-          place = wq.next wz ∙ after-all s n a nq.0 nz aq.0
+          place = wq.next ∙ after-all s n a nq.0 nz aq.0
 
-          few : m ≤ 32
-          few = element_bound s f fq fz n nq nz a aq w.next (wq.next wz) m mq
+          pub few_elements : m ≤ 32
+          few_elements = element_bound s fz nq nz aq wq.next mq
 
           same-elems : elems ≡ elements_from s m (w.next + 1)
           same-elems = rw (← place, ← mq.0)
 
-          arrived : Good t → step flat (flat_of t) (call_of (resolves_use s v)) ≡ settle flat (flat_of t) (cond (any_main (elements_from s m (w.next + 1))) (fail 46) (stage flat (placed (rows t) w.scope w.time) v (elements_from s m (w.next + 1)) (flat_of t)))
-          arrived g = tail g ∙ rw (wz, same-elems)
+          arrived : Good t → step flat (flat_of t) (call_of (resolves_use s v)) ≡ settle flat (flat_of t) (cond (any_main (elements_from s m (w.next + 1))) (fail 46) (stage flat (placed (rows t) w.to.scope w.to.time) v (elements_from s m (w.next + 1)) (flat_of t)))
+          arrived g = tail (Ok w) wq.way g ∙ rw same-elems
 
-          module _ (x : Bool) (xq : x ≡ any_main (elements_from s m (w.next + 1))) where
+          module _ {x : Bool} (xq : x ≡ any_main (elements_from s m (w.next + 1))) where
             pub use_main : x ≡ true → ViewMeets t (resolves_use s v) (refusing 46 t)
             use_main z = refused_meets t (resolves_use s v) 46 (λ g. arrived g ∙ rw (← xq, z))
 
-            module _ (xz : x ≡ false) (h : ℕ) (hq : h ≡ here_of t) (r : Staged) (rq : r ≡ staged_all (arrays_of t) t.count h w.scope w.time s m (w.next + 1) (refusal 0)) where
+            module _ (xz : x ≡ false) {h : ℕ} (hq : h ≡ here_of t) {c : ℕ} (cq : c ≡ t.count) {r : Staged} (made : r ≡ staged_all (arrays_of t) c h w.to.scope w.to.time s m (w.next + 1) (refusal 0)) where
+              rq : r ≡ staged_all (arrays_of t) t.count h w.to.scope w.to.time s m (w.next + 1) (refusal 0)
+              rq = made ∙ ap (λ (x : ℕ). staged_all (arrays_of t) x h w.to.scope w.to.time s m (w.next + 1) (refusal 0)) cq
+
               nothing-sized : Sized_staged (refusal 0)
               nothing-sized =
                   let z : length (replicate 96 (zero)) ≡ 96 = length-replicate {A = ℕ} 96 zero in
@@ -184,12 +191,12 @@ module _ (t : View) (s : List ℕ) (v : Bool) where
               abbrev after_use : Tried Flat
               after_use = cond (eqb r.number 0) (done (record { entries = entries_of t ++ tab (staged_row (bit_of v) h r) r.count; stack = stack_of t.stack t.depth })) (fail r.number)
 
-              staged_is : Good t → stage flat (placed (rows t) w.scope w.time) v (elements_from s m (w.next + 1)) (flat_of t) ≡ after_use
+              staged_is : Good t → stage flat (placed (rows t) w.to.scope w.to.time) v (elements_from s m (w.next + 1)) (flat_of t) ≡ after_use
               unfolding tab
               staged_is g =
                   let e : ◌≡◌ {A = Flat} (flat_of t) (record { entries = entries_of t ++ []; stack = stack_of t.stack t.depth }) = ap (λ (l : List Entry). record { entries = l; stack = stack_of t.stack t.depth }) (sym (append-nil (entries_of t))) in
-                  let z = stage-same (arrays_of t) t.count h w.scope w.time (stack_of t.stack t.depth) top-is (top-le g) (bit_of v) g.small wq.time g.indexed s m (w.next + 1) (refusal 0) nothing-sized (omega (arith, few)) refl in
-                  ap (stage flat (placed (rows t) w.scope w.time) v (elements_from s m (w.next + 1))) e
+                  let z = stage-same (arrays_of t) t.count h w.to.scope w.to.time (stack_of t.stack t.depth) top-is (top-le g) (bit_of v) g.small wq.time g.indexed s m (w.next + 1) (refusal 0) nothing-sized (omega (arith, few_elements)) refl in
+                  ap (stage flat (placed (rows t) w.to.scope w.to.time) v (elements_from s m (w.next + 1))) e
                   ∙ (rw (bit_is, ← rq) at z)
 
               staged_step : Good t → step flat (flat_of t) (call_of (resolves_use s v)) ≡ settle flat (flat_of t) after_use

@@ -1,241 +1,84 @@
 // Declarations, gets and uses: what each comes to.
-ghost use Rattle.std.specs.Prelude.{◌≡◌, List, ℕ};
+ghost use Rattle.std.specs.Prelude.{◌≡◌};
+ghost use Rattle.scope_tree.specs.Kinds.{kind_number, twice_number, deepest_for};
+ghost use Rattle.scope_tree.specs.Told.{mark_told};
+ghost use Rattle.scope_tree.specs.Trees.{tree_in, view};
 ghost use Rattle.scope_tree.specs.Views.{got_of};
-ghost use Rattle.scope_tree.specs.Trees.{packed_in, view};
-ghost use Rattle.decision.specs.Plan.{no_plan, begun_of, full_of, planned_of};
-ghost use Rattle.scope_tree.specs.Batches.{staged_of};
+ghost use Rattle.decision.specs.Plan.{plan_told, planned_of};
 ghost use Rattle.decision.specs.Decided.{Decided};
-ghost use Rattle.decision.specs.Starts.{no_start, Started};
+ghost use Rattle.decision.specs.Batches.{batch_told};
 
-use crate::stage;
-use crate::stage::refused;
+use crate::batch::Batch;
+use crate::stage::stage;
 use names::Name;
-use scope_tree::look::Spot;
-use scope_tree::{Answer, Batch, CELLS, COUNT, DEPTH, ENTRIES, OPEN, OPENED, form, look};
+use refusal::Cause;
+use scope_tree::look::View;
+use scope_tree::{ENTRIES, Kind, form};
 
-// What a declaration comes to: number 0 with the scope and the name of the entry, or a number.
-#[derive(Clone, Copy)]
+// What a declaration comes to: the scope and the name of the entry.
+#[derive(Clone, Copy, Debug, PartialEq, Eq)]
 pub struct Plan {
-    pub number: u8,
     pub scope: u16,
     pub name: Name,
 }
 
-fn no_plan(number: u8) -> Plan
-    ensures { result ≡ no_plan number }
+// A declaration: its name is free in its kind, and there is place for an entry more, and for a module more to be open where it opens.
+#[tactic(auto, unfolding(crate::specs::Plan::planned_of, crate::specs::Plan::plan_of, scope_tree::specs::Views::current_spot))]
+pub fn planned(tree: &View, name: &[u8], kind: Kind) -> Result<Plan, Cause>
+    ensures { plan_told result ≡ planned_of (tree_in tree.now) name.now (kind_number kind) (twice_number kind) (deepest_for kind) }
 {
-    Plan {
-        number: number,
-        scope: 0,
-        name: Name {
-            w0: 0,
-            w1: 0,
-            w2: 0,
-            w3: 0,
-        },
+    if !names::is_identifier(name) {
+        return Err(Cause::BadName);
     }
+    let here = tree.here()?;
+    let name = names::name_of(name);
+    if tree.find(here, kind, name).is_some() {
+        return Err(kind.twice());
+    }
+    if ENTRIES <= here.time || kind.deepest() < tree.depth() {
+        return Err(Cause::TreeFull);
+    }
+    Ok(Plan {
+        scope: here.scope,
+        name,
+    })
 }
 
-// What a declaration and a get begin with: the scope of the current module and the name, or the number of a name that is none or of a
-// record that no calls left.
-fn begun<'a>(opened: &'a [u16; OPENED], name: &'a [u8]) -> Plan
-    ensures { result ≡ begun_of opened.now name.now }
+// The mark of the entry of a kind and a name in the current module.
+#[tactic(auto, unfolding(scope_tree::specs::Views::got_of, scope_tree::specs::Views::current_spot))]
+pub fn get(tree: &View, name: &[u8], kind: Kind) -> Result<u16, Cause>
+    ensures { mark_told result ≡ got_of (view (tree_in tree.now)) name.now (kind_number kind) }
 {
-    let n = names::name_of(name);
-    if names::is_identifier(name) {} else {
-        return no_plan(5);
+    if !names::is_identifier(name) {
+        return Err(Cause::BadName);
     }
-    let at = look::wide(opened[COUNT]);
-    if ENTRIES < at {
-        return no_plan(51);
-    }
-    let depth = look::wide(opened[DEPTH]);
-    if OPEN < depth {
-        return no_plan(51);
-    }
-    Plan {
-        number: 0,
-        scope: look::current(opened, depth),
-        name: n,
-    }
-}
-
-// Whether there is no place for an entry more, or for a module more to be open.
-fn is_full(opened: &[u16; OPENED], deepest: usize) -> bool
-    ensures { result ≡ full_of opened.now deepest }
-{
-    if ENTRIES <= look::wide(opened[COUNT]) {
-        return true;
-    }
-    deepest < look::wide(opened[DEPTH])
-}
-
-// A declaration: its name is free in its kind, and there is place. `deepest` bounds the open modules.
-pub fn planned<'a>(
-    opened: &'a [u16; OPENED],
-    cells: &'a [u16; CELLS],
-    scopes: &'a [u16; 1024],
-    n0: &'a [u64; 1024],
-    n1: &'a [u64; 1024],
-    n2: &'a [u64; 1024],
-    n3: &'a [u64; 1024],
-    name: &'a [u8],
-    kind: u16,
-    twice: u8,
-    deepest: usize,
-) -> Plan
-    ensures { (visible marks : List ℕ) → result ≡ planned_of (packed_in opened.now cells.now visible scopes.now marks n0.now n1.now n2.now n3.now) name.now kind twice deepest }
-{
-    let p = begun(opened, name);
-    if p.number != 0 {
-        return p;
-    }
-    let at = look::wide(opened[COUNT]);
-    let n = p.name;
-    if look::is_held(cells, scopes, n0, n1, n2, n3, p.scope, at, kind, n) {
-        return no_plan(twice);
-    }
-    if is_full(opened, deepest) {
-        return no_plan(51);
-    }
-    p
-}
-
-// The mark of the entry of a kind and a name in the current module, or a number.
-pub fn get<'a>(
-    opened: &'a [u16; OPENED],
-    cells: &'a [u16; CELLS],
-    scopes: &'a [u16; 1024],
-    marks: &'a [u16; 1024],
-    n0: &'a [u64; 1024],
-    n1: &'a [u64; 1024],
-    n2: &'a [u64; 1024],
-    n3: &'a [u64; 1024],
-    name: &'a [u8],
-    kind: u16,
-) -> Answer
-    ensures { (visible : List ℕ) → result ≡ got_of (view (packed_in opened.now cells.now visible scopes.now marks.now n0.now n1.now n2.now n3.now)) name.now kind }
-{
-    let p = begun(opened, name);
-    if p.number != 0 {
-        return Answer::Refused(p.number);
-    }
-    let at = look::wide(opened[COUNT]);
-    let n = p.name;
-    let found = look::find_in(cells, scopes, n0, n1, n2, n3, p.scope, at, kind, n);
-    let Spot::At(i) = found else {
-        return Answer::Refused(43);
+    let here = tree.here()?;
+    let Some(i) = tree.find(here, kind, names::name_of(name)) else {
+        return Err(Cause::NoItem);
     };
-    Answer::Mark(marks[i])
+    Ok(tree.marks[i])
 }
 
-// What a use begins with: how many entries and open modules there are, how many segments, and where the second stands; or a number.
-#[derive(Clone, Copy)]
-pub struct Start {
-    pub number: u8,
-    pub total: usize,
-    pub depth: usize,
-    pub segments: usize,
-    pub next: usize,
-}
-
-fn no_start(number: u8) -> Start
-    ensures { result ≡ no_start number }
+// The entries that a use adds, all of one visibility. Its form is tested first, then the record, `crate`, the path, `as main`, and the
+// elements.
+pub fn uses(tree: &View, decl: &[u8]) -> Result<Batch, Cause>
+    ensures { Decided (view (tree_in tree.now)) decl.now (batch_told result) }
 {
-    Start {
-        number: number,
-        total: 0,
-        depth: 0,
-        segments: 0,
-        next: 0,
-    }
-}
-
-// The tests of a use before its path is followed: its form, the record, and `crate`.
-fn started<'a>(opened: &'a [u16; OPENED], decl: &'a [u8]) -> Start
-    ensures { Started opened.now decl.now result }
-{
-    let number = form::use_form(decl);
-    if number != 0 {
-        return no_start(number);
-    }
-    let total = look::wide(opened[COUNT]);
-    if ENTRIES < total {
-        return no_start(51);
-    }
-    let depth = look::wide(opened[DEPTH]);
-    if OPEN < depth {
-        return no_start(51);
-    }
+    form::use_form(decl)?;
+    let here = tree.here()?;
     let segments = form::byte_at(decl, 0);
-    if segments == 0 {
-        return no_start(40);
+    if segments == 0 || !names::is_crate(form::string_at(decl, 1)) {
+        return Err(Cause::NoCrateWord);
     }
-    if names::is_crate(form::string_at(decl, 1)) {} else {
-        return no_start(40);
-    }
-    Start {
-        number: 0,
-        total: total,
-        depth: depth,
-        segments: segments,
-        next: form::next(decl, 1),
-    }
-}
-
-// The entries that a use adds, all of one visibility; or a number.
-pub fn uses<'a>(
-    opened: &'a [u16; OPENED],
-    cells: &'a [u16; CELLS],
-    visible: &'a [u8; 1024],
-    scopes: &'a [u16; 1024],
-    marks: &'a [u16; 1024],
-    n0: &'a [u64; 1024],
-    n1: &'a [u64; 1024],
-    n2: &'a [u64; 1024],
-    n3: &'a [u64; 1024],
-    decl: &'a [u8],
-) -> Batch
-    ensures { Decided (view (packed_in opened.now cells.now visible.now scopes.now marks.now n0.now n1.now n2.now n3.now)) decl.now (staged_of result) }
-{
-    let b = started(opened, decl);
-    if b.number != 0 {
-        return refused(b.number);
-    }
-    let way = look::navigate(
-        opened,
-        cells,
-        visible,
-        scopes,
-        n0,
-        n1,
-        n2,
-        n3,
-        b.total,
-        b.depth,
-        decl,
-        b.next,
-        b.segments - 1,
-    );
-    if way.number != 0 {
-        return refused(way.number);
-    }
+    let way = tree.navigate(decl, form::next(decl, 1), segments - 1)?;
     let elements = form::byte_at(decl, way.next);
     let first = way.next + 1;
     if form::any_main(decl, first, elements) {
-        return refused(46);
+        return Err(Cause::AliasMain);
     }
-    let here = look::current(opened, b.depth);
-    let staged = stage::stage(
-        cells, visible, scopes, marks, n0, n1, n2, n3, b.total, here, way.scope, way.time, decl,
-        first, elements,
-    );
-    let told = staged.number;
-    if told != 0 {
-        return staged;
+    let batch = stage(tree, here, way.to, decl, first, elements)?;
+    if ENTRIES < here.time + batch.count {
+        return Err(Cause::TreeFull);
     }
-    if ENTRIES < b.total + staged.count {
-        return refused(51);
-    }
-    staged
+    Ok(batch)
 }

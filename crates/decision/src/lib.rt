@@ -2,5 +2,6 @@
 // scopes.
 #![tactic(auto)]
 
+pub mod batch;
 pub mod decide;
 pub mod stage;

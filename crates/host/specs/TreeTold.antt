@@ -4,8 +4,7 @@ use Rattle.std.proofs.Common.{arith, ap, sym, ◌∙◌}
 use Rattle.std.proofs.Math.ListN.{length}
 use borrow.Author.Tests.{eq-eqb, ne_eqb, le-leb, lt-leb}
 use Rattle.scope_tree.specs.declared.Tree.{Tree}
-use Rattle.scope_tree.specs.declared.Answer.{Answer as Told}
-use Rattle.scope_tree.specs.declared.Answer.TheVariants.{Done, Mark, Refused}
+use Rattle.scope_tree.specs.Told.{Told, Done, Mark, Refused}
 use Rattle.scope_tree.specs.Step.{Answer, ok, marked, refused, step}
 use Rattle.scope_tree.specs.Flat.{flat}
 use Rattle.scope_tree.specs.Form.{Request, call_of}

@@ -4,15 +4,13 @@ use Prim.Native.Nat.{ℕ, zero, suc, ◌+◌, ◌-◌, ◌*◌, ◌/◌, ◌%◌
 use native.Mathlib.Omega.{arith}
 use Rattle.std.proofs.Common.{add-one, zero-add, le_of_lt, mul-le-mul_right, ◌∙◌, get_or-set_same, get_or-set_other}
 use Rattle.std.proofs.Math.Decide.{dec_lt}
-use Rattle.std.specs.Prelude.{◌≡◌, Bool, ◌&&◌, List, eqb, ltb, set, length}
+use Rattle.std.specs.Prelude.{◌≡◌, Bool, ◌&&◌, List, eqb, ltb, set, length, Option, Some, None}
 use Rattle.std.proofs.Math.Path.{refl, ap, sym}
 use Rattle.std.proofs.Math.Bool.{true, false, cond}
 use Rattle.std.proofs.Math.ListN.{get_or}
-use borrow.Author.Tests.{eq-eqb, ne_eqb, eqb-true, eqb-false, lt-ltb, le-ltb, ltb-true}
+use borrow.Author.Tests.{eq-eqb, eqb-true, eqb-false, lt-ltb, le-ltb, ltb-true}
 use Rattle.names.specs.declared.Name.{Name}
 use Rattle.names.specs.Packed.{same_name, names_same}
-use Rattle.scope_tree.specs.declared.look.Spot.{Spot}
-use Rattle.scope_tree.specs.declared.look.Spot.TheVariants.{At, Nothing}
 use Rattle.scope_tree.specs.Rows.{Arrays, name_at, is_row, first_from, first_in, looked, first-end, Found_at}
 
 -- THE ROUTE of a scope, a kind and a name
@@ -37,9 +35,32 @@ mix_again s k n =
     + (s * 3387945472435 + k * 7000208109065))
     / 268435456
 
+-- A MIX BY A TABLE: the multipliers for the halves of each word of a name, then those for scope and kind
+abbrev pub by_at : List (ℕ × ℕ) → ℕ → ℕ × ℕ
+by_at m i = get_or m i (0, 0)
+
+abbrev pub half_mix : ℕ → ℕ × ℕ → ℕ
+half_mix x m = x / 4294967296 % 4294967296 * m.0 + x % 4294967296 * m.1
+
+unfoldable pub mix_by : List (ℕ × ℕ) → ℕ → ℕ → Name → ℕ
+mix_by m s k n =
+    (half_mix n.w0 (by_at m 0) + half_mix n.w1 (by_at m 1) + half_mix n.w2 (by_at m 2) + half_mix n.w3 (by_at m 3)
+    + (s * (by_at m 4).0 + k * (by_at m 4).1))
+    / 268435456
+
+-- the multipliers of a name's words have 28 bits, those of scope and kind 43, so that no sum is too long
+abbrev pub Small : List (ℕ × ℕ) → Type 0
+Small m =
+    ((i : ℕ) → i < 4 → ((by_at m i).0 < 268435456) × ((by_at m i).1 < 268435456))
+    × (((by_at m 4).0 < 8796093022208) × ((by_at m 4).1 < 8796093022208))
+
 -- half a word times a multiplier of 28 bits
 pub half_small : (x m : ℕ) → x < 4294967296 → m < 268435456 → x * m < 1152921504606846976
 half_small x m h l = let a : x * m ≤ 4294967296 * m = mul-le-mul_right m (le_of_lt h) in omega arith
+
+-- of 16 bits, times one of 43
+pub part_small : (x m : ℕ) → x < 65536 → m < 8796093022208 → x * m < 576460752303423488
+part_small x m h l = let a : x * m ≤ 65536 * m = mul-le-mul_right m (le_of_lt h) in omega arith
 
 -- the four words of the name, then scope and kind
 unfoldable pub word_at : ℕ → ℕ → Name → ℕ → ℕ
@@ -85,16 +106,33 @@ place_in p limit = cond (ltb limit p) 0 p
 unfoldable pub within : ℕ → ℕ → ℕ → Bool
 within s t i = cond (ltb i s) false (ltb i t)
 
+-- the entry of a place
+abbrev pub entry_of : ℕ → Option ℕ
+entry_of zero = None
+entry_of (suc i) = Some i
+
+-- the entry in a slot of the index xs
+unfoldable pub held_in : List ℕ → ℕ → Option ℕ
+held_in xs σ = entry_of (place_in (get_or xs σ 0) 1024)
+
+entry-none : (p : ℕ) → entry_of p ≡ None → p ≡ 0
+entry-none zero e = refl
+entry-none (suc i) e = let z : ◌≡◌ {A = ℕ} 0 1 = cc in absurd (omega arith)
+
+entry-some : (p i : ℕ) → entry_of p ≡ Some i → p ≡ suc i
+entry-some zero i e = let z : ◌≡◌ {A = ℕ} 0 1 = cc in absurd (omega arith)
+entry-some (suc j) i e = let z : j ≡ i = cc in ap suc z
+
 -- THE WALK from a depth and a slot
 
 -- at a place: nothing, the entry, or on
-abbrev pub met : (ℕ → Bool) → (ℕ → Spot) → ℕ → Spot
-met q go zero = Nothing
-met q go (suc i) = cond (q i) (At i) (go i)
+abbrev pub met : (ℕ → Bool) → (ℕ → Option ℕ) → ℕ → Option ℕ
+met q go zero = None
+met q go (suc i) = cond (q i) (Some i) (go i)
 
 -- the first entry of at most m of which q holds
-unfoldable pub seek : (ℕ → Bool) → List ℕ → (ℕ → ℕ) → ℕ → ℕ → ℕ → Spot
-seek q xs f zero d σ = Nothing
+unfoldable pub seek : (ℕ → Bool) → List ℕ → (ℕ → ℕ) → ℕ → ℕ → ℕ → Option ℕ
+seek q xs f zero d σ = None
 seek q xs f (suc m) d σ = met q (λ i. seek q xs f m (suc d) (below f d i)) (place_in (get_or xs σ 0) 1024)
 
 abbrev pub past : ℕ → (ℕ → ℕ) → ℕ → ℕ
@@ -115,10 +153,10 @@ abbrev pub sought_at : List ℕ → List ℕ → List ℕ → List ℕ → List 
 sought_at ss ks a b c d s t k n i = within s t i && looked ss ks a b c d s k n i
 
 -- the lookup: index, scopes, kinds and words of the names; in the scope s among the first t entries, of a kind and a name
-unfoldable pub spot_in : List ℕ → List ℕ → List ℕ → List ℕ → List ℕ → List ℕ → List ℕ → ℕ → ℕ → ℕ → Name → Spot
+unfoldable pub spot_in : List ℕ → List ℕ → List ℕ → List ℕ → List ℕ → List ℕ → List ℕ → ℕ → ℕ → ℕ → Name → Option ℕ
 spot_in xs ss ks a b c d s t k n = seek (sought_at ss ks a b c d s t k n) xs (turn s k n) 1024 0 (bucket s k n)
 
-abbrev pub look_up : Arrays → ℕ → ℕ → ℕ → Name → Spot
+abbrev pub look_up : Arrays → ℕ → ℕ → ℕ → Name → Option ℕ
 look_up A s t k n = spot_in A.index A.scopes A.kinds A.n0 A.n1 A.n2 A.n3 s t k n
 
 -- places
@@ -140,11 +178,11 @@ place-most p limit = go (dec_lt limit p)
 
 -- ONE TURN
 module _ (xs : List ℕ) (f : ℕ → ℕ) (m d σ : ℕ) where
-  seek-none : (q : ℕ → Bool) → place_in (get_or xs σ 0) 1024 ≡ 0 → seek q xs f m d σ ≡ Nothing
+  seek-none : (q : ℕ → Bool) → place_in (get_or xs σ 0) 1024 ≡ 0 → seek q xs f m d σ ≡ None
   unfolding seek
   seek-none q e = go m
     where
-      go : (k : ℕ) → seek q xs f k d σ ≡ Nothing
+      go : (k : ℕ) → seek q xs f k d σ ≡ None
       go zero = refl
       go (suc k) = rw e
 
@@ -156,7 +194,7 @@ module _ (xs : List ℕ) (f : ℕ → ℕ) (m d σ : ℕ) where
       go zero = refl
       go (suc k) = rw e
 
-  seek-turn : (q : ℕ → Bool) (i : ℕ) → place_in (get_or xs σ 0) 1024 ≡ suc i → seek q xs f (suc m) d σ ≡ cond (q i) (At i) (seek q xs f m (suc d) (below f d i))
+  seek-turn : (q : ℕ → Bool) (i : ℕ) → place_in (get_or xs σ 0) 1024 ≡ suc i → seek q xs f (suc m) d σ ≡ cond (q i) (Some i) (seek q xs f m (suc d) (below f d i))
   unfolding seek
   seek-turn q i e = rw e
 
@@ -165,20 +203,20 @@ module _ (xs : List ℕ) (f : ℕ → ℕ) (m d σ : ℕ) where
   reach-turn i e = rw e
 
 -- WHAT A LOOKUP FINDS, whatever the arrays hold
-seek-holds : (q : ℕ → Bool) (xs : List ℕ) (f : ℕ → ℕ) (m d σ i : ℕ) → seek q xs f m d σ ≡ At i → q i ≡ true
+seek-holds : (q : ℕ → Bool) (xs : List ℕ) (f : ℕ → ℕ) (m d σ i : ℕ) → seek q xs f m d σ ≡ Some i → q i ≡ true
 unfolding seek
 seek-holds q xs f zero d σ i h = let o : ◌≡◌ {A = ℕ} 0 1 = cc in absurd (omega arith)
 seek-holds q xs f (suc m) d σ i h = go (place_in (get_or xs σ 0) 1024) h (λ j. seek-holds q xs f m (suc d) (below f d j) i)
   where
-    at : (j : ℕ) (b : Bool) → q j ≡ b → cond b (At j) (seek q xs f m (suc d) (below f d j)) ≡ At i → (seek q xs f m (suc d) (below f d j) ≡ At i → q i ≡ true) → q i ≡ true
+    at : (j : ℕ) (b : Bool) → q j ≡ b → cond b (Some j) (seek q xs f m (suc d) (below f d j)) ≡ Some i → (seek q xs f m (suc d) (below f d j) ≡ Some i → q i ≡ true) → q i ≡ true
     at j true e h ih = let z : j ≡ i = cc in rw (← z) e
     at j false e h ih = ih h
 
-    go : (p : ℕ) → met q (λ j. seek q xs f m (suc d) (below f d j)) p ≡ At i → ((j : ℕ) → seek q xs f m (suc d) (below f d j) ≡ At i → q i ≡ true) → q i ≡ true
+    go : (p : ℕ) → met q (λ j. seek q xs f m (suc d) (below f d j)) p ≡ Some i → ((j : ℕ) → seek q xs f m (suc d) (below f d j) ≡ Some i → q i ≡ true) → q i ≡ true
     go zero h ih = let o : ◌≡◌ {A = ℕ} 0 1 = cc in absurd (omega arith)
     go (suc j) h ih = at j (q j) refl h (ih j)
 
-pub spot_found : (xs ss ks a b c d : List ℕ) (s t k : ℕ) (n : Name) (i : ℕ) → spot_in xs ss ks a b c d s t k n ≡ At i → Found_at (looked ss ks a b c d s k n) t i
+pub spot_found : (xs ss ks a b c d : List ℕ) (s t k : ℕ) (n : Name) (i : ℕ) → spot_in xs ss ks a b c d s t k n ≡ Some i → Found_at (looked ss ks a b c d s k n) t i
 unfolding spot_in within
 spot_found xs ss ks a b c d s t k n i h =
     fine (ltb i s) (ltb i t) (looked ss ks a b c d s k n i) refl refl refl (seek-holds (sought_at ss ks a b c d s t k n) xs (turn s k n) 1024 0 (bucket s k n) i h)
@@ -192,124 +230,88 @@ spot_found xs ss ks a b c d s t k n i h =
 -- AS THE CODE HAS IT: before each turn a depth and the slot to look at
 module _ (xs ss ks a b c d : List ℕ) (s t k : ℕ) (n : Name) where
   pub record Seeking (depth slot : ℕ) : Type 0 where
-    pub few : depth ≤ 1024
     pub inside : slot < 3072
     pub same : spot_in xs ss ks a b c d s t k n ≡ seek (sought_at ss ks a b c d s t k n) xs (turn s k n) (1024 - depth) depth slot
 
-  pub seeking_start : (m σ : ℕ) → m ≡ mix s k n → (σ ≡ m % 1024) × (σ < 3072) → Seeking 0 σ
-  unfolding spot_in bucket
-  seeking_start m σ e w =
-      let z : mix s k n % 1024 ≡ σ = rw (← e) (sym w.0) in
-      record { few = omega arith; inside = w.1; same = ap (λ (x : ℕ). seek (sought_at ss ks a b c d s t k n) xs (turn s k n) 1024 0 x) z }
+  pub seeking_start : (σ : ℕ) → (σ ≡ bucket s k n) × (σ < 3072) → Seeking 0 σ
+  unfolding spot_in
+  seeking_start σ w = record { inside = w.1; same = ap (λ (x : ℕ). seek (sought_at ss ks a b c d s t k n) xs (turn s k n) 1024 0 x) (sym w.0) }
 
-  module _ (depth slot : ℕ) (w : Seeking depth slot) (h : depth < 1024) (e : ℕ) (eq : (e ≡ place_in (get_or xs slot 0) 1024) × (e ≤ 1024)) where
-    step : 1024 - depth ≡ suc (1024 - (depth + 1))
-    step = omega arith
+  module _ {depth slot : ℕ} (w : Seeking depth slot) (h : depth < 1024) where
+    pub seeking_none : {o : Option ℕ} → o ≡ held_in xs slot → o ≡ None → None ≡ spot_in xs ss ks a b c d s t k n
+    unfolding held_in
+    seeking_none q z = sym (w.same ∙ seek-none xs (turn s k n) (1024 - depth) depth slot (sought_at ss ks a b c d s t k n) (entry-none _ (sym q ∙ z)))
 
-    pub seeking_none : e ≡ 0 → Nothing ≡ spot_in xs ss ks a b c d s t k n
-    seeking_none z = sym (w.same ∙ seek-none xs (turn s k n) (1024 - depth) depth slot (sought_at ss ks a b c d s t k n) (sym eq.0 ∙ z))
-
-    module _ (z : e ≡ 0 → ⊥) (f : Bool) (fq : f ≡ sought_at ss ks a b c d s t k n (e - 1)) where
-      turned : spot_in xs ss ks a b c d s t k n ≡ cond f (At (e - 1)) (seek (sought_at ss ks a b c d s t k n) xs (turn s k n) (1024 - (depth + 1)) (depth + 1) (below (turn s k n) depth (e - 1)))
+    module _ {o : Option ℕ} (q : o ≡ held_in xs slot) {i : ℕ} (z : o ≡ Some i) {f : Bool} (fq : f ≡ sought_at ss ks a b c d s t k n i) where
+      turned : spot_in xs ss ks a b c d s t k n ≡ cond f (Some i) (seek (sought_at ss ks a b c d s t k n) xs (turn s k n) (1024 - (depth + 1)) (depth + 1) (below (turn s k n) depth i))
+      unfolding held_in
       turned =
-          let p : place_in (get_or xs slot 0) 1024 ≡ suc (e - 1) = sym eq.0 ∙ (omega arith) in
+          let step : 1024 - depth ≡ suc (1024 - (depth + 1)) = omega arith in
           w.same
           ∙ ap (λ (m : ℕ). seek (sought_at ss ks a b c d s t k n) xs (turn s k n) m depth slot) step
-          ∙ seek-turn xs (turn s k n) (1024 - (depth + 1)) depth slot (sought_at ss ks a b c d s t k n) (e - 1) p
+          ∙ seek-turn xs (turn s k n) (1024 - (depth + 1)) depth slot (sought_at ss ks a b c d s t k n) i (entry-some _ i (sym q ∙ z))
           ∙ rw (← fq, add-one)
 
-      pub seeking_found : f ≡ true → At (e - 1) ≡ spot_in xs ss ks a b c d s t k n
+      pub seeking_found : f ≡ true → Some i ≡ spot_in xs ss ks a b c d s t k n
       seeking_found y = sym (turned ∙ rw y)
 
-      pub seeking_on : f ≡ false → (m to : ℕ) → m ≡ mix s k n → (to ≡ below (turn_of m s k n) depth (e - 1)) × (to < 3072) → Seeking (depth + 1) to
-      seeking_on y m to q r =
-          let p : below (turn s k n) depth (e - 1) ≡ to = rw (← q) (sym r.0) in
+      pub seeking_on : f ≡ false → {to : ℕ} → (to ≡ below (turn s k n) depth i) × (to < 3072) → Seeking (depth + 1) to
+      seeking_on y r =
           record {
-            few = omega arith;
             inside = r.1;
-            same = turned ∙ rw y (ap (λ (x : ℕ). seek (sought_at ss ks a b c d s t k n) xs (turn s k n) (1024 - (depth + 1)) (depth + 1) x) p);
+            same = turned ∙ rw y (ap (λ (x : ℕ). seek (sought_at ss ks a b c d s t k n) xs (turn s k n) (1024 - (depth + 1)) (depth + 1) x) (sym r.0));
           }
 
-  pub seeking_end : (depth slot : ℕ) → Seeking depth slot → 1024 ≤ depth → Nothing ≡ spot_in xs ss ks a b c d s t k n
+  pub seeking_end : {depth slot : ℕ} → Seeking depth slot → 1024 ≤ depth → None ≡ spot_in xs ss ks a b c d s t k n
   unfolding seek
-  seeking_end depth slot w h = let z : 1024 - depth ≡ 0 = omega arith in sym (w.same ∙ rw z)
+  seeking_end {depth} w h = let z : 1024 - depth ≡ 0 = omega arith in sym (w.same ∙ rw z)
 
 -- the same of the walk to an empty slot
 module _ (xs : List ℕ) (s k : ℕ) (n : Name) where
   pub record Reaching (depth slot : ℕ) : Type 0 where
-    pub few : depth ≤ 1024
     pub inside : slot < 3072
     pub same : free_slot xs s k n ≡ reach xs (turn s k n) (1024 - depth) depth slot
 
-  pub reaching_start : (m σ : ℕ) → m ≡ mix s k n → (σ ≡ m % 1024) × (σ < 3072) → Reaching 0 σ
-  unfolding free_slot bucket
-  reaching_start m σ e w =
-      let z : mix s k n % 1024 ≡ σ = rw (← e) (sym w.0) in
-      record { few = omega arith; inside = w.1; same = ap (λ (x : ℕ). reach xs (turn s k n) 1024 0 x) z }
+  pub reaching_start : (σ : ℕ) → (σ ≡ bucket s k n) × (σ < 3072) → Reaching 0 σ
+  unfolding free_slot
+  reaching_start σ w = record { inside = w.1; same = ap (λ (x : ℕ). reach xs (turn s k n) 1024 0 x) (sym w.0) }
 
-  module _ (depth slot : ℕ) (w : Reaching depth slot) (h : depth < 1024) (e : ℕ) (eq : (e ≡ place_in (get_or xs slot 0) 1024) × (e ≤ 1024)) where
-    pub reaching_free : e ≡ 0 → (slot ≡ free_slot xs s k n) × (slot < 3072)
-    reaching_free z = (sym (w.same ∙ reach-none xs (turn s k n) (1024 - depth) depth slot (sym eq.0 ∙ z)), w.inside)
+  module _ {depth slot : ℕ} (w : Reaching depth slot) (h : depth < 1024) {o : Option ℕ} (q : o ≡ held_in xs slot) where
+    pub reaching_free : o ≡ None → (slot ≡ free_slot xs s k n) × (slot < 3072)
+    unfolding held_in
+    reaching_free z = (sym (w.same ∙ reach-none xs (turn s k n) (1024 - depth) depth slot (entry-none _ (sym q ∙ z))), w.inside)
 
-    pub reaching_on : (e ≡ 0 → ⊥) → (m to : ℕ) → m ≡ mix s k n → (to ≡ below (turn_of m s k n) depth (e - 1)) × (to < 3072) → Reaching (depth + 1) to
-    reaching_on z m to q r =
-        let p : place_in (get_or xs slot 0) 1024 ≡ suc (e - 1) = sym eq.0 ∙ (omega arith) in
+    pub reaching_on : {i : ℕ} → o ≡ Some i → {to : ℕ} → (to ≡ below (turn s k n) depth i) × (to < 3072) → Reaching (depth + 1) to
+    unfolding held_in
+    reaching_on {i} z {to} r =
         let g : 1024 - depth ≡ suc (1024 - (depth + 1)) = omega arith in
-        let u : below (turn s k n) depth (e - 1) ≡ to = rw (← q) (sym r.0) in
         record {
-          few = omega arith;
           inside = r.1;
           same =
               w.same
               ∙ ap (λ (x : ℕ). reach xs (turn s k n) x depth slot) g
-              ∙ reach-turn xs (turn s k n) (1024 - (depth + 1)) depth slot (e - 1) p
-              ∙ ap (λ (x : ℕ). reach xs (turn s k n) (1024 - (depth + 1)) (suc depth) x) u
+              ∙ reach-turn xs (turn s k n) (1024 - (depth + 1)) depth slot i (entry-some _ i (sym q ∙ z))
+              ∙ ap (λ (x : ℕ). reach xs (turn s k n) (1024 - (depth + 1)) (suc depth) x) (sym r.0)
               ∙ ap (λ (x : ℕ). reach xs (turn s k n) (1024 - (depth + 1)) x to) (sym (add-one depth));
         }
 
-  pub reaching_end : (depth slot : ℕ) → Reaching depth slot → 1024 ≤ depth → (slot ≡ free_slot xs s k n) × (slot < 3072)
+  pub reaching_end : {depth slot : ℕ} → Reaching depth slot → 1024 ≤ depth → (slot ≡ free_slot xs s k n) × (slot < 3072)
   unfolding reach
-  reaching_end depth slot w h = let z : 1024 - depth ≡ 0 = omega arith in (sym (w.same ∙ rw z), w.inside)
-
--- the words
-module _ (s k : ℕ) (n : Name) (i : ℕ) where
-  pub word_0 : i ≡ 0 → n.w0 ≡ word_at s k n i
-  unfolding word_at
-  word_0 a = rw (eq-eqb i 0 a)
-
-  pub word_1 : (i ≡ 0 → ⊥) → i ≡ 1 → n.w1 ≡ word_at s k n i
-  unfolding word_at
-  word_1 a b = rw (ne_eqb i 0 a, eq-eqb i 1 b)
-
-  pub word_2 : (i ≡ 0 → ⊥) → (i ≡ 1 → ⊥) → i ≡ 2 → n.w2 ≡ word_at s k n i
-  unfolding word_at
-  word_2 a b c = rw (ne_eqb i 0 a, ne_eqb i 1 b, eq-eqb i 2 c)
-
-  pub word_3 : (i ≡ 0 → ⊥) → (i ≡ 1 → ⊥) → (i ≡ 2 → ⊥) → i ≡ 3 → n.w3 ≡ word_at s k n i
-  unfolding word_at
-  word_3 a b c d = rw (ne_eqb i 0 a, ne_eqb i 1 b, ne_eqb i 2 c, eq-eqb i 3 d)
-
-  pub word_4 : (i ≡ 0 → ⊥) → (i ≡ 1 → ⊥) → (i ≡ 2 → ⊥) → (i ≡ 3 → ⊥) → s + k * 65536 ≡ word_at s k n i
-  unfolding word_at
-  word_4 a b c d = rw (ne_eqb i 0 a, ne_eqb i 1 b, ne_eqb i 2 c, ne_eqb i 3 d)
+  reaching_end {depth} w h = let z : 1024 - depth ≡ 0 = omega arith in (sym (w.same ∙ rw z), w.inside)
 
 -- the bits
-module _ (m s k : ℕ) (n : Name) (d : ℕ) where
-  pub turn-mix : d < 26 → (m / 2 ^ (d + 10) % 2 ≡ turn_of m s k n d) × (m / 2 ^ (d + 10) % 2 < 2)
+module _ (s k : ℕ) (n : Name) (d : ℕ) where
+  pub turn-mix : {m : ℕ} → m ≡ mix s k n → d < 26 → m / 2 ^ (d + 10) % 2 ≡ turn s k n d
   unfolding turn_of
-  turn-mix h = (rw (lt-ltb d 26 h), omega arith)
+  turn-mix q h = rw (q, lt-ltb d 26 h)
 
-  pub turn_again : 26 ≤ d → d < 62 → (x : ℕ) → x ≡ mix_again s k n → (x / 2 ^ (d - 26) % 2 ≡ turn_of m s k n d) × (x / 2 ^ (d - 26) % 2 < 2)
+  pub turn_again : 26 ≤ d → d < 62 → {x : ℕ} → x ≡ mix_again s k n → x / 2 ^ (d - 26) % 2 ≡ turn s k n d
   unfolding turn_of
-  turn_again h l x e = (rw (le-ltb d 26 h, lt-ltb d 62 l, e), omega arith)
+  turn_again h l e = rw (le-ltb d 26 h, lt-ltb d 62 l, e)
 
-  pub turn-word : 62 ≤ d → (x : ℕ) → x ≡ word_at s k n ((d - 62) / 64) → (x / 2 ^ ((d - 62) % 64) % 2 ≡ turn_of m s k n d) × (x / 2 ^ ((d - 62) % 64) % 2 < 2)
+  pub turn-word : 62 ≤ d → {x : ℕ} → x ≡ word_at s k n ((d - 62) / 64) → x / 2 ^ ((d - 62) % 64) % 2 ≡ turn s k n d
   unfolding turn_of
-  turn-word h x e = (rw (le-ltb d 26 (omega arith), le-ltb d 62 h, e), omega arith)
-
-pub below-slot : (f : ℕ → ℕ) (d i : ℕ) → i < 1024 → (b : ℕ) → (b ≡ f d) × (b < 2) → (1024 + 2 * i + b ≡ below f d i) × (1024 + 2 * i + b < 3072)
-unfolding below
-below-slot f d i h b w = (ap (λ (x : ℕ). 1024 + 2 * i + x) w.0, omega (arith, w.1))
+  turn-word h e = rw (le-ltb d 26 (omega arith), le-ltb d 62 h, e)
 
 -- the slot is one of the index, whatever it holds
 reach-below : (xs : List ℕ) (f : ℕ → ℕ) → ((d : ℕ) → f d < 2) → (m d σ : ℕ) → σ < 3072 → reach xs f m d σ < 3072
@@ -366,17 +368,17 @@ walked_agree xs start start' way way' n p r w =
     record { small = w.small; fresh = w.fresh; ends = w.ends; finds = λ b f h l q k. w.finds b f h l q (λ i y z. (sym (p i y) ∙ (k i y z).0, sym (r i y) ∙ (k i y z).1)) }
 
 -- the first of one more
-abbrev or_else : Spot → Spot → Spot
-or_else Nothing s = s
-or_else (At i) s = At i
+abbrev or_else : Option ℕ → Option ℕ → Option ℕ
+or_else None s = s
+or_else (Some i) s = Some i
 
-first_more : (q : ℕ → Bool) (i n : ℕ) → first_from q i (suc n) ≡ or_else (first_from q i n) (cond (q (i + n)) (At (i + n)) Nothing)
+first_more : (q : ℕ → Bool) (i n : ℕ) → first_from q i (suc n) ≡ or_else (first_from q i n) (cond (q (i + n)) (Some (i + n)) None)
 unfolding first_from
 first_more q i zero = let z : i + 0 ≡ i = omega arith in rw z
 first_more q i (suc n) = go (q i) (first_more q (suc i) n)
   where
-    go : (b : Bool) → first_from q (suc i) (suc n) ≡ or_else (first_from q (suc i) n) (cond (q (suc i + n)) (At (suc i + n)) Nothing)
-        → cond b (At i) (first_from q (suc i) (suc n)) ≡ or_else (cond b (At i) (first_from q (suc i) n)) (cond (q (i + suc n)) (At (i + suc n)) Nothing)
+    go : (b : Bool) → first_from q (suc i) (suc n) ≡ or_else (first_from q (suc i) n) (cond (q (suc i + n)) (Some (suc i + n)) None)
+        → cond b (Some i) (first_from q (suc i) (suc n)) ≡ or_else (cond b (Some i) (first_from q (suc i) n)) (cond (q (i + suc n)) (Some (i + suc n)) None)
     go true ih = refl
     go false ih = let z : i + suc n ≡ suc i + n = omega arith in rw z ih
 
@@ -404,8 +406,8 @@ module _ (xs : List ℕ) (n E : ℕ) (small : (σ : ℕ) → get_or xs σ 0 ≤ 
     there : (p i : ℕ) → p ≡ suc i → i ≤ n → place_in p 1024 ≡ suc i
     there p i e h = rw e (sym (place-within (suc i) 1024 (omega arith)).0)
 
-    abbrev new : ℕ → Spot
-    new σ = cond (eqb σ E) (cond (q n) (At n) Nothing) Nothing
+    abbrev new : ℕ → Option ℕ
+    new σ = cond (eqb σ E) (cond (q n) (Some n) None) None
 
     record After (m d σ : ℕ) : Type 0 where
       found : seek q after f (suc m) d σ ≡ or_else (seek q xs f m d σ) (new (reach xs f m d σ))
@@ -415,7 +417,7 @@ module _ (xs : List ℕ) (n E : ℕ) (small : (σ : ℕ) → get_or xs σ 0 ≤ 
     at-empty : (m d σ : ℕ) → get_or xs σ 0 ≡ 0 → After m d σ
     at-empty m d σ e = go (eqb σ E) refl
       where
-        s0 : seek q xs f m d σ ≡ Nothing
+        s0 : seek q xs f m d σ ≡ None
         s0 = seek-none xs f m d σ q (gone _ e)
 
         r0 : reach xs f m d σ ≡ σ
@@ -450,7 +452,7 @@ module _ (xs : List ℕ) (n E : ℕ) (small : (σ : ℕ) → get_or xs σ 0 ≤ 
           ended = rw (reach-turn after f (suc m) d σ i r) w.ended;
         }
       where
-        go : (b : Bool) → cond b (At i) (seek q after f (suc m) (suc d) (below f d i)) ≡ or_else (cond b (At i) (seek q xs f m (suc d) (below f d i))) (new (reach xs f m (suc d) (below f d i)))
+        go : (b : Bool) → cond b (Some i) (seek q after f (suc m) (suc d) (below f d i)) ≡ or_else (cond b (Some i) (seek q xs f m (suc d) (below f d i))) (new (reach xs f m (suc d) (below f d i)))
         go true = refl
         go false = w.found
 
@@ -538,16 +540,16 @@ walked_more xs start way n long l sb wb w =
     finds' b f h k q same =
         (after-all xs n E w.small w.fresh empty old l long f k q n 0 b (w.ends b f h k)).found
         ∙ (λ j. or_else (w.finds b f h k q (λ i y z. same i (omega arith) z) j) (new (q n) refl j))
-        ∙ sym (first_more q 0 n ∙ ap (λ (x : ℕ). or_else (first_from q 0 n) (cond (q x) (At x) Nothing)) (zero-add n))
+        ∙ sym (first_more q 0 n ∙ ap (λ (x : ℕ). or_else (first_from q 0 n) (cond (q x) (Some x) None)) (zero-add n))
       where
-        new : (u : Bool) → q n ≡ u → cond (eqb (reach xs f n 0 b) E) (cond (q n) (At n) Nothing) Nothing ≡ cond (q n) (At n) Nothing
+        new : (u : Bool) → q n ≡ u → cond (eqb (reach xs f n 0 b) E) (cond (q n) (Some n) None) None ≡ cond (q n) (Some n) None
         new true e =
             let s = same n (omega arith) e in
             let z : reach xs f n 0 b ≡ E = sym (soon f b h k) ∙ (λ j. reach xs (sym s.1 j) 1024 0 (sym s.0 j)) in
             rw (eq-eqb (reach xs f n 0 b) E z)
         new false e = rw e (none (eqb (reach xs f n 0 b) E))
           where
-            none : (v : Bool) → cond {A = Spot} v Nothing Nothing ≡ Nothing
+            none : (v : Bool) → cond {A = Option ℕ} v None None ≡ None
             none true = refl
             none false = refl
 
@@ -570,7 +572,7 @@ module _ (p : ℕ → Bool) (s t : ℕ) where
   ranged-inside zero i h l = sym (first-end p i t (omega arith))
   ranged-inside (suc m) i h l = go (dec_lt i t) (ranged-inside m (suc i) (omega arith) (omega arith))
     where
-      go : Dec (i < t) → first_from ranged (suc i) m ≡ first_in p (suc i) t → cond (ranged i) (At i) (first_from ranged (suc i) m) ≡ first_in p i t
+      go : Dec (i < t) → first_from ranged (suc i) m ≡ first_in p (suc i) t → cond (ranged i) (Some i) (first_from ranged (suc i) m) ≡ first_in p i t
       go (yes y) ih = let e : t - i ≡ suc (t - suc i) = omega arith in rw (inner i h y, e, ih)
       go (no y) ih = rw (late i (omega arith)) (ih ∙ first-end p (suc i) t (omega arith) ∙ sym (first-end p i t (omega arith)))
 
@@ -624,3 +626,8 @@ spot_first {xs} {ss} {ks} {a} {b} {c} {d} {total} w h s t k n l =
     right : (u v : Bool) → u && v ≡ true → v ≡ true
     right true v y = y
     right false v y = let o : ◌≡◌ {A = ℕ} 0 1 = cc in absurd (omega arith)
+
+-- the loops' laws, for the tactics
+pub ruleset seeking_steps = (seeking_start, seeking_none, seeking_found, seeking_on, seeking_end)
+
+pub ruleset reaching_steps = (reaching_start, reaching_free, reaching_on, reaching_end)

@@ -4,7 +4,11 @@ pub mod Register
 pub mod Note
 pub mod Flat
 pub mod Form
+pub mod Told
+pub mod Kinds
+pub mod Entries
 pub mod Trees
+pub mod Looks
 -- THEOREMS to cite: the register and the list of entries are one; what bounds a walk through the index
 pub mod Same
 pub mod Routes
@@ -20,5 +24,3 @@ pub mod Nav
 pub mod Staging
 pub mod Views
 pub mod Pack
-pub mod Batches
-pub mod BatchLaws

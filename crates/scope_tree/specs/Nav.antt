@@ -1,5 +1,5 @@
 -- The walk along a path, turn by turn, as the code makes it. Assumes nothing.
-use Rattle.std.specs.Prelude.{ℕ, zero, suc, pred, ◌+◌, ◌*◌, ◌-◌, ◌≤◌, ◌<◌, Bool, cond, ◌&&◌, ◌⊎◌, List, [], ◌∷◌, ltb, leb, get_or, length, drop}
+use Rattle.std.specs.Prelude.{ℕ, zero, suc, pred, ◌+◌, ◌*◌, ◌-◌, ◌≤◌, ◌<◌, Bool, cond, ◌&&◌, ◌⊎◌, List, [], ◌∷◌, ltb, leb, get_or, length, drop, Option, Some, None, Result, Ok, Err}
 use native.Mathlib.Omega.{arith}
 use Rattle.std.proofs.Math.Decide.{dec_lt}
 use Rattle.std.proofs.Common.{zero-add, add-one, ap, subst, ◌∙◌, drop_of_length-le, drop-cons}
@@ -7,11 +7,13 @@ use Rattle.std.proofs.Math.Path.{◌≡◌, refl, sym}
 use Rattle.std.proofs.Math.Bool.{true, false, not}
 use Rattle.std.proofs.Math.Logic.{inl, inr}
 use Rattle.std.proofs.Math.Dec.{eqb}
-use borrow.Author.Tests.{eq-eqb, ne_eqb, lt-ltb, le-ltb, le-leb, lt-leb, eqb-true}
+use borrow.Author.Tests.{eq-eqb, ne_eqb, lt-ltb, le-ltb, le-leb, lt-leb}
 use Rattle.names.specs.declared.Name.{Name}
 use Rattle.names.specs.Packed.{packed, same_name}
-use Rattle.scope_tree.specs.declared.look.Spot.{Spot}
-use Rattle.scope_tree.specs.declared.look.Spot.TheVariants.{At, Nothing}
+use Rattle.refusal.specs.declared.Cause.{Cause}
+use Rattle.refusal.specs.declared.Cause.TheVariants.{NoModule, PrivateModule}
+use Rattle.refusal.specs.Numbers.{number_of}
+use Rattle.scope_tree.specs.declared.look.Place.{Place as Site}
 use Rattle.scope_tree.specs.declared.look.Way.{Way}
 use Rattle.scope_tree.specs.Step.{Tried, done, fail, shared, pass, nav}
 use Rattle.scope_tree.specs.Flat.{Entry, none, Place, inside, flat, top, stack_names}
@@ -54,11 +56,12 @@ leads_on a b c d stack depth led i n =
     led && (ltb i depth && (ltb 0 (get_or stack i 0) && (leb (get_or stack i 0) 1024 && same_name (name_at a b c d (get_or stack i 0 - 1)) n)))
 
 -- the code's way in the flat tree
-abbrev pub way : (ℕ → Entry) → Way → Tried Place
-way f w = cond (eqb w.number 0) (done (placed f w.scope w.time)) (fail w.number)
+abbrev pub way : (ℕ → Entry) → Result Way Cause → Tried Place
+way f (Ok w) = done (placed f w.to.scope w.to.time)
+way f (Err c) = fail (number_of c)
 
-abbrev pub wayed : ℕ → ℕ → ℕ → ℕ → Way
-wayed n s t p = record { number = n; scope = s; time = t; next = p }
+abbrev pub way_to : ℕ → ℕ → ℕ → Way
+way_to s t p = record { to = record { scope = s; time = t }; next = p }
 
 module _ (A : Arrays) (total : ℕ) (stack : List ℕ) (depth : ℕ) (s : List ℕ) (at n : ℕ) where
   abbrev pub open_names : List Name
@@ -87,7 +90,7 @@ module _ (A : Arrays) (total : ℕ) (stack : List ℕ) (depth : ℕ) (s : List �
     turn : i < n → n - i ≡ suc (n - (i + 1))
     turn h = omega arith
 
-    found : (k : ℕ) (x : Name) {r : Spot} → r ≡ first_in (looked A.scopes A.kinds A.n0 A.n1 A.n2 A.n3 scope k x) scope time
+    found : (k : ℕ) (x : Name) {r : Option ℕ} → r ≡ first_in (looked A.scopes A.kinds A.n0 A.n1 A.n2 A.n3 scope k x) scope time
         → flat.find (placed (row_at A) scope time) k x ≡ spotted (row_at A) time r
     found k x q = find_spot (row_at A) time scope k x ∙ ap (spotted (row_at A) time) (sym q)
 
@@ -96,12 +99,12 @@ module _ (A : Arrays) (total : ℕ) (stack : List ℕ) (depth : ℕ) (s : List �
     unfolding nav names_from
     segment h = w.same ∙ rw (turn h)
 
-    pub no_module : i < n → (r : Spot) → r ≡ first_in (looked A.scopes A.kinds A.n0 A.n1 A.n2 A.n3 scope 3 (packed (string s p))) scope time → r ≡ Nothing
-        → way (row_at A) (wayed 41 0 0 0) ≡ walked
+    pub no_module : i < n → (r : Option ℕ) → r ≡ first_in (looked A.scopes A.kinds A.n0 A.n1 A.n2 A.n3 scope 3 (packed (string s p))) scope time → r ≡ None
+        → way (row_at A) (Err NoModule) ≡ walked
     no_module h r q z = sym (segment h ∙ rw (found 3 (packed (string s p)) q, z))
 
-    module _ (h : i < n) (e : ℕ) (q : At e ≡ first_in (looked A.scopes A.kinds A.n0 A.n1 A.n2 A.n3 scope 3 (packed (string s p))) scope time) where
-      pub private_module : (get_or A.visible e 0 ≡ 1 → ⊥) → led ≡ false → way (row_at A) (wayed 42 0 0 0) ≡ walked
+    module _ (h : i < n) (e : ℕ) (q : Some e ≡ first_in (looked A.scopes A.kinds A.n0 A.n1 A.n2 A.n3 scope 3 (packed (string s p))) scope time) where
+      pub private_module : (get_or A.visible e 0 ≡ 1 → ⊥) → led ≡ false → way (row_at A) (Err PrivateModule) ≡ walked
       private_module v l =
           sym (segment h ∙ rw (found 3 (packed (string s p)) q, ne_eqb (get_or A.visible e 0) 1 v, lt-ltb (shared open_names (names_from s n at)) i (w.behind l)))
 
@@ -178,25 +181,29 @@ module _ (A : Arrays) (total : ℕ) (stack : List ℕ) (depth : ℕ) (s : List �
             behind = λ z. omega (arith, y.1 z);
           }
 
-    pub way_end : n ≤ i → (q : ℕ) → way (row_at A) (wayed 0 scope time q) ≡ walked
+    pub way_end : n ≤ i → (q : ℕ) → way (row_at A) (Ok (way_to scope time q)) ≡ walked
     unfolding nav names_from
     way_end h q = let e : n - i ≡ 0 = omega arith in sym (w.same ∙ rw e)
-
--- a private module off the open path
-unfoldable pub barred : ℕ → Bool → Bool
-barred v led = not (eqb v 1) && not led
 
 -- AS THE CODE HAS IT: the arrays but for the marks, which a walk does not read
 module _ (ks vs ss n0 n1 n2 n3 os ts us xs : List ℕ) (total : ℕ) (stack : List ℕ) (depth : ℕ) (s : List ℕ) (at n : ℕ) where
   abbrev with_marks : List ℕ → Arrays
   with_marks m = arrays ks vs ss m n0 n1 n2 n3 os ts us xs
 
-  -- where the path leads: the definition's place or number, whatever the marks
-  pub record Arrived (r : Way) : Type 0 where
+  -- the definition's place or number, whatever the marks
+  pub record Same_way (r : Result Way Cause) : Type 0 where
     pub same : total ≤ 1024 → Indexed xs ss ks n0 n1 n2 n3 total → Doors stack depth total → (m : List ℕ) → way (row_at (with_marks m)) r ≡ walked (with_marks m) total stack depth s at n
-    pub time : r.time ≤ total
-    pub next : r.number ≡ 0 → r.next ≡ after_strings s n at
-    pub below : r.next ≤ at + 256 * n
+
+  pub record Reached (w : Way) : Type 0 where
+    pub way : Same_way (Ok w)
+    pub time : w.to.time ≤ total
+    pub next : w.next ≡ after_strings s n at
+    pub below : w.next ≤ at + 256 * n
+
+  -- where the path leads
+  abbrev pub Arrived : Result Way Cause → Type 0
+  Arrived (Ok w) = Reached w
+  Arrived (Err c) = Same_way (Err c)
 
   pub record Walking (i p scope time : ℕ) (led : Bool) : Type 0 where
     pub within : i ≤ n
@@ -216,69 +223,39 @@ module _ (ks vs ss n0 n1 n2 n3 os ts us xs : List ℕ) (total : ℕ) (stack : Li
         same = λ c ix d m. way-start (with_marks m) total stack depth s at n;
       }
 
-  module _ (i p scope time : ℕ) (led : Bool) (w : Walking i p scope time led) (h : i < n) (x : Name) (q : x ≡ packed (string s p)) where
-    number-first : {k : ℕ} → 0 < k → {y : Type 0} → k ≡ 0 → y
-    number-first l z = absurd (omega arith)
+  module _ {i p scope time : ℕ} {led : Bool} (w : Walking i p scope time led) (h : i < n) {x : Name} (q : x ≡ packed (string s p)) where
+    pub walking_missing : {r : Option ℕ} → r ≡ spot_in xs ss ks n0 n1 n2 n3 scope time 3 x → r ≡ None → Arrived (Err NoModule)
+    walking_missing {r} f z =
+        record { same = λ c ix d m. no_module (with_marks m) total stack depth s at n (w.same c ix d m) h r (f ∙ rw q (spot_first ix c scope time 3 (packed (string s p)) w.early)) z }
 
-    pub walking_missing : (r : Spot) → r ≡ spot_in xs ss ks n0 n1 n2 n3 scope time 3 x → r ≡ Nothing → Arrived (wayed 41 0 0 0)
-    walking_missing r f z =
-        record {
-          same = λ c ix d m. no_module (with_marks m) total stack depth s at n (w.same c ix d m) h r (f ∙ rw q (spot_first ix c scope time 3 (packed (string s p)) w.early)) z;
-          time = omega arith;
-          next = λ k. number-first (omega arith) k;
-          below = omega arith;
-        }
-
-    module _ (e : ℕ) (f : At e ≡ spot_in xs ss ks n0 n1 n2 n3 scope time 3 x) where
-      f' : total ≤ 1024 → Indexed xs ss ks n0 n1 n2 n3 total → At e ≡ first_in (looked ss ks n0 n1 n2 n3 scope 3 (packed (string s p))) scope time
+    module _ {e : ℕ} (f : Some e ≡ spot_in xs ss ks n0 n1 n2 n3 scope time 3 x) where
+      f' : total ≤ 1024 → Indexed xs ss ks n0 n1 n2 n3 total → Some e ≡ first_in (looked ss ks n0 n1 n2 n3 scope 3 (packed (string s p))) scope time
       f' c ix = f ∙ rw q (spot_first ix c scope time 3 (packed (string s p)) w.early)
 
-      pub walking_private : (b : Bool) → b ≡ barred (get_or vs e 0) led → b ≡ true → Arrived (wayed 42 0 0 0)
-      unfolding barred
-      walking_private b u z =
-          record {
-            same = λ c ix d m. go (sym u ∙ z) c ix d m;
-            time = omega arith;
-            next = λ k. number-first (omega arith) k;
-            below = omega arith;
-          }
-        where
-          both : (c d : Bool) → not c && not d ≡ true → (c ≡ false) × (d ≡ false)
-          both true d y = let o : ◌≡◌ {A = ℕ} 0 1 = cc in absurd (omega arith)
-          both false true y = let o : ◌≡◌ {A = ℕ} 0 1 = cc in absurd (omega arith)
-          both false false y = (refl, refl)
+      pub walking_private : (get_or vs e 0 ≡ 1 → ⊥) → led ≡ false → Arrived (Err PrivateModule)
+      walking_private v z =
+          record { same = λ c ix d m. private_module (with_marks m) total stack depth s at n (w.same c ix d m) h e (f' c ix) v z }
 
-          go : not (eqb (get_or vs e 0) 1) && not led ≡ true → total ≤ 1024 → Indexed xs ss ks n0 n1 n2 n3 total → Doors stack depth total → (m : List ℕ) → way (row_at (with_marks m)) (wayed 42 0 0 0) ≡ walked (with_marks m) total stack depth s at n
-          go y t ix d m =
-              let c = both (eqb (get_or vs e 0) 1) led y in
-              private_module (with_marks m) total stack depth s at n (w.same t ix d m) h e (f' t ix) (borrow.Author.Tests.eqb-false (get_or vs e 0) 1 c.0) c.1
-
-      pub walking_turn : total ≤ 1024 → (b : Bool) → b ≡ barred (get_or vs e 0) led → b ≡ false
-          → (g : Rattle.scope_tree.specs.declared.look.Place.Place) → g ≡ site e (get_or ks e 0) (get_or os e 0) (get_or ts e 0) (get_or us e 0) time
-          → (on : Bool) → on ≡ leads_on n0 n1 n2 n3 stack depth led i x → (p' : ℕ) → (p' ≡ after_string s p) × (p' ≤ p + 256)
+      pub walking_turn : total ≤ 1024 → (get_or vs e 0 ≡ 1) ⊎ (led ≡ true)
+          → {g : Site} → g ≡ site e (get_or ks e 0) (get_or os e 0) (get_or ts e 0) (get_or us e 0) time
+          → {on : Bool} → on ≡ leads_on n0 n1 n2 n3 stack depth led i x → {p' : ℕ} → (p' ≡ after_string s p) × (p' ≤ p + 256)
           → Walking (i + 1) p' g.scope g.time on
-      unfolding barred
-      walking_turn t b u z g v on l p' y =
+      walking_turn t u v {on} l {p'} y =
           rw v
           (record {
             within = omega arith;
             below = omega (arith, w.below, y.1);
             early = omega (arith, w.early, site-time e (get_or ks e 0) (get_or os e 0) (get_or ts e 0) (get_or us e 0) time);
             after = rw y.0 (w.after ∙ strings_more s p i n h);
-            same = λ c ix d m. rw y.0 (way-turn (with_marks m) total stack depth s at n (w.same c ix d m) h e (f' c ix) d t (either (eqb (get_or vs e 0) 1) led refl refl (sym u ∙ z)) on (rw (← q) l));
+            same = λ c ix d m. rw y.0 (way-turn (with_marks m) total stack depth s at n (w.same c ix d m) h e (f' c ix) d t u on (rw (← q) l));
           })
-        where
-          either : (c k : Bool) → eqb (get_or vs e 0) 1 ≡ c → led ≡ k → not c && not k ≡ false → (get_or vs e 0 ≡ 1) ⊎ (led ≡ true)
-          either true k a o j = inl (eqb-true (get_or vs e 0) 1 a)
-          either false true a o j = inr o
-          either false false a o j = let k : ◌≡◌ {A = ℕ} 0 1 = cc in absurd (omega arith)
 
-  pub walking_end : (i p scope time : ℕ) (led : Bool) → Walking i p scope time led → n ≤ i → Arrived (wayed 0 scope time p)
-  walking_end i p scope time led w h =
+  pub walking_end : {i p scope time : ℕ} {led : Bool} → Walking i p scope time led → n ≤ i → Arrived (Ok (way_to scope time p))
+  walking_end {i} {p} w h =
       record {
-        same = λ c ix d m. way_end (with_marks m) total stack depth s at n (w.same c ix d m) h p;
+        way = record { same = λ c ix d m. way_end (with_marks m) total stack depth s at n (w.same c ix d m) h p };
         time = w.early;
-        next = λ k. sym (w.after ∙ strings_none s p i n h);
+        next = sym (w.after ∙ strings_none s p i n h);
         below = omega (arith, w.below, w.within);
       }
 

@@ -4,21 +4,14 @@ use Rattle.std.proofs.Common.{arith, zero-add, not-suc-le-zero, le_of_suc-le-suc
 use Rattle.std.proofs.Math.Nat.{suc-sub-suc, sub-zero}
 use Rattle.std.proofs.lemmas.List.{drop-set-add, take-set-le}
 use Rattle.std.proofs.Math.Seq.{take-set-lt}
-use Rattle.names.specs.declared.Name.{Name}
-use Rattle.names.specs.Packed.{same_name}
 use Rattle.scope_tree.specs.Views.{View, pushed_under, pushed, opened_last}
 use Rattle.scope_tree.specs.Views.{Sized as ViewSized}
 use Rattle.scope_tree.specs.Views as views
-use Rattle.scope_tree.specs.Index.{free_slot, place_in, spot_in}
+use Rattle.scope_tree.specs.Index.{free_slot}
 use Rattle.scope_tree.specs.Nav.{current_of}
-use Rattle.scope_tree.specs.Staging.{is_at}
-use Rattle.scope_tree.specs.declared.look.Spot.{Spot}
-use Rattle.scope_tree.specs.Rows.{is_row, Arrays, site}
-use Rattle.scope_tree.specs.declared.look.Place.{Place as Site}
-use Rattle.scope_tree.specs.Batches.{slot}
 use Rattle.scope_tree.specs.Trees.{part, index_of, doors_of, view, cleared, Sized}
 use Rattle.scope_tree.specs.declared.Tree.{Tree}
-use Rattle.scope_tree.specs.declared.Entry.{Entry}
+use Rattle.scope_tree.specs.Entries.{Entry}
 
 -- A WINDOW of an array, w numbers from the place p on
 module _ (w p : ℕ) (xs : List ℕ) where
@@ -111,27 +104,6 @@ pub clear-get : (n i : ℕ) → get_or (replicate n zero) i 0 ≡ 0
 clear-get zero i = refl
 clear-get (suc n) zero = refl
 clear-get (suc n) (suc i) = clear-get n i
-
--- a part of what is staged
-pub slot-get : (p : ℕ) (xs : List ℕ) (i : ℕ) → i < 96 → get_or (slot p xs) i 0 ≡ get_or xs (p + i) 0
-unfolding slot
-slot-get = window_get 96
-
-pub slot_same : (p : ℕ) (xs : List ℕ) (i v : ℕ) → i < 96 → slot p (set xs (p + i) v) ≡ set (slot p xs) i v
-unfolding slot
-slot_same = window_same 96
-
-pub slot-before : (p : ℕ) (xs : List ℕ) (j v : ℕ) → j < p → slot p (set xs j v) ≡ slot p xs
-unfolding slot
-slot-before = window_before 96
-
-pub slot-after : (p : ℕ) (xs : List ℕ) (j v : ℕ) → p + 96 ≤ j → slot p (set xs j v) ≡ slot p xs
-unfolding slot
-slot-after = window_after 96
-
-pub slot-clear : (p n : ℕ) → p + 96 ≤ n → slot p (replicate n zero) ≡ replicate 96 zero
-unfolding slot
-slot-clear = window_clear 96
 
 -- THE PUSH
 abbrev pub cells_of : List ℕ → ℕ → ℕ → ℕ → ℕ → ℕ → ℕ → List ℕ
@@ -313,37 +285,14 @@ cleared-view =
     let x = index-clear in
     λ i. record { count = 0; kinds = k i; visible = replicate 1024 0; scopes = replicate 1024 0; marks = replicate 1024 0; n0 = replicate 1024 0; n1 = replicate 1024 0; n2 = replicate 1024 0; n3 = replicate 1024 0; origins = o i; targets = t i; times = u i; index = x i; depth = 0; stack = replicate 9 0 }
 
--- what was read by way of a cell
-pub via_place : {x y e l : ℕ} → x ≡ y → (e ≡ place_in x l) × (e ≤ l) → (e ≡ place_in y l) × (e ≤ l)
-via_place {x} {y} {e} {l} q p = (p.0 ∙ ap (λ (z : ℕ). place_in z l) q, p.1)
-
-pub via_row : (r s k : ℕ) (n : Name) {x y : ℕ} {l m : Name} {f : Bool} → x ≡ y → l ≡ m → f ≡ is_row r x l s k n → f ≡ is_row r y m s k n
-via_row r s k n q e p = p ∙ (λ j. is_row r (q j) (e j) s k n)
-
-pub via_name : (n : Name) {l m : Name} {f : Bool} → l ≡ m → f ≡ same_name l n → f ≡ same_name m n
-via_name n e p = p ∙ (λ j. same_name (e j) n)
-
-pub via_held : (xs ss ks a b c d : List ℕ) (s k : ℕ) (n : Name) {t u : ℕ} {o : Bool} → t ≡ u → o ≡ is_at (spot_in xs ss ks a b c d s t k n) → o ≡ is_at (spot_in xs ss ks a b c d s u k n)
-via_held xs ss ks a b c d s k n q p = p ∙ ap (λ (x : ℕ). is_at (spot_in xs ss ks a b c d s x k n)) q
-
-pub via_spot : (xs ss ks a b c d : List ℕ) (s k : ℕ) (n : Name) {t u : ℕ} {o : Spot} → t ≡ u → o ≡ spot_in xs ss ks a b c d s t k n → o ≡ spot_in xs ss ks a b c d s u k n
-via_spot xs ss ks a b c d s k n q p = p ∙ ap (λ (x : ℕ). spot_in xs ss ks a b c d s x k n) q
-
-pub via_current : (a : List ℕ) {d e h : ℕ} → d ≡ e → h ≡ current_of a d → h ≡ current_of a e
-via_current a q p = p ∙ ap (λ (x : ℕ). current_of a x) q
-
+-- the open modules' scopes as the code reads them
 pub stack-current : (o : List ℕ) (d : ℕ) → (d ≡ 0 → ⊥) → d ≤ 9 → get_or o (d - 1) 0 ≡ current_of (doors_of o) d
 unfolding current_of doors_of
 stack-current o d z h = rw (borrow.Author.Tests.ne_eqb d 0 z) (sym (get_or-take 9 o (d - 1) 0 (omega arith)))
 
-pub door_get : (o : List ℕ) (i s : ℕ) → s ≡ get_or o i 0 → i < 9 → s ≡ get_or (doors_of o) i 0
+pub door_get : (o : List ℕ) (i : ℕ) → i < 9 → get_or (doors_of o) i 0 ≡ get_or o i 0
 unfolding doors_of
-door_get o i s q h = q ∙ sym (get_or-take 9 o i 0 h)
+door_get o i h = get_or-take 9 o i 0 h
 
-pub via_site : (i t : ℕ) {k o a u k' o' a' u' : ℕ} {g : Site} → k ≡ k' → o ≡ o' → a ≡ a' → u ≡ u' → g ≡ site i k o a u t → g ≡ site i k' o' a' u' t
-via_site i t p q r s e = e ∙ (λ j. site i (p j) (q j) (r j) (s j) t)
-
--- the arrays of the view, from the lists
-abbrev pub arrays_in : List ℕ → List ℕ → List ℕ → List ℕ → List ℕ → List ℕ → List ℕ → List ℕ → Arrays
-arrays_in c v s m a b d e =
-    record { kinds = part 0 c; visible = v; scopes = s; marks = m; n0 = a; n1 = b; n2 = d; n3 = e; origins = part 1024 c; targets = part 2048 c; times = part 3072 c; index = index_of c }
+-- what is read of an array's part, for the tactics
+pub ruleset parts = (part-get, part-past, index-get, stack-current, door_get)

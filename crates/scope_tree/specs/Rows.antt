@@ -1,13 +1,11 @@
 -- What the arrays of a tree mean: rows, lookups among the first rows, and what is inside a row. Assumes nothing.
-use Rattle.std.specs.Prelude.{ℕ, zero, suc, ◌+◌, ◌-◌, ◌≤◌, ◌<◌, ◌≡◌, refl, Bool, true, false, cond, ◌&&◌, List, [], ◌∷◌, ◌++◌, eqb, ltb, length, take, drop, get_or}
+use Rattle.std.specs.Prelude.{ℕ, zero, suc, ◌+◌, ◌-◌, ◌≤◌, ◌<◌, ◌≡◌, refl, Bool, true, false, cond, ◌&&◌, List, [], ◌∷◌, ◌++◌, eqb, ltb, length, take, drop, get_or, Option, Some, None}
 use Rattle.std.proofs.Common.{add-zero, add-suc, not-suc-le-zero, add-one, arith, ap, sym, ◌∙◌, append_assoc, append-nil, length-append, drop_of_length-le, drop-cons, take_at, take_all}
 use Rattle.std.proofs.Math.Decide.{dec_lt}
 use Rattle.std.proofs.Math.ListN.{get_or-append}
 use Rattle.std.proofs.lemmas.List.{get_or_at}
 use Rattle.names.specs.declared.Name.{Name}
 use Rattle.names.specs.Packed.{same_name}
-use Rattle.scope_tree.specs.declared.look.Spot.{Spot}
-use Rattle.scope_tree.specs.declared.look.Spot.TheVariants.{At, Nothing}
 use Rattle.scope_tree.specs.declared.look.Place.{Place as Site}
 use Rattle.scope_tree.specs.Step.{Came, declared, used, head, Found, missing, got}
 use Rattle.scope_tree.specs.Register.{is}
@@ -101,19 +99,19 @@ unfoldable pub is_row : ℕ → ℕ → Name → ℕ → ℕ → Name → Bool
 is_row es ek en s k n = eqb es s && (eqb ek k && same_name en n)
 
 -- the first i, i + 1, .. of n numbers of which p holds
-unfoldable pub first_from : (ℕ → Bool) → ℕ → ℕ → Spot
-first_from p i zero = Nothing
-first_from p i (suc n) = cond (p i) (At i) (first_from p (suc i) n)
+unfoldable pub first_from : (ℕ → Bool) → ℕ → ℕ → Option ℕ
+first_from p i zero = None
+first_from p i (suc n) = cond (p i) (Some i) (first_from p (suc i) n)
 
 -- the first number from s on, below t
-abbrev pub first_in : (ℕ → Bool) → ℕ → ℕ → Spot
+abbrev pub first_in : (ℕ → Bool) → ℕ → ℕ → Option ℕ
 first_in p s t = first_from p s (t - s)
 
 -- the test of a lookup in the arrays
 abbrev pub looked : List ℕ → List ℕ → List ℕ → List ℕ → List ℕ → List ℕ → ℕ → ℕ → Name → ℕ → Bool
 looked ss ks a b c d s k n i = is_row (get_or ss i 0) (get_or ks i 0) (name_at a b c d i) s k n
 
-pub first-hit : (p : ℕ → Bool) (i t : ℕ) → i < t → p i ≡ true → first_in p i t ≡ At i
+pub first-hit : (p : ℕ → Bool) (i t : ℕ) → i < t → p i ≡ true → first_in p i t ≡ Some i
 unfolding first_from
 first-hit p i t h q = let e : t - i ≡ suc (t - suc i) = omega arith in rw (e, q)
 
@@ -121,7 +119,7 @@ pub first_miss : (p : ℕ → Bool) (i t : ℕ) → i < t → p i ≡ false → 
 unfolding first_from
 first_miss p i t h q = let e : t - i ≡ suc (t - suc i) = omega arith in rw (e, q, add-one)
 
-pub first-end : (p : ℕ → Bool) (i t : ℕ) → t ≤ i → first_in p i t ≡ Nothing
+pub first-end : (p : ℕ → Bool) (i t : ℕ) → t ≤ i → first_in p i t ≡ None
 unfolding first_from
 first-end p i t h = let e : t - i ≡ 0 = omega arith in rw e
 
@@ -130,28 +128,28 @@ pub record Found_at (p : ℕ → Bool) (t i : ℕ) : Type 0 where
   pub below : i < t
   pub holds : p i ≡ true
 
-pub first-at : (p : ℕ → Bool) (n s t i : ℕ) → s + n ≤ t → first_from p s n ≡ At i → Found_at p t i
+pub first-at : (p : ℕ → Bool) (n s t i : ℕ) → s + n ≤ t → first_from p s n ≡ Some i → Found_at p t i
 unfolding first_from
 first-at p zero s t i h q = let z : ◌≡◌ {A = ℕ} 0 1 = cc in absurd (omega arith)
 first-at p (suc n) s t i h q = go (p s) refl q (λ r. first-at p n (suc s) t i (omega arith) r)
   where
-    go : (b : Bool) → p s ≡ b → cond b (At s) (first_from p (suc s) n) ≡ At i → (first_from p (suc s) n ≡ At i → Found_at p t i) → Found_at p t i
+    go : (b : Bool) → p s ≡ b → cond b (Some s) (first_from p (suc s) n) ≡ Some i → (first_from p (suc s) n ≡ Some i → Found_at p t i) → Found_at p t i
     go true e r k = let z : s ≡ i = cc in record { below = omega arith; holds = rw (← z) e }
     go false e r k = k r
 
-pub found_at : (p : ℕ → Bool) (s t i : ℕ) → first_in p s t ≡ At i → Found_at p t i
+pub found_at : (p : ℕ → Bool) (s t i : ℕ) → first_in p s t ≡ Some i → Found_at p t i
 found_at p s t i q = go (dec_lt s t)
   where
     go : Dec (s < t) → Found_at p t i
     go (yes l) = first-at p (t - s) s t i (omega arith) q
     go (no l) =
-        let e : Nothing ≡ At i = sym (first-end p s t (omega arith)) ∙ q in
+        let e : None ≡ Some i = sym (first-end p s t (omega arith)) ∙ q in
         let z : ◌≡◌ {A = ℕ} 0 1 = cc in absurd (omega arith)
 
 -- the lookup's answer in the flat tree
-abbrev pub spotted : (ℕ → Entry) → ℕ → Spot → Found Place
-spotted f t Nothing = missing
-spotted f t (At i) = got i (f i).shows (inside (tab f t) i (f i).body)
+abbrev pub spotted : (ℕ → Entry) → ℕ → Option ℕ → Found Place
+spotted f t None = missing
+spotted f t (Some i) = got i (f i).shows (inside (tab f t) i (f i).body)
 
 abbrev pub hit : ℕ → ℕ → Name → Entry → Bool
 hit s k n e = is_row e.scope e.shows.kind e.shows.name s k n
@@ -170,7 +168,7 @@ look-from f t s k n (suc m) i h =
   where
     go : (a c : Bool) → is_row (f i).scope (f i).shows.kind (f i).shows.name s k n ≡ a && c → look (tab f t) k n s (suc i) (drop (suc i) (tab f t)) ≡ spotted f t (first_from (λ j. hit s k n (f j)) (suc i) m)
         → cond a (cond c (got i (f i).shows (inside (tab f t) i (f i).body)) (look (tab f t) k n s (suc i) (drop (suc i) (tab f t)))) (look (tab f t) k n s (suc i) (drop (suc i) (tab f t)))
-        ≡ spotted f t (cond (hit s k n (f i)) (At i) (first_from (λ j. hit s k n (f j)) (suc i) m))
+        ≡ spotted f t (cond (hit s k n (f i)) (Some i) (first_from (λ j. hit s k n (f j)) (suc i) m))
     go true true q ih = rw q
     go true false q ih = rw q ih
     go false c q ih = rw q ih

@@ -4,6 +4,7 @@ use Rattle.scope_tree.specs.Flat.{Flat}
 use Rattle.scope_tree.specs.Views.{View}
 use Rattle.scope_tree.specs.Views as views
 use Rattle.scope_tree.specs.declared.Tree.{Tree}
+use Rattle.scope_tree.specs.declared.look.View.{View as Lent}
 
 -- A PART: 1,024 numbers from the place p on
 unfoldable pub part : ℕ → List ℕ → List ℕ
@@ -26,6 +27,10 @@ view t =
 abbrev pub packed_in : List ℕ → List ℕ → List ℕ → List ℕ → List ℕ → List ℕ → List ℕ → List ℕ → List ℕ → Tree
 packed_in opened cells visible scopes marks n0 n1 n2 n3 =
     record { opened = opened; cells = cells; visible = visible; scopes = scopes; marks = marks; n0 = n0; n1 = n1; n2 = n2; n3 = n3 }
+
+-- the tree of arrays that are looked at
+abbrev pub tree_in : Lent → Tree
+tree_in v = packed_in v.opened.now v.cells.now v.visible.now v.scopes.now v.marks.now v.n0.now v.n1.now v.n2.now v.n3.now
 
 -- THE FLAT TREE
 abbrev pub flat_of : Tree → Flat

@@ -1,14 +1,11 @@
 -- A tree seen as a count, a stack and thirteen arrays: what the calls make of it, and the flat tree that it is. Assumes nothing.
-use Rattle.std.specs.Prelude.{ℕ, zero, suc, ◌+◌, ◌≤◌, ◌<◌, ◌≡◌, refl, Bool, true, false, cond, List, [], ◌∷◌, ◌++◌, eqb, ltb, leb, length, get_or, set, replicate}
+use Rattle.std.specs.Prelude.{ℕ, zero, suc, ◌+◌, ◌≤◌, ◌<◌, ◌≡◌, refl, Bool, true, false, cond, List, [], ◌∷◌, ◌++◌, eqb, ltb, leb, length, get_or, set, replicate, Option, Some, None}
 use Rattle.std.proofs.Common.{arith, add-one, ap, sym, ◌∙◌, append_assoc, append-nil, length-set, get_or-set_same, get_or-set_other}
 use Rattle.std.proofs.Math.Path.{subst}
 use Rattle.names.specs.declared.Name.{Name}
 use Rattle.names.specs.Packed.{packed}
 use Rattle.names.specs.Identifier.{is_identifier}
-use Rattle.scope_tree.specs.declared.Answer.{Answer as Told}
-use Rattle.scope_tree.specs.declared.Answer.TheVariants.{Done, Mark, Refused}
-use Rattle.scope_tree.specs.declared.look.Spot.{Spot}
-use Rattle.scope_tree.specs.declared.look.Spot.TheVariants.{At, Nothing}
+use Rattle.scope_tree.specs.Told.{Told, Done, Mark, Refused}
 use Rattle.scope_tree.specs.Step.{Answer, ok, marked, refused, step}
 use Rattle.scope_tree.specs.Flat.{Entry, Flat, flat}
 use Rattle.scope_tree.specs.Form.{Request, call_of}
@@ -205,7 +202,7 @@ abbrev pub here_of : View → ℕ
 here_of t = current_of t.stack t.depth
 
 -- the entry of a kind and a name in the current module
-unfoldable pub current_spot : View → ℕ → Name → Spot
+unfoldable pub current_spot : View → ℕ → Name → Option ℕ
 current_spot t k n = look_up (arrays_of t) (here_of t) t.count k n
 
 abbrev pub declared_in : View → ℕ → Bool → ℕ → Name → View
@@ -239,9 +236,9 @@ abbrev pub opened_last : View → View
 opened_last t =
     record { count = t.count; kinds = t.kinds; visible = t.visible; scopes = t.scopes; marks = t.marks; n0 = t.n0; n1 = t.n1; n2 = t.n2; n3 = t.n3; origins = t.origins; targets = t.targets; times = t.times; index = t.index; depth = t.depth + 1; stack = set t.stack t.depth t.count }
 
-abbrev pub mark_at : View → Spot → Told
-mark_at t Nothing = Refused 43
-mark_at t (At i) = Mark (get_or t.marks i 0)
+abbrev pub mark_at : View → Option ℕ → Told
+mark_at t None = Refused 43
+mark_at t (Some i) = Mark (get_or t.marks i 0)
 
 unfoldable pub got_of : View → List ℕ → ℕ → Told
 got_of t s k =
@@ -305,7 +302,7 @@ pub ended_yes : (f : View → View) (a : Added) → a.number ≡ 0 → accepting
 unfolding ended
 ended_yes f a z = rw (borrow.Author.Tests.eq-eqb a.number 0 z)
 
-abbrev spot_at : View → ℕ → ℕ → Name → Spot
+abbrev spot_at : View → ℕ → ℕ → Name → Option ℕ
 spot_at t h k n = look_up (arrays_of t) h t.count k n
 
 module _ (t : View) (s : List ℕ) (k : ℕ) {b : Bool} (i : b ≡ is_identifier s) where
@@ -323,7 +320,7 @@ module _ (t : View) (s : List ℕ) (k : ℕ) {b : Bool} (i : b ≡ is_identifier
       unfolding got_of
       get-deep d = rw (← i, y, borrow.Author.Tests.le-ltb 1024 t.count c, borrow.Author.Tests.lt-ltb 9 t.depth d)
 
-      pub get-found : t.depth ≤ 9 → (n : Name) → n ≡ packed s → (h : ℕ) → h ≡ here_of t → (o : Spot) → o ≡ spot_at t h k n → mark_at t o ≡ got_of t s k
+      pub get-found : t.depth ≤ 9 → (n : Name) → n ≡ packed s → (h : ℕ) → h ≡ here_of t → (o : Option ℕ) → o ≡ spot_at t h k n → mark_at t o ≡ got_of t s k
       unfolding got_of current_spot
       get-found d n q h w o e =
           let f : o ≡ current_spot t k (packed s) = e ∙ rw (w, q) in

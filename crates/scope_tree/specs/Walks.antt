@@ -17,7 +17,7 @@ use Rattle.scope_tree.specs.Views.{View, Sized, cleared, pushed, start_after, wa
 use Rattle.scope_tree.specs.Trees.{view, Sized as TreeSized}
 use Rattle.scope_tree.specs.Pack.{clear-get, view-sized, added, shut-view, opened_view}
 use Rattle.scope_tree.specs.declared.Tree.{Tree}
-use Rattle.scope_tree.specs.declared.Entry.{Entry}
+use Rattle.scope_tree.specs.Entries.{Entry}
 
 -- AN INDEX AS ADDITIONS MAKE IT: entry n goes to the slot that its own walk ends at
 module _ (start : ℕ → ℕ) (way : ℕ → ℕ → ℕ) where

@@ -1,26 +1,18 @@
 // The bytes of a use: segment count, segments, element count, each element a name and an alias, as in a bundle's item.
-ghost use Rattle.std.specs.Prelude.{◌≡◌, ◌&&◌, min, ◌+◌, ◌*◌, ◌<◌, ◌≤◌, eqb, get_or};
+ghost use Rattle.std.specs.Prelude.{◌≡◌, min, ◌+◌, ◌*◌, ◌<◌, ◌≤◌, eqb, get_or};
 ghost use Rattle.names.specs.Packed.{packed};
 ghost use Rattle.scope_tree.specs.Step.{any_main};
 ghost use Rattle.scope_tree.specs.Form.{string, after_string, after_strings, after_elements, local_name, elements_from, string_fault, names_fault, elements_fault, rest_fault, use_fault};
-ghost use Rattle.scope_tree.specs.Forms.{Checked};
+ghost use Rattle.scope_tree.specs.Forms.{fault, Checked};
 
 use names::Name;
-
-fn wide(b: u8) -> usize
-    ensures { (result ≡ b) × (result < 256) }
-{
-    b as usize
-}
+use refusal::Cause;
 
 // The byte at `at`, 0 past the end.
 pub fn byte_at(s: &[u8], at: usize) -> usize
     ensures { (result ≡ get_or s.now at 0) × (result < 256) }
 {
-    if at < s.len() {
-        return wide(s[at]);
-    }
-    0
+    s.get(at).map_or(0, |b| usize::from(*b))
 }
 
 // The place after the string at `at`.
@@ -31,23 +23,14 @@ pub fn next(s: &[u8], at: usize) -> usize
     at + 1 + byte_at(s, at)
 }
 
-fn least(a: usize, b: usize) -> usize
-    ensures { result ≡ min a b }
-{
-    if a < b {
-        return a;
-    }
-    b
-}
-
 // The string at `at`.
 pub fn string_at<'a>(s: &'a [u8], at: usize) -> &'a [u8]
     requires { at < 65536 }
     ensures { result.now ≡ string s.now at }
 {
     let n = s.len();
-    let a = least(at + 1, n);
-    let e = least(next(s, at), n);
+    let a = n.min(at + 1);
+    let e = n.min(next(s, at));
     &s[a..e]
 }
 
@@ -59,147 +42,108 @@ pub fn name_at(s: &[u8], at: usize) -> Name
 }
 
 // The name that the element at `at` gets: its alias, or its name where the alias is empty.
+#[tactic(auto, unfolding(crate::specs::Form::local_name))]
 pub fn local_at(s: &[u8], at: usize) -> Name
     requires { at < 65000 }
     ensures { result ≡ local_name s.now at }
 {
-    let a = next(s, at);
-    if byte_at(s, a) == 0 {
+    let alias = next(s, at);
+    if byte_at(s, alias) == 0 {
         return name_at(s, at);
     }
-    name_at(s, a)
+    name_at(s, alias)
 }
 
-// Whether an optional string of this length is none.
-fn is_absent(optional: bool, len: usize) -> bool
-    ensures { result ≡ (optional && eqb len 0) }
-{
-    if optional {
-        return len == 0;
-    }
-    false
-}
-
-// The fault of the string at `at`: 0, 1 or 5. Where `optional`, it may be empty.
-fn string_form(s: &[u8], at: usize, optional: bool) -> u8
+// The place after the string at `at`, which is an identifier or, where `optional`, may be empty.
+#[tactic(auto, unfolding(crate::specs::Form::string_fault))]
+fn string_form(s: &[u8], at: usize, optional: bool) -> Result<usize, Cause>
     requires { at < 65536 }
-    ensures { result ≡ string_fault optional s.now at }
+    ensures { Checked (string_fault optional s.now at) (after_string s.now at) (at + 256) result }
 {
-    if s.len() <= at {
-        return 1;
+    let after = next(s, at);
+    if s.len() < after {
+        return Err(Cause::Cut);
     }
-    if s.len() < next(s, at) {
-        return 1;
+    if (optional && byte_at(s, at) == 0) || names::is_identifier(string_at(s, at)) {
+        return Ok(after);
     }
-    if is_absent(optional, byte_at(s, at)) {
-        return 0;
-    }
-    if names::is_identifier(string_at(s, at)) {
-        return 0;
-    }
-    5
+    Err(Cause::BadName)
 }
 
-// A fault, or 0 and the place after what was looked at.
-#[derive(Clone, Copy)]
-pub struct Forms {
-    pub number: u8,
-    pub next: usize,
-}
-
-fn segments_form(s: &[u8], at: usize, count: usize) -> Forms
+// The place after `count` segments.
+#[tactic(auto, using(crate::specs::FormLaws::name_steps))]
+fn segments_form(s: &[u8], at: usize, count: usize) -> Result<usize, Cause>
     requires { at + 256 * count < 65000 }
     ensures { Checked (names_fault s.now count at) (after_strings s.now count at) (at + 256 * count) result }
 {
     let mut p = at;
-    let mut i: usize = 0;
-    while i < count {
-        let f = string_form(s, p, false);
-        if f != 0 {
-            return Forms { number: f, next: 0 };
-        }
-        p = next(s, p);
-        i += 1;
+    for _ in 0..count {
+        p = string_form(s, p, false)?;
     }
-    Forms { number: 0, next: p }
+    Ok(p)
 }
 
-fn elements_form(s: &[u8], at: usize, count: usize) -> Forms
+// The place after `count` elements.
+#[tactic(auto, using(crate::specs::FormLaws::element_steps))]
+fn elements_form(s: &[u8], at: usize, count: usize) -> Result<usize, Cause>
     requires { at + 512 * count < 65000 }
     ensures { Checked (elements_fault s.now count at) (after_elements s.now count at) (at + 512 * count) result }
 {
     let mut p = at;
-    let mut i: usize = 0;
-    while i < count {
-        let f = string_form(s, p, false);
-        if f != 0 {
-            return Forms { number: f, next: 0 };
-        }
-        p = next(s, p);
-        let g = string_form(s, p, true);
-        if g != 0 {
-            return Forms { number: g, next: 0 };
-        }
-        p = next(s, p);
-        i += 1;
+    for _ in 0..count {
+        let alias = string_form(s, p, false)?;
+        p = string_form(s, alias, true)?;
     }
-    Forms { number: 0, next: p }
+    Ok(p)
 }
 
 // From the element count on.
-fn rest_form(s: &[u8], at: usize) -> u8
+#[tactic(auto, unfolding(crate::specs::Form::rest_fault))]
+fn rest_form(s: &[u8], at: usize) -> Result<(), Cause>
     requires { at < 16384 }
-    ensures { result ≡ rest_fault s.now at }
+    ensures { fault result ≡ rest_fault s.now at }
 {
     if s.len() <= at {
-        return 1;
+        return Err(Cause::Cut);
     }
     let elements = byte_at(s, at);
     if 32 < elements {
-        return 3;
+        return Err(Cause::TooMany);
     }
-    let e = elements_form(s, at + 1, elements);
-    if e.number != 0 {
-        return e.number;
+    if elements_form(s, at + 1, elements)? < s.len() {
+        return Err(Cause::Cut);
     }
-    if e.next < s.len() {
-        return 1;
-    }
-    0
+    Ok(())
 }
 
-// 0, or the number of the first fault: 1, 3 or 5.
-pub fn use_form(s: &[u8]) -> u8
-    ensures { result ≡ use_fault s.now }
+// Whether the bytes have the form of a use; else the first fault.
+#[tactic(auto, unfolding(crate::specs::Form::use_fault))]
+pub fn use_form(s: &[u8]) -> Result<(), Cause>
+    ensures { fault result ≡ use_fault s.now }
 {
-    if s.len() == 0 {
-        return 1;
+    if s.is_empty() {
+        return Err(Cause::Cut);
     }
     let segments = byte_at(s, 0);
     if 17 < segments {
-        return 3;
+        return Err(Cause::TooMany);
     }
-    let p = segments_form(s, 1, segments);
-    if p.number != 0 {
-        return p.number;
-    }
-    rest_form(s, p.next)
+    rest_form(s, segments_form(s, 1, segments)?)
 }
 
 // Whether one of `count` elements from `at` on has the alias `main`.
+#[tactic(auto, using(crate::specs::FormLaws::main_steps))]
 pub fn any_main(s: &[u8], at: usize, count: usize) -> bool
     requires { at + 512 * count < 65000 }
     ensures { result ≡ any_main (elements_from s.now count at) }
 {
     let mut p = at;
-    let mut i: usize = 0;
-    while i < count {
-        let a = next(s, p);
-        if names::is_main(string_at(s, a)) {
+    for _ in 0..count {
+        let alias = next(s, p);
+        if names::is_main(string_at(s, alias)) {
             return true;
         }
-        p = next(s, a);
-        i += 1;
+        p = next(s, alias);
     }
     false
 }

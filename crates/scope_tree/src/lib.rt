@@ -2,10 +2,16 @@
 // in the crate scopes, and what each comes to in the crate decision.
 #![tactic(auto)]
 
+ghost use Rattle.std.specs.Prelude.{◌≡◌};
+ghost use Rattle.scope_tree.specs.Kinds.{kind_number, twice_number, opens_for, deepest_for};
+ghost use Rattle.scope_tree.specs.Trees.{tree_in};
+ghost use Rattle.refusal.specs.Numbers.{number_of};
+
 pub mod form;
 pub mod look;
 
-use names::Name;
+use look::View;
+use refusal::Cause;
 
 // The most entries of a tree, whose arrays are written with the number itself, and the most open modules.
 pub const ENTRIES: usize = 1024;
@@ -55,53 +61,71 @@ pub struct Tree {
     pub n3: [u64; 1024],
 }
 
-// An entry to add.
-#[derive(Clone, Copy)]
-pub struct Entry {
-    pub kind: u16,
-    pub visible: u8,
-    pub scope: u16,
-    pub mark: u16,
-    pub name: Name,
-    pub origin: u16,
-    pub target: u16,
-    pub moment: u16,
-    // whether a module opens
-    pub opens: bool,
+// What a name stands for. A module holds a name once of each kind.
+#[derive(Clone, Copy, Debug, PartialEq, Eq)]
+pub enum Kind {
+    Type,
+    Function,
+    Module,
 }
 
-#[derive(Clone, Copy)]
-pub enum Answer {
-    Done,
-    // get_alias and get_function: the mark of the entry
-    Mark(u16),
-    // a number of the table; its place is 0
-    Refused(u8),
+impl Kind {
+    // Why a name is refused that is held in this kind.
+    pub fn twice(self) -> Cause
+        ensures { number_of result ≡ twice_number self }
+    {
+        match self {
+            Kind::Type => Cause::TypeTwice,
+            Kind::Function => Cause::FunctionTwice,
+            Kind::Module => Cause::ModuleTwice,
+        }
+    }
+
+    // Whether a module opens with its declaration.
+    pub fn opens(self) -> bool
+        ensures { result ≡ opens_for self }
+    {
+        self == Kind::Module
+    }
+
+    // How many modules may be open where this is declared.
+    pub fn deepest(self) -> usize
+        ensures { result ≡ deepest_for self }
+    {
+        match self {
+            Kind::Module => OPEN - 1,
+            Kind::Type | Kind::Function => OPEN,
+        }
+    }
 }
 
-// The most entries that a use adds, three of each element; places of `Batch.cells` and `Batch.names`.
-pub const STAGED: usize = 96;
+// The number of a kind in the cells, which C lends. Ruled out: one number for two kinds.
+impl From<Kind> for u16 {
+    ghost from_gives = { λ k n. n ≡ kind_number k };
 
-pub const STAGED_CELLS: usize = 5 * STAGED;
-
-pub const STAGED_NAMES: usize = 4 * STAGED;
-
-// Entries that a use adds, at most STAGED, all in one scope and of one visibility; or a number. The cells are kinds, marks, origins, targets
-// and times, the names their four words, each a part of STAGED.
-#[derive(Clone, Copy)]
-pub struct Batch {
-    pub number: u8,
-    pub count: usize,
-    pub cells: [u16; STAGED_CELLS],
-    pub names: [u64; STAGED_NAMES],
+    fn from(kind: Kind) -> u16 {
+        match kind {
+            Kind::Type => 1,
+            Kind::Function => 2,
+            Kind::Module => 3,
+        }
+    }
 }
 
-// What an item of a use copies: number 0 and the entry's mark, its number plus one, and what is inside it; or a number.
-#[derive(Clone, Copy)]
-pub struct Choice {
-    pub number: u8,
-    pub mark: u16,
-    pub origin: u16,
-    pub target: u16,
-    pub moment: u16,
+impl Tree {
+    pub fn view(&self) -> View<'_>
+        ensures { tree_in result ≡ self.now }
+    {
+        View {
+            opened: &self.opened,
+            cells: &self.cells,
+            visible: &self.visible,
+            scopes: &self.scopes,
+            marks: &self.marks,
+            n0: &self.n0,
+            n1: &self.n1,
+            n2: &self.n2,
+            n3: &self.n3,
+        }
+    }
 }

@@ -5,7 +5,7 @@ use Rattle.std.proofs.lemmas.Bool.{eqb-false}
 use Rattle.bundle.specs.Decode.{decode}
 use Rattle.scope_tree.specs.Form.{Request}
 use Rattle.scopes.specs.Meets.{Meets, number_of_told, left}
-use Rattle.scope_tree.specs.declared.Answer.{Answer as Told}
+use Rattle.scope_tree.specs.Told.{Told}
 use Rattle.scope_tree.specs.Trees.{cleared}
 use Rattle.scope_tree.specs.declared.Tree.{Tree}
 use Rattle.scope_walk.specs.Scopes.{Asked, asked}

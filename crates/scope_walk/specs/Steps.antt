@@ -16,8 +16,7 @@ use Rattle.scope_tree.specs.Form.{Request, enters, exits, resolves_use, call_of}
 use Rattle.scopes.specs.Meets.{Meets, number_of_told, request, declares, left}
 use Rattle.scope_tree.specs.Note.{accepted}
 use Rattle.scope_tree.specs.Views.{told}
-use Rattle.scope_tree.specs.declared.Answer.{Answer as Told}
-use Rattle.scope_tree.specs.declared.Answer.TheVariants.{Done, Mark, Refused}
+use Rattle.scope_tree.specs.Told.{Told, Done, Mark, Refused}
 use Rattle.scopes.specs.declared.Outcome.{Outcome}
 use Rattle.scope_tree.specs.Step.{Answer, ok, marked, refused, Model, step}
 use Rattle.scope_tree.specs.Flat.{Flat, flat}

@@ -1,7 +1,7 @@
 -- A use: its entries are decided, then committed. Assumes nothing.
 use Rattle.std.specs.Prelude.{ℕ, ◌+◌, ◌≤◌, ◌≡◌, refl, Bool, List, get_or}
 use Rattle.std.proofs.Common.{arith, ap, sym, subst, ◌∙◌}
-use Rattle.scope_tree.specs.declared.Answer.TheVariants.{Done, Refused}
+use Rattle.scope_tree.specs.Told.{Done, Refused}
 use Rattle.scope_tree.specs.Staging.{Staged}
 use Rattle.scope_tree.specs.Form.{resolves_use}
 use Rattle.scope_tree.specs.Views.{View, bit_of, here_of, committed}

@@ -1,18 +1,15 @@
 -- A declaration, a get and an exit, as the code makes them. Assumes nothing.
-use Rattle.std.specs.Prelude.{ℕ, ◌-◌, ◌<◌, ◌≡◌, Bool, true, false, cond, List, eqb, ltb, get_or, set, take}
-use Rattle.std.proofs.Common.{arith, ap, sym, subst, ◌∙◌, length-set, get_or-set_same, get_or-set_other, eqb-true, ne_eqb}
+use Rattle.std.specs.Prelude.{ℕ, ◌-◌, ◌≤◌, ◌<◌, ◌≡◌, ◌⊎◌, Bool, true, false, cond, List, ltb, get_or, set, take, Option, Some, None}
+use Rattle.std.proofs.Common.{arith, ap, sym, subst, ◌∙◌, length-set, get_or-set_same, get_or-set_other, ne_eqb}
 use Rattle.std.proofs.Math.Path.{refl}
+use Rattle.std.proofs.Math.Decide.{dec_le}
+use Rattle.std.proofs.Math.Logic.{inl, inr}
 use Rattle.std.proofs.lemmas.List.{take-set-le}
 use Rattle.names.specs.Packed.{packed}
 use Rattle.names.specs.Identifier.{is_identifier}
-use Rattle.scope_tree.specs.declared.look.Spot.{Spot}
-use Rattle.scope_tree.specs.declared.look.Spot.TheVariants.{At, Nothing}
-use Rattle.scope_tree.specs.declared.Answer.{Answer as Told}
-use Rattle.scope_tree.specs.declared.Answer.TheVariants.{Done, Refused}
+use Rattle.scope_tree.specs.Told.{Told, Done, Refused}
 use Rattle.scope_tree.specs.declared.Tree.{Tree}
-use Rattle.decision.specs.declared.decide.Plan.{Plan}
-use Rattle.scopes.specs.declared.lent.Kind.{Kind}
-use Rattle.scope_tree.specs.declared.Entry.{Entry}
+use Rattle.scope_tree.specs.Entries.{Entry}
 use Rattle.scope_tree.specs.Note.{accepted}
 use Rattle.scope_tree.specs.Form.{Request, enters, exits, inserts_alias, inserts_enum, inserts_function, resolves_use, gets_alias, gets_function}
 use Rattle.scope_tree.specs.Views.{View, ViewOutcome, ViewMeets, told, bit_of, no_entry, pushed, added_of, ended, ended_no, ended_yes, opened_last, current_spot, mark_at, got_of}
@@ -20,7 +17,7 @@ use Rattle.decision.specs.Calls.{popped, exit-root, exit_module, alias_meets, en
 use Rattle.scope_tree.specs.Trees.{part, index_of, doors_of, view, Sized}
 use Rattle.scopes.specs.Meets.{Meets, Answers, number_of_told, request, left, with_opened}
 use Rattle.scope_tree.specs.Pack.{view-sized, added, added-sized, shut-view, opened_view}
-use Rattle.decision.specs.Plan.{planned_of, planned_plan, carried, carried_no, carried_yes, plan_added, plan_room, Room}
+use Rattle.decision.specs.Plan.{Plan, planned_of, planned_plan, carried, carried_no, carried_yes, plan_added, plan_room, Room}
 
 abbrev of_view : Told → View → ViewOutcome
 of_view a t = record { answer = a; tree = t }
@@ -113,12 +110,12 @@ got-numbered : (t : Tree) (s : List ℕ) (k : ℕ) {a : Told} → a ≡ got_of (
 unfolding got_of
 got-numbered t s k q = subst (λ (x : Told). number_of_told x ≡ 0 → accepted (told x) ≡ true) (sym q) (go (is_identifier s) (ltb 1024 (view t).count) (ltb 9 (view t).depth) (current_spot (view t) k (packed s)))
   where
-    go : (a b c : Bool) (d : Spot) → number_of_told (cond a (cond b (Refused 51) (cond c (Refused 51) (mark_at (view t) d))) (Refused 5)) ≡ 0 → accepted (told (cond a (cond b (Refused 51) (cond c (Refused 51) (mark_at (view t) d))) (Refused 5))) ≡ true
+    go : (a b c : Bool) (d : Option ℕ) → number_of_told (cond a (cond b (Refused 51) (cond c (Refused 51) (mark_at (view t) d))) (Refused 5)) ≡ 0 → accepted (told (cond a (cond b (Refused 51) (cond c (Refused 51) (mark_at (view t) d))) (Refused 5))) ≡ true
     go false b c d z = absurd (omega arith)
     go true true c d z = absurd (omega arith)
     go true false true d z = absurd (omega arith)
-    go true false false Nothing z = absurd (omega arith)
-    go true false false (At i) z = refl
+    go true false false None z = absurd (omega arith)
+    go true false false (Some i) z = refl
 
 pub meets_get-alias : (t : Tree) (s : List ℕ) {a : Told} → a ≡ got_of (view t) s 1 → Meets t (gets_alias s) (left a t)
 meets_get-alias t s {a} q = let w = answers-alias t s a q in record { good = λ g. g; tree = w.tree; answer = w.answer; kept = λ e. refl; numbered = got-numbered t s _ q }
@@ -145,68 +142,36 @@ leave_module t o z =
         let stack : take 9 (set o 10 d) ≡ take 9 o = take-set-le 9 o 10 d (omega arith) in
         λ i. of_view Done (record { count = count i; kinds = part 0 t.cells; visible = t.visible; scopes = t.scopes; marks = t.marks; n0 = t.n0; n1 = t.n1; n2 = t.n2; n3 = t.n3; origins = part 1024 t.cells; targets = part 2048 t.cells; times = part 3072 t.cells; index = index_of t.cells; depth = depth i; stack = stack i })
 
+-- the laws of an exit, for the tactics
+pub ruleset exit_steps = (leave-root, leave_module)
+
 -- BY ITS CODE
-abbrev pub declaring : ℕ → ℕ → ℕ → Bool → Kind
-declaring k n d o = record { kind = k; twice = n; deepest = d; opens = o }
-
-abbrev by_code : Bool → Bool → Bool → Bool → Kind
-by_code e₁ e₅ e₃ e₄ =
-    cond e₁ (declaring 3 47 8 true) (cond e₅ (declaring 2 49 9 false) (cond e₃ (declaring 1 48 9 false) (cond e₄ (declaring 1 48 9 false) (declaring 0 0 0 false))))
-
-unfoldable pub kind_of : ℕ → Kind
-kind_of c = by_code (eqb c 1) (eqb c 5) (eqb c 3) (eqb c 4)
-
-unfoldable pub asked_of : ℕ → ℕ
-asked_of c = cond (eqb c 7) 1 2
-
 module _ (t u : Tree) (c : ℕ) (s : List ℕ) (v : Bool) (m : ℕ) (a : Told) where
+  pub call_enter : c ≡ 1 → Declares t s 3 47 8 v m true a u → Meets t (request c s v m) (left a u)
+  call_enter e d = rw e (meets_enter d)
+
   pub call-exit : c ≡ 2 → Meets t exits (left a u) → Meets t (request c s v m) (left a u)
   call-exit e w = rw e w
+
+  -- a type alias, or an enum
+  pub call_type : 3 ≤ c → c ≤ 4 → Declares t s 1 48 9 v m false a u → Meets t (request c s v m) (left a u)
+  call_type h l d = go (dec_le c 3)
+    where
+      go : Dec (c ≤ 3) → Meets t (request c s v m) (left a u)
+      go (yes k) = let e : c ≡ 3 = omega arith in rw e (meets_alias d)
+      go (no k) = let e : c ≡ 4 = omega arith in rw e (meets_enum d)
+
+  pub call_function : c ≡ 5 → Declares t s 2 49 9 v m false a u → Meets t (request c s v m) (left a u)
+  call_function e d = rw e (meets_function d)
 
   pub call_use : c ≡ 6 → Meets t (resolves_use s v) (left a u) → Meets t (request c s v m) (left a u)
   call_use e w = rw e w
 
-  pub call_declare : (k : Kind) → k ≡ kind_of c → (k.kind ≡ 0 → ⊥) → Declares t s k.kind k.twice k.deepest v m k.opens a u → Meets t (request c s v m) (left a u)
-  unfolding kind_of
-  call_declare k q z w = go (eqb c 1) (eqb c 5) (eqb c 3) (eqb c 4) refl refl refl refl (subst D q w) (λ y. z (ap (λ (x : Kind). x.kind) q ∙ y))
-    where
-      D : Kind → Type 0
-      D x = Declares t s x.kind x.twice x.deepest v m x.opens a u
+  pub call-get_alias : c ≡ 7 → {x : Tree} → x ≡ t → a ≡ got_of (view x) s 1 → Meets t (request c s v m) (left a t)
+  call-get_alias e q w = rw e (meets_get-alias t s (w ∙ ap (λ (y : Tree). got_of (view y) s 1) q))
 
-      go : (e₁ e₅ e₃ e₄ : Bool) → eqb c 1 ≡ e₁ → eqb c 5 ≡ e₅ → eqb c 3 ≡ e₃ → eqb c 4 ≡ e₄
-          → Declares t s (by_code e₁ e₅ e₃ e₄).kind (by_code e₁ e₅ e₃ e₄).twice (by_code e₁ e₅ e₃ e₄).deepest v m (by_code e₁ e₅ e₃ e₄).opens a u
-          → ((by_code e₁ e₅ e₃ e₄).kind ≡ 0 → ⊥)
-          → Meets t (request c s v m) (left a u)
-      go true e₅ e₃ e₄ p₁ p₅ p₃ p₄ d y = let e = eqb-true c 1 p₁ in rw e (meets_enter d)
-      go false true e₃ e₄ p₁ p₅ p₃ p₄ d y = let e = eqb-true c 5 p₅ in rw e (meets_function d)
-      go false false true e₄ p₁ p₅ p₃ p₄ d y = let e = eqb-true c 3 p₃ in rw e (meets_alias d)
-      go false false false true p₁ p₅ p₃ p₄ d y = let e = eqb-true c 4 p₄ in rw e (meets_enum d)
-      go false false false false p₁ p₅ p₃ p₄ d y = absurd (y refl)
-
-pub call-ready : (c : ℕ) (k : Kind) → k ≡ kind_of c → (k.kind ≡ 0 → ⊥) → (k.twice ≡ 0 → ⊥) × (k.opens ≡ true → k.deepest ≡ 8)
-unfolding kind_of
-call-ready c k q z = rw q (go (eqb c 1) (eqb c 5) (eqb c 3) (eqb c 4) (λ y. z (ap (λ (x : Kind). x.kind) q ∙ y)))
-  where
-    go : (e₁ e₅ e₃ e₄ : Bool) → ((by_code e₁ e₅ e₃ e₄).kind ≡ 0 → ⊥)
-        → ((by_code e₁ e₅ e₃ e₄).twice ≡ 0 → ⊥)
-        × ((by_code e₁ e₅ e₃ e₄).opens ≡ true → (by_code e₁ e₅ e₃ e₄).deepest ≡ 8)
-    go true e₅ e₃ e₄ y = ((λ x. omega arith), (λ x. refl))
-    go false true e₃ e₄ y = ((λ x. omega arith), (λ x. let b : ◌≡◌ {A = ℕ} 0 1 = cc in absurd (omega arith)))
-    go false false true e₄ y = ((λ x. omega arith), (λ x. let b : ◌≡◌ {A = ℕ} 0 1 = cc in absurd (omega arith)))
-    go false false false true y = ((λ x. omega arith), (λ x. let b : ◌≡◌ {A = ℕ} 0 1 = cc in absurd (omega arith)))
-    go false false false false y = absurd (y refl)
-
-pub call-get : (t : Tree) (c : ℕ) (s : List ℕ) (v : Bool) (m : ℕ) (a : Told) (k : Kind) (j : ℕ) → (c ≡ 2 → ⊥) → (c ≡ 6 → ⊥) → k ≡ kind_of c → k.kind ≡ 0 → j ≡ asked_of c → a ≡ got_of (view t) s j → Meets t (request c s v m) (left a t)
-unfolding kind_of asked_of
-call-get t c s v m a k j n2 n6 q z i w =
-    rw (ne_eqb c 2 n2, ne_eqb c 6 n6)
-    (go (eqb c 1) (eqb c 5) (eqb c 3) (eqb c 4) (eqb c 7) (sym (ap (λ (x : Kind). x.kind) q) ∙ z) (w ∙ ap (got_of (view t) s) i))
-  where
-    go : (e₁ e₅ e₃ e₄ e₇ : Bool) → (by_code e₁ e₅ e₃ e₄).kind ≡ 0 → a ≡ got_of (view t) s (cond e₇ 1 2)
-        → Meets t (cond e₁ (enters s v m) (cond e₃ (inserts_alias s v m) (cond e₄ (inserts_enum s v m) (cond e₅ (inserts_function s v m) (cond e₇ (gets_alias s) (gets_function s)))))) (left a t)
-    go true e₅ e₃ e₄ e₇ y x = absurd (omega arith)
-    go false true e₃ e₄ e₇ y x = absurd (omega arith)
-    go false false true e₄ e₇ y x = absurd (omega arith)
-    go false false false true e₇ y x = absurd (omega arith)
-    go false false false false true y x = meets_get-alias t s x
-    go false false false false false y x = meets_get-function t s x
+  pub call-get_function : (c ≡ 0) ⊎ (7 < c) → {x : Tree} → x ≡ t → a ≡ got_of (view x) s 2 → Meets t (request c s v m) (left a t)
+  call-get_function (inl e) q w = rw e (meets_get-function t s (w ∙ ap (λ (y : Tree). got_of (view y) s 2) q))
+  call-get_function (inr h) q w =
+      rw (ne_eqb c 1 (λ e. omega arith), ne_eqb c 2 (λ e. omega arith), ne_eqb c 3 (λ e. omega arith), ne_eqb c 4 (λ e. omega arith), ne_eqb c 5 (λ e. omega arith), ne_eqb c 6 (λ e. omega arith), ne_eqb c 7 (λ e. omega arith))
+      (meets_get-function t s (w ∙ ap (λ (y : Tree). got_of (view y) s 2) q))

@@ -1,5 +1,5 @@
 -- What a tree call promises, by value or over lent arrays. Assumes nothing.
-use Rattle.std.specs.Prelude.{ℕ, ◌≡◌, Bool, true, false, cond, List, eqb}
+use Rattle.std.specs.Prelude.{ℕ, ◌≡◌, refl, Option, Some, None, Result, Ok, Err, Bool, true, false, cond, List, eqb}
 use Rattle.scope_tree.specs.Step.{step}
 use Rattle.scope_tree.specs.Flat.{flat}
 use Rattle.scope_tree.specs.Note.{accepted}
@@ -7,15 +7,29 @@ use Rattle.scope_tree.specs.Form.{Request, enters, exits, inserts_alias, inserts
 use Rattle.scope_tree.specs.Views.{told}
 use Rattle.scope_tree.specs.Trees.{Good, flat_of}
 use Rattle.scope_tree.specs.declared.Tree.{Tree}
-use Rattle.scope_tree.specs.declared.Answer.{Answer as Told}
-use Rattle.scope_tree.specs.declared.Answer.TheVariants.{Done, Mark, Refused}
-use Rattle.scopes.specs.declared.Outcome.{Outcome}
+use Rattle.refusal.specs.declared.Cause.{Cause}
+use Rattle.scope_tree.specs.Forms.{fault}
+use Rattle.scope_tree.specs.Told.{Told, Done, Mark, Refused, call_told}
+use Rattle.scopes.specs.declared.Outcome.{Outcome as Given}
 
 -- the number that a refusal tells; 0 where the call was accepted
 abbrev pub number_of_told : Told → ℕ
 number_of_told Done = 0
 number_of_told (Mark m) = 0
 number_of_told (Refused n) = n
+
+pub number-told : (r : Result (Option ℕ) Cause) → fault r ≡ number_of_told (call_told r)
+number-told (Ok None) = refl
+number-told (Ok (Some m)) = refl
+number-told (Err c) = refl
+
+-- what a call tells, and the tree that it leaves
+pub record Outcome : Type 0 where
+  pub answer : Told
+  pub tree : Tree
+
+abbrev pub outcome_told : Given → Outcome
+outcome_told r = record { answer = call_told r.answer; tree = r.tree }
 
 -- a call: on a good tree the answer and the tree are the definition's, and on any record a refusal has a number and gives the same
 -- record back

@@ -4,8 +4,7 @@ use Rattle.std.proofs.Common.{arith, ap, sym, subst, ◌∙◌}
 use Rattle.std.specs.Prelude.{ℕ, zero, ◌≡◌, refl, List, [], ◌∷◌, length, replicate}
 use Rattle.std.proofs.lemmas.List.{length-replicate}
 use Rattle.scope_tree.specs.declared.Tree.{Tree}
-use Rattle.scope_tree.specs.declared.Answer.{Answer as Told}
-use Rattle.scopes.specs.declared.Outcome.{Outcome}
+use Rattle.scope_tree.specs.Told.{Told}
 use Rattle.scope_tree.specs.Step.{Answer, step, run}
 use Rattle.scope_tree.specs.Flat.{Flat, flat, first_flat, flattened}
 use Rattle.scope_tree.specs.Form.{Request, call_of, calls_of}
@@ -16,7 +15,7 @@ use Rattle.scope_tree.specs.Views.{told}
 use Rattle.scope_tree.specs.Views as views
 use Rattle.scope_tree.specs.Trees.{cleared, Good, flat_of}
 use Rattle.scope_tree.specs.Pack.{cleared-view, clear-get}
-use Rattle.scopes.specs.Meets.{Meets, Answers}
+use Rattle.scopes.specs.Meets.{Outcome, Meets, Answers}
 use Rattle.scopes.specs.Demand.{Demand, demand}
 
 -- the tree u and the answers that the calls qs, made one after another from the tree t, leave: each call, by value or over lent arrays,

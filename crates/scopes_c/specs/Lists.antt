@@ -11,9 +11,7 @@ use borrow.Author.Tests.{ne_eqb, lt-ltb, le-ltb}
 use Rattle.rows.specs.Written.{put_at, written}
 use Rattle.scope_tree.specs.declared.Tree.{Tree}
 use Rattle.scopes_c.specs.declared.Step.{Step}
-use Rattle.scope_tree.specs.declared.Answer.{Answer as Told}
-use Rattle.scopes.specs.declared.Outcome.{Outcome}
-use Rattle.scope_tree.specs.declared.Answer.TheVariants.{Done, Mark, Refused}
+use Rattle.scope_tree.specs.Told.{Told, Done, Mark, Refused}
 use Rattle.scope_tree.specs.Step.{Answer, ok, marked, refused, step}
 use Rattle.scope_tree.specs.Flat.{Flat, flat, first_flat}
 use Rattle.scope_tree.specs.Form.{Request, enters, exits, inserts_alias, inserts_enum, inserts_function, resolves_use, gets_alias, gets_function, call_of}
@@ -23,7 +21,7 @@ use Rattle.scope_tree.specs.Nav.{stack_of}
 use Rattle.scope_tree.specs.Views.{told}
 use Rattle.scope_tree.specs.Trees.{cleared, flat_of, Good}
 use Rattle.scope_tree.specs.Pack.{index-clear, clear-get}
-use Rattle.scopes.specs.Meets.{Meets, Answers, request, declares}
+use Rattle.scopes.specs.Meets.{Outcome, Meets, Answers, request, declares}
 use Rattle.scopes.specs.Meets as meets
 use Rattle.scopes.specs.Runs.{first-is, first_good}
 

@@ -5,12 +5,15 @@
 
 ghost use Rattle.std.specs.Prelude.{◌≡◌, ◌+◌, ◌*◌, ◌<◌, ◌≤◌, length, get_or};
 ghost use Rattle.scope_tree.specs.Views.{told};
-ghost use Rattle.scope_tree.specs.Trees.{packed_in};
+ghost use Rattle.scope_tree.specs.Told.{call_told, mark_told};
+ghost use Rattle.commit.specs.Lending.{lent_in, Kept};
 ghost use Rattle.scopes_c.specs.Lists.{pair_at, part_of, is_declaring, is_call, order_at, after_order, shown, Turned, Tells, Called, left_tree, Walked, Replayed};
 ghost use Rattle.rows.specs.Written.{put_at};
 ghost use Rattle.rows.specs.TreeRows.{Listed};
 
-use scopes::{Answer, CELLS, OPENED, Outcome, Tree};
+use refusal::Cause;
+use scopes::lent::Lent;
+use scopes::{CELLS, OPENED, Outcome, Tree};
 
 fn wide(b: u8) -> usize
     ensures { (result ≡ b) × (result < 256) }
@@ -65,43 +68,32 @@ pub struct Step {
     pub next: usize,
 }
 
-fn wider(n: u8) -> u16
-    ensures { result ≡ n }
+fn asked(a: Result<Option<u16>, Cause>, t: Tree, next: usize) -> Step
+    ensures { Tells (call_told a) t next result }
 {
-    n as u16
-}
-
-fn asked(a: Answer, t: Tree, next: usize) -> Step
-    ensures { Tells a t next result }
-{
-    match a {
-        Answer::Done => Step {
-            code: 0,
-            value: 0,
-            tree: t,
-            next: next,
-        },
-        Answer::Mark(m) => Step {
-            code: 1,
-            value: m,
-            tree: t,
-            next: next,
-        },
-        Answer::Refused(n) => Step {
-            code: 2,
-            value: wider(n),
-            tree: t,
-            next: next,
-        },
+    let (code, value) = match a {
+        Ok(None) => (0, 0),
+        Ok(Some(mark)) => (1, mark),
+        Err(cause) => (2, u16::from(u8::from(cause))),
+    };
+    Step {
+        code,
+        value,
+        tree: t,
+        next,
     }
 }
 
 fn made(o: Outcome, next: usize) -> Step
-    ensures { Tells o.answer o.tree next result }
+    ensures { Tells (call_told o.answer) o.tree next result }
 {
-    let a = o.answer;
-    let t = o.tree;
-    asked(a, t, next)
+    asked(o.answer, o.tree, next)
+}
+
+fn found(a: Result<u16, Cause>, t: Tree, next: usize) -> Step
+    ensures { Tells (mark_told a) t next result }
+{
+    asked(a.map(Some), t, next)
 }
 
 // The call at p.
@@ -121,10 +113,10 @@ pub fn call_at(t: Tree, s: &[u8], p: usize) -> Step
     let n = byte(s, p + 1);
     let e = p + 2 + n;
     if op == 7 {
-        return asked(scopes::get_alias(t, part(s, p + 2, n)), t, e);
+        return found(scopes::get_alias(t, part(s, p + 2, n)), t, e);
     }
     if op == 8 {
-        return asked(scopes::get_function(t, part(s, p + 2, n)), t, e);
+        return found(scopes::get_function(t, part(s, p + 2, n)), t, e);
     }
     let v = byte(s, e) == 1;
     let m = mark(s, e + 1);
@@ -140,7 +132,7 @@ pub fn call_at(t: Tree, s: &[u8], p: usize) -> Step
     if op == 5 {
         return made(scopes::insert_function(t, part(s, p + 2, n), v, m), e + 3);
     }
-    asked(Answer::Done, scopes::empty(), p + 1)
+    asked(Ok(None), scopes::empty(), p + 1)
 }
 
 fn put(out: &mut [u32], at: usize, v: u32)
@@ -196,13 +188,13 @@ pub fn scopes_replay(s: &[u8], out: &mut [u32]) -> usize
 }
 
 // An answer as a number: code times 65,536 plus value.
-fn shown(a: Answer) -> u32
-    ensures { result ≡ shown (told a) }
+fn shown(a: Result<Option<u16>, Cause>) -> u32
+    ensures { result ≡ shown (told (call_told a)) }
 {
     match a {
-        Answer::Done => 0,
-        Answer::Mark(m) => packed(1, m),
-        Answer::Refused(n) => packed(2, wider(n)),
+        Ok(None) => 0,
+        Ok(Some(mark)) => packed(1, mark),
+        Err(cause) => packed(2, u16::from(u8::from(cause))),
     }
 }
 
@@ -258,65 +250,26 @@ fn narrow(op: usize) -> u8
 }
 
 // The call at p on lent arrays: its answer as a number.
-fn call_in(
-    opened: &mut [u16; OPENED],
-    cells: &mut [u16; CELLS],
-    visible: &mut [u8; 1024],
-    scopes: &mut [u16; 1024],
-    marks: &mut [u16; 1024],
-    n0: &mut [u64; 1024],
-    n1: &mut [u64; 1024],
-    n2: &mut [u64; 1024],
-    n3: &mut [u64; 1024],
-    s: &[u8],
-    p: usize,
-) -> u32
+fn call_in(tree: &mut Lent, s: &[u8], p: usize) -> u32
     requires { p < 16777216 }
-    ensures { Turned (packed_in opened.old cells.old visible.old scopes.old marks.old n0.old n1.old n2.old n3.old) (order_at s.now p) result (packed_in opened.new cells.new visible.new scopes.new marks.new n0.new n1.new n2.new n3.new) }
+    ensures kept { Kept tree.old tree.new }
+    ensures turned { Turned (lent_in tree.old) (order_at s.now p) result (lent_in tree.new) }
 {
     let op = byte(s, p);
     if op == 6 {
         let n = pair(s, p + 1);
         let v = byte(s, p + 3 + n) == 1;
-        return shown(scopes::lent::call(
-            &mut *opened,
-            &mut *cells,
-            &mut *visible,
-            &mut *scopes,
-            &mut *marks,
-            &mut *n0,
-            &mut *n1,
-            &mut *n2,
-            &mut *n3,
-            6,
-            part(s, p + 3, n),
-            v,
-            0,
-        ));
+        return shown(scopes::lent::call(tree, 6, part(s, p + 3, n), v, 0));
     }
     if is_call(op) {
         let n = byte(s, p + 1);
         let e = p + 2 + n;
         let v = byte(s, e) == 1;
         let m = mark(s, e + 1);
-        return shown(scopes::lent::call(
-            &mut *opened,
-            &mut *cells,
-            &mut *visible,
-            &mut *scopes,
-            &mut *marks,
-            &mut *n0,
-            &mut *n1,
-            &mut *n2,
-            &mut *n3,
-            narrow(op),
-            part(s, p + 2, n),
-            v,
-            m,
-        ));
+        return shown(scopes::lent::call(tree, narrow(op), part(s, p + 2, n), v, m));
     }
-    *opened = [0u16; OPENED];
-    *cells = [0u16; CELLS];
+    *tree.opened = [0u16; OPENED];
+    *tree.cells = [0u16; CELLS];
     0
 }
 
@@ -334,6 +287,17 @@ pub fn scopes_walk(s: &[u8], out: &mut [u32]) -> usize
     let mut n1 = [0u64; 1024];
     let mut n2 = [0u64; 1024];
     let mut n3 = [0u64; 1024];
+    let mut tree = Lent {
+        opened: &mut opened,
+        cells: &mut cells,
+        visible: &mut visible,
+        scopes: &mut scopes,
+        marks: &mut marks,
+        n0: &mut n0,
+        n1: &mut n1,
+        n2: &mut n2,
+        n3: &mut n3,
+    };
     let mut p: usize = 0;
     let mut i: usize = 0;
     while i < 16000000 {
@@ -343,19 +307,7 @@ pub fn scopes_walk(s: &[u8], out: &mut [u32]) -> usize
         if 16777216 <= p {
             return i;
         }
-        let a = call_in(
-            &mut opened,
-            &mut cells,
-            &mut visible,
-            &mut scopes,
-            &mut marks,
-            &mut n0,
-            &mut n1,
-            &mut n2,
-            &mut n3,
-            s,
-            p,
-        );
+        let a = call_in(&mut tree, s, p);
         put(out, i, a);
         p = after(s, p);
         i += 1;

@@ -18,7 +18,7 @@ pub loop-i-smaller : goal.loop-i-smaller
 loop-i-smaller c = omega arith
 
 pub loop-i-preserved : goal.loop-i-preserved
-loop-i-preserved c = walking_turn _ _ _ _ _ _ c.loop-i.invariant c.loop-i-test.true c.if-s-p.false c.if-p-ge16777216.false _ _ c.call_in-a.ensures _ c.put.ensures.0 c.put.ensures.1 _ c.after-p.ensures.0 c.after-p.ensures.1
+loop-i-preserved c = walking_turn _ _ _ _ _ _ c.loop-i.invariant c.loop-i-test.true c.if-s-p.false c.if-p-ge16777216.false _ _ c.call_in-a.ensures.turned _ c.put.ensures.0 c.put.ensures.1 _ c.after-p.ensures.0 c.after-p.ensures.1
 
 pub returns : goal.returns
 returns c = (walking_end _ _ _ _ _ _ c.loop-i.invariant c.loop-i-test.false).walked

@@ -1,45 +1,59 @@
-use native.Mathlib.Omega.{arith}
-use mathlib.Core.Path.{refl}
-use Rattle.decision.specs.Decided.{decided_no, decided_told, decided_yes, at-counts}
-use Rattle.decision.specs.Starts.{starts_fit, starts-few}
-use Rattle.decision.specs.Uses.{use_lost, use_main, use_refused, use_full, use_done, few_staged}
+use Rattle.std.proofs.Common.{sym, refl, ◌∙◌, ◌≤◌, arith}
+use Rattle.std.proofs.lemmas.Result.{err_from_is_err_and}
+use Rattle.refusal.specs.declared.Cause.TheVariants.{NoCrateWord, AliasMain, TreeFull}
+use Rattle.scope_tree.specs.Told.{number-some}
+use Rattle.decision.specs.Decided.{decided_no, decided_yes}
+use Rattle.decision.specs.Uses.{segment_bound, element_bound, use_bad, use_empty, use_no_crate, use_lost, use_main, use_refused, use_full, use_done}
 use Rattle.decision.proofs.decide.uses.Goals as goal
+use Rattle.decision.proofs.decide.uses.Goals.{then-segments-eq0-via-then-segments-eq0, then-segments-eq0-via-else-segments-eq0+then-not-is_crate}
 
-pub returns-then-b-ne0 : goal.returns-then-b-ne0
-returns-then-b-ne0 c = decided_no _ _ _ _ c.refused.ensures c.if-b-ne0.true (λ v. c.started-b.ensures.refused c.if-b-ne0.true _ refl refl v)
+pub returns-in_err-use_form : goal.returns-in_err-use_form
+returns-in_err-use_form c =
+    let p = err_from_is_err_and c.from_residual.result c.from_residual.ensures.1 in
+    rw (p.1, p.2) (decided_no _ _ _ (λ v. use_bad _ _ v _ (sym c.in_err-use_form.ensures) (number-some _)))
 
-pub overflow_sub-b : goal.overflow_sub-b
-overflow_sub-b c = let z = (c.started-b.ensures.begins c.if-b-ne0.false).some in omega arith
+pub returns-then-segments-eq0 : goal.returns-then-segments-eq0
+returns-then-segments-eq0 c =
+    decided_no _ _ NoCrateWord (λ v. elim c.then-segments-eq0.branch [
+      | then-segments-eq0-via-then-segments-eq0 w ↦ use_empty _ _ v (sym c.in_ok-use_form.ensures) c.byte_at-segments.ensures w.if-segments-eq0.true
+      | then-segments-eq0-via-else-segments-eq0+then-not-is_crate w ↦ use_no_crate _ _ v (sym c.in_ok-use_form.ensures) c.byte_at-segments.ensures w.if-segments-eq0.false w.string_at.ensures w.is_crate.ensures w.if-not-is_crate.true
+    ])
 
-pub navigate-way-requires : goal.navigate-way-requires
-navigate-way-requires c = let b = c.started-b.ensures.begins c.if-b-ne0.false in (b.few, (b.shallow, starts_fit _ _ _ b))
+pub navigate-requires-clause-short : goal.navigate-requires-clause-short
+navigate-requires-clause-short c = omega (arith, segment_bound _ (sym c.in_ok-use_form.ensures) c.byte_at-segments.ensures, c.next.ensures.1)
 
-pub returns-then-way-ne0 : goal.returns-then-way-ne0
-returns-then-way-ne0 c = let b = c.started-b.ensures.begins c.if-b-ne0.false in at-counts _ _ _ _ _ b.total b.depth (decided_no _ _ _ _ c.refused-then-way-ne0.ensures c.if-way-ne0.true (λ v. use_lost _ _ v _ refl b.form _ b.segments b.some _ refl _ b.led refl _ b.next _ c.navigate-way.ensures c.if-way-ne0.true))
-
-pub overflow_add-first : goal.overflow_add-first
-overflow_add-first c = let u = starts_fit _ _ _ (c.started-b.ensures.begins c.if-b-ne0.false) in omega arith
+pub returns-in_err-way : goal.returns-in_err-way
+returns-in_err-way c =
+    let p = err_from_is_err_and c.from_residual-in_err-way.result c.from_residual-in_err-way.ensures.1 in
+    rw (p.1, p.2)
+    (decided_no _ _ _ (λ v. use_lost _ _ v (sym c.in_ok-use_form.ensures) c.byte_at-segments.ensures c.if-segments-eq0.false c.string_at.ensures c.is_crate.ensures c.if-not-is_crate.false c.next.ensures _ c.in_err-way.ensures))
 
 pub any_main-requires : goal.any_main-requires
-any_main-requires c = let b = c.started-b.ensures.begins c.if-b-ne0.false in let u = starts_fit _ _ _ b in let k = starts-few _ _ _ b _ (c.navigate-way.ensures.next c.if-way-ne0.false) _ c.byte_at-elements.ensures in omega arith
+any_main-requires c =
+    omega (arith, element_bound _ (sym c.in_ok-use_form.ensures) c.byte_at-segments.ensures c.if-segments-eq0.false c.next.ensures c.in_ok-way.ensures.next c.byte_at-elements.ensures, segment_bound _ (sym c.in_ok-use_form.ensures) c.byte_at-segments.ensures, c.in_ok-way.ensures.below, c.next.ensures.1)
 
 pub returns-then-any_main : goal.returns-then-any_main
-returns-then-any_main c = let b = c.started-b.ensures.begins c.if-b-ne0.false in at-counts _ _ _ _ _ b.total b.depth (decided_no _ _ _ _ c.refused-then-any_main.ensures (λ e. omega arith) (λ v. use_main _ _ v _ refl b.form _ b.segments b.some _ refl _ b.led refl _ b.next _ c.navigate-way.ensures c.if-way-ne0.false _ c.byte_at-elements.ensures _ c.any_main.ensures c.if-any_main.true))
+returns-then-any_main c =
+    decided_no _ _ AliasMain (λ v. use_main _ _ v (sym c.in_ok-use_form.ensures) c.byte_at-segments.ensures c.if-segments-eq0.false c.string_at.ensures c.is_crate.ensures c.if-not-is_crate.false c.next.ensures c.in_ok-way.ensures c.byte_at-elements.ensures c.any_main.ensures c.if-any_main.true)
 
-pub current-here-requires : goal.current-here-requires
-current-here-requires c = (c.started-b.ensures.begins c.if-b-ne0.false).shallow
+pub stage-requires : goal.stage-requires
+stage-requires c =
+    let m = element_bound _ (sym c.in_ok-use_form.ensures) c.byte_at-segments.ensures c.if-segments-eq0.false c.next.ensures c.in_ok-way.ensures.next c.byte_at-elements.ensures in
+    let n = segment_bound _ (sym c.in_ok-use_form.ensures) c.byte_at-segments.ensures in
+    (omega (arith, c.in_ok-way.ensures.time, c.in_ok-here.ensures.few), (m, omega (arith, c.in_ok-way.ensures.below, c.next.ensures.1)))
 
-pub stage-staged-requires : goal.stage-staged-requires
-stage-staged-requires c = let b = c.started-b.ensures.begins c.if-b-ne0.false in let u = starts_fit _ _ _ b in let k = starts-few _ _ _ b _ (c.navigate-way.ensures.next c.if-way-ne0.false) _ c.byte_at-elements.ensures in let i = b.few in (i, (omega arith, (k, omega arith)))
+pub returns-in_err-batch : goal.returns-in_err-batch
+returns-in_err-batch c =
+    let p = err_from_is_err_and c.from_residual-in_err-batch.result c.from_residual-in_err-batch.ensures.1 in
+    rw (p.1, p.2)
+    (decided_no _ _ _ (λ v. rw c.in_err-batch.ensures (use_refused _ _ v (sym c.in_ok-use_form.ensures) c.byte_at-segments.ensures c.if-segments-eq0.false c.string_at.ensures c.is_crate.ensures c.if-not-is_crate.false c.next.ensures c.in_ok-way.ensures c.byte_at-elements.ensures c.any_main.ensures c.if-any_main.false c.in_ok-here.ensures.scope c.in_ok-here.ensures.time refl (λ z. number-some _ (c.in_err-batch.ensures ∙ z)))))
 
-pub returns-then-told-ne0 : goal.returns-then-told-ne0
-returns-then-told-ne0 c = let b = c.started-b.ensures.begins c.if-b-ne0.false in at-counts _ _ _ _ _ b.total b.depth (decided_told _ _ _ c.if-told-ne0.true (λ v. use_refused _ _ v _ refl b.form _ b.segments b.some _ refl _ b.led refl _ b.next _ c.navigate-way.ensures c.if-way-ne0.false _ c.byte_at-elements.ensures _ c.any_main.ensures c.if-any_main.false _ c.current-here.ensures _ c.stage-staged.ensures c.if-told-ne0.true))
-
-pub overflow_add-b : goal.overflow_add-b
-overflow_add-b c = let b = c.started-b.ensures.begins c.if-b-ne0.false in let r = few_staged _ _ _ _ _ _ _ _ _ c.stage-staged.ensures (starts-few _ _ _ b _ (c.navigate-way.ensures.next c.if-way-ne0.false) _ c.byte_at-elements.ensures) in let i = b.few in omega arith
-
-pub returns-then-b-staged-gt-ENTRIES : goal.returns-then-b-staged-gt-ENTRIES
-returns-then-b-staged-gt-ENTRIES c = let b = c.started-b.ensures.begins c.if-b-ne0.false in at-counts _ _ _ _ _ b.total b.depth (decided_no _ _ _ _ c.refused-then-b-staged-gt-ENTRIES.ensures (λ e. omega arith) (λ v. use_full _ _ v _ refl b.form _ b.segments b.some _ refl _ b.led refl _ b.next _ c.navigate-way.ensures c.if-way-ne0.false _ c.byte_at-elements.ensures _ c.any_main.ensures c.if-any_main.false _ c.current-here.ensures _ c.stage-staged.ensures c.if-told-ne0.false c.if-b-staged-gt-ENTRIES.true))
+pub returns-then-here-batch-gt-ENTRIES : goal.returns-then-here-batch-gt-ENTRIES
+returns-then-here-batch-gt-ENTRIES c =
+    decided_no _ _ TreeFull (λ v. use_full _ _ v (sym c.in_ok-use_form.ensures) c.byte_at-segments.ensures c.if-segments-eq0.false c.string_at.ensures c.is_crate.ensures c.if-not-is_crate.false c.next.ensures c.in_ok-way.ensures c.byte_at-elements.ensures c.any_main.ensures c.if-any_main.false c.in_ok-here.ensures.scope c.in_ok-here.ensures.time c.in_ok-batch.ensures refl (omega (arith, c.in_ok-here.ensures.time)))
 
 pub returns : goal.returns
-returns c = let b = c.started-b.ensures.begins c.if-b-ne0.false in let f = few_staged _ _ _ _ _ _ _ _ _ c.stage-staged.ensures (starts-few _ _ _ b _ (c.navigate-way.ensures.next c.if-way-ne0.false) _ c.byte_at-elements.ensures) in at-counts _ _ _ _ _ b.total b.depth (decided_yes _ _ _ c.if-told-ne0.false b.shallow c.if-b-staged-gt-ENTRIES.false f _ c.current-here.ensures (λ v z y q o e. use_done _ _ v _ refl b.form _ b.segments b.some _ refl _ b.led refl _ b.next _ c.navigate-way.ensures c.if-way-ne0.false _ c.byte_at-elements.ensures _ c.any_main.ensures c.if-any_main.false _ c.current-here.ensures _ c.stage-staged.ensures c.if-told-ne0.false c.if-b-staged-gt-ENTRIES.false z y q o e))
+returns c =
+    let few : c.in_ok-batch.batch.count ≤ 96 = c.in_ok-batch.batch.few in
+    decided_yes _ _ _ refl c.in_ok-here.ensures.shallow (omega (arith, c.in_ok-here.ensures.time)) few c.in_ok-here.ensures.scope
+    (λ v z y q o e. use_done _ _ v (sym c.in_ok-use_form.ensures) c.byte_at-segments.ensures c.if-segments-eq0.false c.string_at.ensures c.is_crate.ensures c.if-not-is_crate.false c.next.ensures c.in_ok-way.ensures c.byte_at-elements.ensures c.any_main.ensures c.if-any_main.false c.in_ok-here.ensures.scope c.in_ok-here.ensures.time c.in_ok-batch.ensures refl (omega (arith, c.in_ok-here.ensures.time)) z y q o e)

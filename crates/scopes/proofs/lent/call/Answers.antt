@@ -1,19 +1,55 @@
-use mathlib.Core.List.{[]}
-use Rattle.scope_tree.specs.Trees.{packed_in}
-use Rattle.scopes.specs.Declares.{call-exit, call_use, call_declare, call-ready, call-get}
+use Rattle.std.proofs.Common.{arith}
+use Rattle.std.proofs.Math.Logic.{inl, inr}
+use Rattle.std.proofs.lemmas.Result.{err_from_is_err_and}
+use Rattle.commit.specs.Lending.{lent_in}
+use Rattle.scopes.specs.Declares.{call_enter, call-exit, call_type, call_function, call-get_alias, call-get_function}
 use Rattle.scopes.proofs.lent.call.Goals as goal
+use Rattle.scopes.proofs.lent.call.Goals.{in_default-via-then-this-lt1, in_default-via-else-this-lt1+else-this-lt5}
 
-pub returns-then-code-eq2 : goal.returns-then-code-eq2
-returns-then-code-eq2 c = call-exit _ _ _ _ _ _ _ c.if-code-eq2.true (c.exit.ensures (packed_in [] _ _ _ _ _ _ _ _))
+pub returns-in_err-declare-in-1-clause-met : goal.returns-in_err-declare-in-1-clause-met
+returns-in_err-declare-in-1-clause-met c =
+    let p = err_from_is_err_and c.from_residual.result c.from_residual.ensures.1 in
+    rw (p.1, p.2) (call_enter _ _ _ _ _ _ _ c.in-1.is c.in_err-declare-in-1.ensures.declared)
 
-pub returns-then-code-eq6 : goal.returns-then-code-eq6
-returns-then-code-eq6 c = call_use _ _ _ _ _ _ _ c.if-code-eq6.true c.resolve_use.ensures
+pub returns-in_ok-declare-in-1-clause-met : goal.returns-in_ok-declare-in-1-clause-met
+returns-in_ok-declare-in-1-clause-met c = call_enter _ _ _ _ _ _ _ c.in-1.is c.in_ok-declare-in-1.ensures.declared
 
-pub returns-then-k-eq0 : goal.returns-then-k-eq0
-returns-then-k-eq0 c = call-get _ _ _ _ _ _ _ _ c.if-code-eq2.false c.if-code-eq6.false c.kind_of-k.ensures c.if-k-eq0.true c.asked.ensures (c.get.ensures _)
+pub returns-in_err-exit-in-2-clause-met : goal.returns-in_err-exit-in-2-clause-met
+returns-in_err-exit-in-2-clause-met c =
+    let p = err_from_is_err_and c.from_residual-in_err-exit-in-2.result c.from_residual-in_err-exit-in-2.ensures.1 in
+    rw (p.1, p.2) (call-exit _ _ _ _ _ _ _ c.in-2.is (c.in_err-exit-in-2.ensures (lent_in c.args.tree.now)))
 
-pub declare-requires : goal.declare-requires
-declare-requires c = call-ready _ _ c.kind_of-k.ensures c.if-k-eq0.false
+pub returns-in_ok-exit-in-2-clause-met : goal.returns-in_ok-exit-in-2-clause-met
+returns-in_ok-exit-in-2-clause-met c = call-exit _ _ _ _ _ _ _ c.in-2.is (c.in_ok-exit-in-2.ensures (lent_in c.args.tree.now))
 
-pub returns : goal.returns
-returns c = call_declare _ _ _ _ _ _ _ _ c.kind_of-k.ensures c.if-k-eq0.false c.declare.ensures
+pub returns-in_err-declare-in-3-clause-met : goal.returns-in_err-declare-in-3-clause-met
+returns-in_err-declare-in-3-clause-met c =
+    let p = err_from_is_err_and c.from_residual-in_err-declare-in-3.result c.from_residual-in_err-declare-in-3.ensures.1 in
+    rw (p.1, p.2) (call_type _ _ c.args.code _ _ _ _ (omega arith) (omega arith) c.in_err-declare-in-3.ensures.declared)
+
+pub returns-in_ok-declare-in-3-clause-met : goal.returns-in_ok-declare-in-3-clause-met
+returns-in_ok-declare-in-3-clause-met c = call_type _ _ c.args.code _ _ _ _ (omega arith) (omega arith) c.in_ok-declare-in-3.ensures.declared
+
+pub returns-in_err-declare-in-5-clause-met : goal.returns-in_err-declare-in-5-clause-met
+returns-in_err-declare-in-5-clause-met c =
+    let p = err_from_is_err_and c.from_residual-in_err-declare-in-5.result c.from_residual-in_err-declare-in-5.ensures.1 in
+    rw (p.1, p.2) (call_function _ _ _ _ _ _ _ c.in-5.is c.in_err-declare-in-5.ensures.declared)
+
+pub returns-in_ok-declare-in-5-clause-met : goal.returns-in_ok-declare-in-5-clause-met
+returns-in_ok-declare-in-5-clause-met c = call_function _ _ _ _ _ _ _ c.in-5.is c.in_ok-declare-in-5.ensures.declared
+
+pub returns-in_err-get-in-7-clause-met : goal.returns-in_err-get-in-7-clause-met
+returns-in_err-get-in-7-clause-met c =
+    let p = err_from_is_err_and c.from_residual-in_err-get-in-7.result c.from_residual-in_err-get-in-7.ensures.1 in
+    rw (p.1, p.2) (call-get_alias _ (lent_in c.args.tree.now) _ _ _ _ _ c.in-7.is c.view.ensures c.in_err-get-in-7.ensures)
+
+pub returns-in-7-clause-met : goal.returns-in-7-clause-met
+returns-in-7-clause-met c = call-get_alias _ (lent_in c.args.tree.now) _ _ _ _ _ c.in-7.is c.view.ensures c.in_ok-get-in-7.ensures
+
+pub returns-in_err-get-in_default-clause-met : goal.returns-in_err-get-in_default-clause-met
+returns-in_err-get-in_default-clause-met c =
+    let p = err_from_is_err_and c.from_residual-in_err-get-in_default.result c.from_residual-in_err-get-in_default.ensures.1 in
+    rw (p.1, p.2) (call-get_function _ (lent_in c.args.tree.now) c.args.code _ _ _ _ (elim c.in_default.branch [ in_default-via-then-this-lt1 w ↦ inl (omega arith) | in_default-via-else-this-lt1+else-this-lt5 w ↦ inr (omega arith) ]) c.view-in_default.ensures c.in_err-get-in_default.ensures)
+
+pub returns-in_default-clause-met : goal.returns-in_default-clause-met
+returns-in_default-clause-met c = call-get_function _ (lent_in c.args.tree.now) c.args.code _ _ _ _ (elim c.in_default.branch [ in_default-via-then-this-lt1 w ↦ inl (omega arith) | in_default-via-else-this-lt1+else-this-lt5 w ↦ inr (omega arith) ]) c.view-in_default.ensures c.in_ok-get-in_default.ensures

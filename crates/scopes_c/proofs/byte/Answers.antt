@@ -1,7 +1,0 @@
-use Rattle.std.proofs.Common.{rules}
-use lib.ListN.{get_or-eq_default}
-use mathlib.Core.Path.{sym}
-use Rattle.scopes_c.proofs.byte.Goals as goal
-
-pub returns : goal.returns
-returns c = (sym (get_or-eq_default c.args.s.now 0 c.if-at-s.false), search rules)
