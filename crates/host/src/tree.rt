@@ -4,28 +4,26 @@
 ghost use Rattle.host.specs.TreeTold.{TreeTold, FoundTold, number_in, mark_in, rows_number, tree_rows, rows_count};
 ghost use Rattle.scope_tree.specs.Form.{enters, exits, inserts_alias, inserts_enum, inserts_function, resolves_use, gets_alias, gets_function};
 ghost use Rattle.scope_tree.specs.Trees.{packed_in};
+ghost use Rattle.scope_tree.specs.Told.{mark_told};
 ghost use Rattle.std.specs.Prelude.{eqb, ◌≡◌};
 
 use crate::{ENTRIES, ROWS, TREE_CELLS, TREE_OPENED};
-use scopes::Answer;
-
-fn wide(mark: u16) -> usize
-    ensures { result ≡ mark }
-{
-    mark as usize
-}
+use decision::decide;
+use refusal::Cause;
+use scope_tree::Kind;
+use scope_tree::look::View;
+use scopes::lent::Lent;
 
 // An answer's number, and its mark where it has one.
-fn tell_found(answer: Answer, mark: &mut usize) -> u8
-    ensures { (result ≡ number_in answer) × (mark.new ≡ mark_in answer mark.old) }
+fn tell_found(answer: Result<u16, Cause>, mark: &mut usize) -> u8
+    ensures { (result ≡ number_in (mark_told answer)) × (mark.new ≡ mark_in (mark_told answer) mark.old) }
 {
     match answer {
-        Answer::Done => 0,
-        Answer::Mark(m) => {
-            *mark = wide(m);
+        Ok(m) => {
+            *mark = usize::from(m);
             0
         }
-        Answer::Refused(n) => n,
+        Err(cause) => u8::from(cause),
     }
 }
 
@@ -48,21 +46,18 @@ pub extern "C" fn gontsamy_enter(
 ) -> u8
     ensures { TreeTold (packed_in opened.old cells.old visible.old scopes.old marks.old n0.old n1.old n2.old n3.old) (enters name.now (eqb public 1) mark) result (packed_in opened.new cells.new visible.new scopes.new marks.new n0.new n1.new n2.new n3.new) }
 {
-    scopes::number_of(scopes::lent::call(
-        &mut *opened,
-        &mut *cells,
-        &mut *visible,
-        &mut *scopes,
-        &mut *marks,
-        &mut *n0,
-        &mut *n1,
-        &mut *n2,
-        &mut *n3,
-        1,
-        name,
-        public == 1,
-        mark,
-    ))
+    let mut tree = Lent {
+        opened,
+        cells,
+        visible,
+        scopes,
+        marks,
+        n0,
+        n1,
+        n2,
+        n3,
+    };
+    scopes::number_of(scopes::lent::call(&mut tree, 1, name, public == 1, mark))
 }
 
 // The innermost open module is left. Ruled out: 0 at the root; an entry lost on leaving.
@@ -80,21 +75,18 @@ pub extern "C" fn gontsamy_exit(
 ) -> u8
     ensures { TreeTold (packed_in opened.old cells.old visible.old scopes.old marks.old n0.old n1.old n2.old n3.old) exits result (packed_in opened.new cells.new visible.new scopes.new marks.new n0.new n1.new n2.new n3.new) }
 {
-    scopes::number_of(scopes::lent::call(
-        &mut *opened,
-        &mut *cells,
-        &mut *visible,
-        &mut *scopes,
-        &mut *marks,
-        &mut *n0,
-        &mut *n1,
-        &mut *n2,
-        &mut *n3,
-        2,
-        b"",
-        false,
-        0,
-    ))
+    let mut tree = Lent {
+        opened,
+        cells,
+        visible,
+        scopes,
+        marks,
+        n0,
+        n1,
+        n2,
+        n3,
+    };
+    scopes::number_of(scopes::lent::call(&mut tree, 2, b"", false, 0))
 }
 
 // A type alias. Ruled out: 0 where the current module holds a type of that name; 51 with a place left.
@@ -115,21 +107,18 @@ pub extern "C" fn gontsamy_insert_alias(
 ) -> u8
     ensures { TreeTold (packed_in opened.old cells.old visible.old scopes.old marks.old n0.old n1.old n2.old n3.old) (inserts_alias name.now (eqb public 1) mark) result (packed_in opened.new cells.new visible.new scopes.new marks.new n0.new n1.new n2.new n3.new) }
 {
-    scopes::number_of(scopes::lent::call(
-        &mut *opened,
-        &mut *cells,
-        &mut *visible,
-        &mut *scopes,
-        &mut *marks,
-        &mut *n0,
-        &mut *n1,
-        &mut *n2,
-        &mut *n3,
-        3,
-        name,
-        public == 1,
-        mark,
-    ))
+    let mut tree = Lent {
+        opened,
+        cells,
+        visible,
+        scopes,
+        marks,
+        n0,
+        n1,
+        n2,
+        n3,
+    };
+    scopes::number_of(scopes::lent::call(&mut tree, 3, name, public == 1, mark))
 }
 
 // An enum, a type. Ruled out: 49 in the place of 48; arrays that differ after a refusal.
@@ -150,21 +139,18 @@ pub extern "C" fn gontsamy_insert_enum(
 ) -> u8
     ensures { TreeTold (packed_in opened.old cells.old visible.old scopes.old marks.old n0.old n1.old n2.old n3.old) (inserts_enum name.now (eqb public 1) mark) result (packed_in opened.new cells.new visible.new scopes.new marks.new n0.new n1.new n2.new n3.new) }
 {
-    scopes::number_of(scopes::lent::call(
-        &mut *opened,
-        &mut *cells,
-        &mut *visible,
-        &mut *scopes,
-        &mut *marks,
-        &mut *n0,
-        &mut *n1,
-        &mut *n2,
-        &mut *n3,
-        4,
-        name,
-        public == 1,
-        mark,
-    ))
+    let mut tree = Lent {
+        opened,
+        cells,
+        visible,
+        scopes,
+        marks,
+        n0,
+        n1,
+        n2,
+        n3,
+    };
+    scopes::number_of(scopes::lent::call(&mut tree, 4, name, public == 1, mark))
 }
 
 // A function. Ruled out: a refusal because a type or a module has the name; an entry in the root and not in the open module.
@@ -185,21 +171,18 @@ pub extern "C" fn gontsamy_insert_function(
 ) -> u8
     ensures { TreeTold (packed_in opened.old cells.old visible.old scopes.old marks.old n0.old n1.old n2.old n3.old) (inserts_function name.now (eqb public 1) mark) result (packed_in opened.new cells.new visible.new scopes.new marks.new n0.new n1.new n2.new n3.new) }
 {
-    scopes::number_of(scopes::lent::call(
-        &mut *opened,
-        &mut *cells,
-        &mut *visible,
-        &mut *scopes,
-        &mut *marks,
-        &mut *n0,
-        &mut *n1,
-        &mut *n2,
-        &mut *n3,
-        5,
-        name,
-        public == 1,
-        mark,
-    ))
+    let mut tree = Lent {
+        opened,
+        cells,
+        visible,
+        scopes,
+        marks,
+        n0,
+        n1,
+        n2,
+        n3,
+    };
+    scopes::number_of(scopes::lent::call(&mut tree, 5, name, public == 1, mark))
 }
 
 // A use in the bundle's form: segment count, segments, element count, each element a name and an alias. Ruled out: 0 with nothing
@@ -220,21 +203,18 @@ pub extern "C" fn gontsamy_resolve_use(
 ) -> u8
     ensures { TreeTold (packed_in opened.old cells.old visible.old scopes.old marks.old n0.old n1.old n2.old n3.old) (resolves_use decl.now (eqb public 1)) result (packed_in opened.new cells.new visible.new scopes.new marks.new n0.new n1.new n2.new n3.new) }
 {
-    scopes::number_of(scopes::lent::call(
-        &mut *opened,
-        &mut *cells,
-        &mut *visible,
-        &mut *scopes,
-        &mut *marks,
-        &mut *n0,
-        &mut *n1,
-        &mut *n2,
-        &mut *n3,
-        6,
-        decl,
-        public == 1,
-        0,
-    ))
+    let mut tree = Lent {
+        opened,
+        cells,
+        visible,
+        scopes,
+        marks,
+        n0,
+        n1,
+        n2,
+        n3,
+    };
+    scopes::number_of(scopes::lent::call(&mut tree, 6, decl, public == 1, 0))
 }
 
 // The mark of the type of that name in the current module. Ruled out: the mark of one in an outer module; 43 where a use imported it.
@@ -254,10 +234,18 @@ pub extern "C" fn gontsamy_get_alias<'a>(
 ) -> u8
     ensures { FoundTold (packed_in opened.now cells.now visible.now scopes.now marks.now n0.now n1.now n2.now n3.now) (gets_alias name.now) mark.old result mark.new }
 {
-    tell_found(
-        decision::decide::get(opened, cells, scopes, marks, n0, n1, n2, n3, name, 1),
-        mark,
-    )
+    let tree = View {
+        opened,
+        cells,
+        visible,
+        scopes,
+        marks,
+        n0,
+        n1,
+        n2,
+        n3,
+    };
+    tell_found(decide::get(&tree, name, Kind::Type), mark)
 }
 
 // The mark of the function of that name in the current module. Ruled out: the mark of a type of that name.
@@ -277,10 +265,18 @@ pub extern "C" fn gontsamy_get_function<'a>(
 ) -> u8
     ensures { FoundTold (packed_in opened.now cells.now visible.now scopes.now marks.now n0.now n1.now n2.now n3.now) (gets_function name.now) mark.old result mark.new }
 {
-    tell_found(
-        decision::decide::get(opened, cells, scopes, marks, n0, n1, n2, n3, name, 2),
-        mark,
-    )
+    let tree = View {
+        opened,
+        cells,
+        visible,
+        scopes,
+        marks,
+        n0,
+        n1,
+        n2,
+        n3,
+    };
+    tell_found(decide::get(&tree, name, Kind::Function), mark)
 }
 
 // A tree's entries in `rows`, ROW numbers each, and how many they are in `count`. 14 where `rows` is shorter than ROWS, and 51 where the
