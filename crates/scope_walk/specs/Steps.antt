@@ -13,11 +13,10 @@ use Rattle.bundle.specs.Decode.{after, after_length, item_at, items_at, decode}
 use Rattle.bundle.specs.Access.{inside_of, items-end, items-step, item_module, item_use, item-ignored, item-named, by_kind, kind_of, rest_of, inner_of, visibility_of, first_inner, first-visibility}
 use Rattle.encoder.specs.Started.{started}
 use Rattle.scope_tree.specs.Form.{Request, enters, exits, resolves_use, call_of}
-use Rattle.scopes.specs.Meets.{Meets, number_of_told, request, declares, left}
+use Rattle.scopes.specs.Meets.{Outcome, Meets, number_of_told, request, declares, left}
 use Rattle.scope_tree.specs.Note.{accepted}
 use Rattle.scope_tree.specs.Views.{told}
 use Rattle.scope_tree.specs.Told.{Told, Done, Mark, Refused}
-use Rattle.scopes.specs.declared.Outcome.{Outcome}
 use Rattle.scope_tree.specs.Step.{Answer, ok, marked, refused, Model, step}
 use Rattle.scope_tree.specs.Flat.{Flat, flat}
 use Rattle.scope_tree.specs.Trees.{Good, flat_of}

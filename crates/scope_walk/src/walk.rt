@@ -6,14 +6,15 @@ ghost use Rattle.discovery.specs.Walk.{UseMark};
 ghost use Rattle.assembly.specs.Assemble.{file_of};
 ghost use Rattle.assembly.specs.Given.{UnitsGiven, OrderGiven};
 ghost use Rattle.assembly.specs.Targets.{InFile};
-ghost use Rattle.scope_tree.specs.Trees.{packed_in, cleared};
+ghost use Rattle.scope_tree.specs.Trees.{cleared};
+ghost use Rattle.commit.specs.Lending.{lent_in, Kept};
 ghost use Rattle.scope_walk.specs.Steps.{use_size, Walks, stop_at};
 ghost use Rattle.scope_walk.specs.Units.{program_calls};
 ghost use Rattle.scope_walk.specs.Cursor.{call_code, call_public, taken_bytes, Fitting, Put};
 
 use crate::cursor::{Step, UNIT, next, start};
 use bundle::limits::{MODULE, USE};
-use scopes::{CELLS, OPENED};
+use scopes::lent::Lent;
 
 // Tree calls by their codes.
 const ENTER: u8 = 1;
@@ -113,25 +114,18 @@ pub struct Ended {
     pub place: usize,
 }
 
-// The tree calls of the units in their order, made on a tree that the caller lends as its arrays, zeros before: up to the first that is
+// The tree calls of the units in their order, made on a tree whose arrays the caller lends, zeros before: up to the first that is
 // refused. Ruled out: the tree of the entry's items alone; a unit's number told with the mark of its first item.
 pub fn walk_units<'a>(
     s: &[u8],
     files: &'a [usize],
     ids: &'a [u16],
     units: usize,
-    opened: &mut [u16; OPENED],
-    cells: &mut [u16; CELLS],
-    visible: &mut [u8; 1024],
-    scopes: &mut [u16; 1024],
-    marks: &mut [u16; 1024],
-    n0: &mut [u64; 1024],
-    n1: &mut [u64; 1024],
-    n2: &mut [u64; 1024],
-    n3: &mut [u64; 1024],
+    tree: &mut Lent,
 ) -> Ended
-    requires { OrderGiven s.now files.now ids.now units × (packed_in opened.old cells.old visible.old scopes.old marks.old n0.old n1.old n2.old n3.old ≡ cleared) }
-    ensures { Walks cleared (program_calls (decode s.now) (take units ids.now)) (stop_at result.number result.place) (packed_in opened.new cells.new visible.new scopes.new marks.new n0.new n1.new n2.new n3.new) }
+    requires { OrderGiven s.now files.now ids.now units × (lent_in tree.old ≡ cleared) }
+    ensures kept { Kept tree.old tree.new }
+    ensures walked { Walks cleared (program_calls (decode s.now) (take units ids.now)) (stop_at result.number result.place) (lent_in tree.new) }
 {
     let mut put = [0u8; USE_SIZE];
     let mut cursor = start();
@@ -148,15 +142,7 @@ pub fn walk_units<'a>(
                 let public = is_public(s, kind, p);
                 place = p;
                 number = scopes::number_of(scopes::lent::call(
-                    &mut *opened,
-                    &mut *cells,
-                    &mut *visible,
-                    &mut *scopes,
-                    &mut *marks,
-                    &mut *n0,
-                    &mut *n1,
-                    &mut *n2,
-                    &mut *n3,
+                    tree,
                     call_code(kind),
                     call_bytes(s, &put, m, kind, p),
                     public,
@@ -167,7 +153,7 @@ pub fn walk_units<'a>(
             }
             Step::Exit(p) => {
                 place = p;
-                number = scopes::number_of(scopes::lent::exit(&mut *opened));
+                number = scopes::number_of(scopes::lent::exit(&mut *tree.opened));
                 going = number == 0;
                 continue;
             }

@@ -9,7 +9,7 @@ use Rattle.scope_tree.specs.Trees.{Good, flat_of}
 use Rattle.scope_tree.specs.declared.Tree.{Tree}
 use Rattle.refusal.specs.declared.Cause.{Cause}
 use Rattle.scope_tree.specs.Forms.{fault}
-use Rattle.scope_tree.specs.Told.{Told, Done, Mark, Refused, call_told}
+use Rattle.scope_tree.specs.Told.{Told, Done, Mark, Refused, done_told, call_told}
 use Rattle.scopes.specs.declared.Outcome.{Outcome as Given}
 
 -- the number that a refusal tells; 0 where the call was accepted
@@ -22,6 +22,10 @@ pub number-told : (r : Result (Option ℕ) Cause) → fault r ≡ number_of_told
 number-told (Ok None) = refl
 number-told (Ok (Some m)) = refl
 number-told (Err c) = refl
+
+pub number-done : {A : Type 0} (r : Result A Cause) → fault r ≡ number_of_told (done_told r)
+number-done (Ok x) = refl
+number-done (Err c) = refl
 
 -- what a call tells, and the tree that it leaves
 pub record Outcome : Type 0 where

@@ -1,10 +1,11 @@
 use native.Mathlib.Omega.{arith}
+use Rattle.std.proofs.Common.{rules}
 use Prim.Native.Nat.{ℕ}
 use mathlib.Core.Path.{refl, ◌∙◌}
-use mathlib.Core.List.{[]}
 use lib.Dec.{eqb}
 use lib.ListN.{length-replicate}
-use Rattle.scope_tree.specs.Trees.{packed_in}
+use Rattle.commit.specs.Lending.{lent_in, kept-after}
+use Rattle.scopes.specs.Meets.{number-told, number-done}
 use Rattle.scope_walk.specs.Steps.{use_size, meets_request}
 use Rattle.scope_walk.specs.Cursor.{taken-bytes}
 use Rattle.scope_walk.specs.Loop.{walking_from, ready_as, turns_fall, walking_call, turns-end, walking_end}
@@ -12,7 +13,7 @@ use Rattle.scope_walk.specs.declared.cursor.Step.TheVariants as step
 use Rattle.scope_walk.proofs.walk.walk_units.Goals as goal
 
 pub loop-going-init : goal.loop-going-init
-loop-going-init c = (walking_from c.requires.1 c.start-cursor.ensures, length-replicate {A = ℕ} use_size 0)
+loop-going-init c = (walking_from c.requires.1 c.start-cursor.ensures, (length-replicate {A = ℕ} use_size 0, search rules))
 
 pub next-n-requires : goal.next-n-requires
 next-n-requires c = (c.requires.0, c.loop-going.invariant.0.stands)
@@ -20,7 +21,7 @@ next-n-requires c = (c.requires.0, c.loop-going.invariant.0.stands)
 pub put_call-m-requires : goal.put_call-m-requires
 put_call-m-requires c =
     let r = ready_as c.next-n.ensures (step.Call c.in-Call.kind c.in-Call.p) c.in-Call.is in
-    ((c.requires.0.of_units, c.next-n.ensures.stands.within r.0), (r.1.1, c.loop-going.invariant.1))
+    ((c.requires.0.of_units, c.next-n.ensures.stands.within r.0), (r.1.1, c.loop-going.invariant.1.0))
 
 pub is_public-public-requires : goal.is_public-public-requires
 is_public-public-requires c = (ready_as c.next-n.ensures (step.Call c.in-Call.kind c.in-Call.p) c.in-Call.is).1.0
@@ -39,7 +40,7 @@ loop-going-smaller-in-Call c =
 pub loop-going-preserved-in-Call : goal.loop-going-preserved-in-Call
 loop-going-preserved-in-Call c =
     let b = c.call_bytes.ensures ∙ taken-bytes c.put_call-m.ensures in
-    (walking_call c.next-n.ensures (step.Call c.in-Call.kind c.in-Call.p) c.in-Call.is refl c.loop-going.invariant.0 c.loop-going-test.true (meets_request c.call_code.ensures b c.is_public-public.ensures c.mark_of.ensures c.call.ensures) c.number_of-number.ensures, c.put_call-m.ensures.long)
+    (walking_call c.next-n.ensures (step.Call c.in-Call.kind c.in-Call.p) c.in-Call.is refl c.loop-going.invariant.0 c.loop-going-test.true (meets_request c.call_code.ensures b c.is_public-public.ensures c.mark_of.ensures c.call.ensures.met) (c.number_of-number.ensures ∙ number-told _), (c.put_call-m.ensures.long, kept-after c.loop-going.invariant.1.1 c.call.ensures.kept))
 
 pub loop-going-smaller-in-Exit : goal.loop-going-smaller-in-Exit
 loop-going-smaller-in-Exit c =
@@ -47,7 +48,8 @@ loop-going-smaller-in-Exit c =
 
 pub loop-going-preserved-in-Exit : goal.loop-going-preserved-in-Exit
 loop-going-preserved-in-Exit c =
-    (walking_call c.next-n.ensures (step.Exit c.in-Exit.p) c.in-Exit.is refl c.loop-going.invariant.0 c.loop-going-test.true (c.exit.ensures (packed_in [] c.loop-going.cells c.loop-going.visible c.loop-going.scopes c.loop-going.marks c.loop-going.n0 c.loop-going.n1 c.loop-going.n2 c.loop-going.n3)) c.number_of-number-in-Exit.ensures, c.loop-going.invariant.1)
+    let k = c.loop-going.invariant.1.1 in
+    (walking_call c.next-n.ensures (step.Exit c.in-Exit.p) c.in-Exit.is refl c.loop-going.invariant.0 c.loop-going-test.true (c.exit.ensures (lent_in c.loop-going.tree)) (c.number_of-number-in-Exit.ensures ∙ number-done _), (c.loop-going.invariant.1.0, record { opened = k.opened; cells = k.cells; visible = k.visible; scopes = k.scopes; marks = k.marks; n0 = k.n0; n1 = k.n1; n2 = k.n2; n3 = k.n3 }))
 
 pub loop-going-smaller : goal.loop-going-smaller
 loop-going-smaller c = turns-end c.next-n.ensures c.in-End.is c.loop-going.going c.loop-going-test.true
@@ -56,4 +58,4 @@ pub loop-going-preserved : goal.loop-going-preserved
 loop-going-preserved c = (walking_end c.next-n.ensures c.in-End.is c.loop-going.invariant.0 c.loop-going-test.true, c.loop-going.invariant.1)
 
 pub returns : goal.returns
-returns c = c.loop-going.invariant.0.over c.loop-going-test.false
+returns c = record { kept = c.loop-going.invariant.1.1; walked = c.loop-going.invariant.0.over c.loop-going-test.false }
