@@ -9,6 +9,7 @@ use crate::answers::told;
 use crate::{Linked, Told};
 use assembly::Imaged;
 use order::Answer;
+use scopes::lent::Lent;
 use scopes::{CELLS, OPENED, Tree};
 
 // The units in their order, of which `a` tells: their tree and their image, the number and the place of the first call that is refused,
@@ -33,21 +34,18 @@ pub fn link_units<'a>(
     let mut n1 = [0u64; 1024];
     let mut n2 = [0u64; 1024];
     let mut n3 = [0u64; 1024];
-    let e = scope_walk::walk_units(
-        s,
-        files,
-        ids,
-        units,
-        &mut opened,
-        &mut cells,
-        &mut visible,
-        &mut scopes,
-        &mut marks,
-        &mut n0,
-        &mut n1,
-        &mut n2,
-        &mut n3,
-    );
+    let mut tree = Lent {
+        opened: &mut opened,
+        cells: &mut cells,
+        visible: &mut visible,
+        scopes: &mut scopes,
+        marks: &mut marks,
+        n0: &mut n0,
+        n1: &mut n1,
+        n2: &mut n2,
+        n3: &mut n3,
+    };
+    let e = scope_walk::walk_units(s, files, ids, units, &mut tree);
     if e.number != 0 {
         return told(order::refuse(e.number, e.place));
     }
@@ -94,21 +92,18 @@ pub fn tell_units<'a>(
     let mut n1 = [0u64; 1024];
     let mut n2 = [0u64; 1024];
     let mut n3 = [0u64; 1024];
-    let end = scope_walk::walk_units(
-        s,
-        files,
-        ids,
-        units,
-        &mut opened,
-        &mut cells,
-        &mut visible,
-        &mut scopes,
-        &mut marks,
-        &mut n0,
-        &mut n1,
-        &mut n2,
-        &mut n3,
-    );
+    let mut tree = Lent {
+        opened: &mut opened,
+        cells: &mut cells,
+        visible: &mut visible,
+        scopes: &mut scopes,
+        marks: &mut marks,
+        n0: &mut n0,
+        n1: &mut n1,
+        n2: &mut n2,
+        n3: &mut n3,
+    };
+    let end = scope_walk::walk_units(s, files, ids, units, &mut tree);
     if end.number != 0 {
         return Told {
             answer: order::refuse(end.number, end.place),
