@@ -10,7 +10,6 @@ use crate::{Linked, Told};
 use assembly::Imaged;
 use order::Answer;
 use scopes::lent::Lent;
-use scopes::{CELLS, OPENED, Tree};
 
 // The units in their order, of which `a` tells: their tree and their image, the number and the place of the first call that is refused,
 // or 15, 14; without an image the tree is empty. Ruled out: an image where a call was refused.
@@ -25,27 +24,19 @@ pub fn link_units<'a>(
     requires { OrderGiven s.now files.now ids.now units }
     ensures { LinkedAs (assembled (decode s.now) (take units ids.now)) a image.old image.new result }
 {
-    let mut opened = [0u16; OPENED];
-    let mut cells = [0u16; CELLS];
-    let mut visible = [0u8; 1024];
-    let mut scopes = [0u16; 1024];
-    let mut marks = [0u16; 1024];
-    let mut n0 = [0u64; 1024];
-    let mut n1 = [0u64; 1024];
-    let mut n2 = [0u64; 1024];
-    let mut n3 = [0u64; 1024];
-    let mut tree = Lent {
-        opened: &mut opened,
-        cells: &mut cells,
-        visible: &mut visible,
-        scopes: &mut scopes,
-        marks: &mut marks,
-        n0: &mut n0,
-        n1: &mut n1,
-        n2: &mut n2,
-        n3: &mut n3,
+    let mut tree = scopes::empty();
+    let mut arrays = Lent {
+        opened: &mut tree.opened,
+        cells: &mut tree.cells,
+        visible: &mut tree.visible,
+        scopes: &mut tree.scopes,
+        marks: &mut tree.marks,
+        n0: &mut tree.n0,
+        n1: &mut tree.n1,
+        n2: &mut tree.n2,
+        n3: &mut tree.n3,
     };
-    let e = scope_walk::walk_units(s, files, ids, units, &mut tree);
+    let e = scope_walk::walk_units(s, files, ids, units, &mut arrays);
     if e.number != 0 {
         return told(order::refuse(e.number, e.place));
     }
@@ -54,20 +45,7 @@ pub fn link_units<'a>(
     let Imaged::Image(_) = written else {
         return told(answer);
     };
-    Linked {
-        answer: answer,
-        tree: Tree {
-            opened: opened,
-            cells: cells,
-            visible: visible,
-            scopes: scopes,
-            marks: marks,
-            n0: n0,
-            n1: n1,
-            n2: n2,
-            n3: n3,
-        },
-    }
+    Linked { answer, tree }
 }
 
 // The same, the tree told as rows in `out`: no tree is copied. Ruled out: a row where there is no image.
@@ -83,27 +61,19 @@ pub fn tell_units<'a>(
     requires { OrderGiven s.now files.now ids.now units }
     ensures { ToldAs (assembled (decode s.now) (take units ids.now)) a image.old image.new out.old out.new result }
 {
-    let mut opened = [0u16; OPENED];
-    let mut cells = [0u16; CELLS];
-    let mut visible = [0u8; 1024];
-    let mut scopes = [0u16; 1024];
-    let mut marks = [0u16; 1024];
-    let mut n0 = [0u64; 1024];
-    let mut n1 = [0u64; 1024];
-    let mut n2 = [0u64; 1024];
-    let mut n3 = [0u64; 1024];
-    let mut tree = Lent {
-        opened: &mut opened,
-        cells: &mut cells,
-        visible: &mut visible,
-        scopes: &mut scopes,
-        marks: &mut marks,
-        n0: &mut n0,
-        n1: &mut n1,
-        n2: &mut n2,
-        n3: &mut n3,
+    let mut tree = scopes::empty();
+    let mut arrays = Lent {
+        opened: &mut tree.opened,
+        cells: &mut tree.cells,
+        visible: &mut tree.visible,
+        scopes: &mut tree.scopes,
+        marks: &mut tree.marks,
+        n0: &mut tree.n0,
+        n1: &mut tree.n1,
+        n2: &mut tree.n2,
+        n3: &mut tree.n3,
     };
-    let end = scope_walk::walk_units(s, files, ids, units, &mut tree);
+    let end = scope_walk::walk_units(s, files, ids, units, &mut arrays);
     if end.number != 0 {
         return Told {
             answer: order::refuse(end.number, end.place),
@@ -119,7 +89,16 @@ pub fn tell_units<'a>(
         };
     };
     let entries = rows::put_rows(
-        &opened, &cells, &visible, &scopes, &marks, &n0, &n1, &n2, &n3, out,
+        &tree.opened,
+        &tree.cells,
+        &tree.visible,
+        &tree.scopes,
+        &tree.marks,
+        &tree.n0,
+        &tree.n1,
+        &tree.n2,
+        &tree.n3,
+        out,
     );
     Told {
         answer: answer,
