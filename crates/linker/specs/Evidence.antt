@@ -29,7 +29,7 @@ use Rattle.scope_tree.specs.Trees.{Good, view, flat_of, cleared}
 use Rattle.scope_tree.specs.Rows.{length-tab}
 use Rattle.scopes.specs.Meets.{Meets}
 use Rattle.scope_tree.specs.declared.Tree.{Tree}
-use Rattle.scopes.specs.declared.Outcome.{Outcome}
+use Rattle.scopes.specs.Meets.{Outcome}
 use Rattle.assembly.specs.Image.{small_buffer, image_limit, items_length, image_length}
 use Rattle.assembly.specs.Image as image
 use Rattle.assembly.specs.Call.{refusing, imaged_to, NoImage, too_long, too_small}

@@ -9,7 +9,6 @@ use crate::answers::told;
 use crate::{Linked, Told};
 use assembly::Imaged;
 use order::Answer;
-use scopes::{CELLS, OPENED, Tree};
 
 // The units in their order, of which `a` tells: their tree and their image, the number and the place of the first call that is refused,
 // or 15, 14; without an image the tree is empty. Ruled out: an image where a call was refused.
@@ -24,30 +23,8 @@ pub fn link_units<'a>(
     requires { OrderGiven s.now files.now ids.now units }
     ensures { LinkedAs (assembled (decode s.now) (take units ids.now)) a image.old image.new result }
 {
-    let mut opened = [0u16; OPENED];
-    let mut cells = [0u16; CELLS];
-    let mut visible = [0u8; 1024];
-    let mut scopes = [0u16; 1024];
-    let mut marks = [0u16; 1024];
-    let mut n0 = [0u64; 1024];
-    let mut n1 = [0u64; 1024];
-    let mut n2 = [0u64; 1024];
-    let mut n3 = [0u64; 1024];
-    let e = scope_walk::walk_units(
-        s,
-        files,
-        ids,
-        units,
-        &mut opened,
-        &mut cells,
-        &mut visible,
-        &mut scopes,
-        &mut marks,
-        &mut n0,
-        &mut n1,
-        &mut n2,
-        &mut n3,
-    );
+    let mut tree = scopes::empty();
+    let e = scope_walk::walk_units(s, files, ids, units, &mut tree);
     if e.number != 0 {
         return told(order::refuse(e.number, e.place));
     }
@@ -56,20 +33,7 @@ pub fn link_units<'a>(
     let Imaged::Image(_) = written else {
         return told(answer);
     };
-    Linked {
-        answer: answer,
-        tree: Tree {
-            opened: opened,
-            cells: cells,
-            visible: visible,
-            scopes: scopes,
-            marks: marks,
-            n0: n0,
-            n1: n1,
-            n2: n2,
-            n3: n3,
-        },
-    }
+    Linked { answer, tree }
 }
 
 // The same, the tree told as rows in `out`: no tree is copied. Ruled out: a row where there is no image.
@@ -85,30 +49,8 @@ pub fn tell_units<'a>(
     requires { OrderGiven s.now files.now ids.now units }
     ensures { ToldAs (assembled (decode s.now) (take units ids.now)) a image.old image.new out.old out.new result }
 {
-    let mut opened = [0u16; OPENED];
-    let mut cells = [0u16; CELLS];
-    let mut visible = [0u8; 1024];
-    let mut scopes = [0u16; 1024];
-    let mut marks = [0u16; 1024];
-    let mut n0 = [0u64; 1024];
-    let mut n1 = [0u64; 1024];
-    let mut n2 = [0u64; 1024];
-    let mut n3 = [0u64; 1024];
-    let end = scope_walk::walk_units(
-        s,
-        files,
-        ids,
-        units,
-        &mut opened,
-        &mut cells,
-        &mut visible,
-        &mut scopes,
-        &mut marks,
-        &mut n0,
-        &mut n1,
-        &mut n2,
-        &mut n3,
-    );
+    let mut tree = scopes::empty();
+    let end = scope_walk::walk_units(s, files, ids, units, &mut tree);
     if end.number != 0 {
         return Told {
             answer: order::refuse(end.number, end.place),
@@ -124,7 +66,16 @@ pub fn tell_units<'a>(
         };
     };
     let entries = rows::put_rows(
-        &opened, &cells, &visible, &scopes, &marks, &n0, &n1, &n2, &n3, out,
+        &tree.opened,
+        &tree.cells,
+        &tree.visible,
+        &tree.scopes,
+        &tree.marks,
+        &tree.n0,
+        &tree.n1,
+        &tree.n2,
+        &tree.n3,
+        out,
     );
     Told {
         answer: answer,

@@ -6,7 +6,7 @@ use Rattle.linker.specs.Ends.{linked-ended, linked_imaged}
 use Rattle.linker.proofs.units.link_units.Goals as goal
 
 pub walk_units-e-requires : goal.walk_units-e-requires
-walk_units-e-requires c = (c.requires, refl)
+walk_units-e-requires c = (c.requires, c.empty-tree.ensures)
 
 pub returns-then-e-ne0 : goal.returns-then-e-ne0
 returns-then-e-ne0 c = linked-ended _ c.args.a _ _ _ _ _ (scoped_as (decode c.args.s.now) (take c.args.units c.args.ids.now) _ _ c.walk_units-e.ensures) c.if-e-ne0.true _ c.refuse.ensures c.told.ensures refl

@@ -6,7 +6,7 @@ use Rattle.linker.specs.Ends.{told-ended, told-refused, told-rows}
 use Rattle.linker.proofs.units.tell_units.Goals as goal
 
 pub walk_units-end-requires : goal.walk_units-end-requires
-walk_units-end-requires c = (c.requires, refl)
+walk_units-end-requires c = (c.requires, c.empty-tree.ensures)
 
 pub returns-then-end-ne0 : goal.returns-then-end-ne0
 returns-then-end-ne0 c = told-ended _ c.args.a _ _ _ _ _ (scoped_as (decode c.args.s.now) (take c.args.units c.args.ids.now) _ _ c.walk_units-end.ensures) c.if-end-ne0.true _ c.refuse.ensures refl
