@@ -5,6 +5,8 @@ ghost use Rattle.host.specs.TreeTold.{TreeTold, FoundTold, number_in, mark_in, r
 ghost use Rattle.scope_tree.specs.Form.{enters, exits, inserts_alias, inserts_enum, inserts_function, resolves_use, gets_alias, gets_function};
 ghost use Rattle.scope_tree.specs.Trees.{packed_in};
 ghost use Rattle.scope_tree.specs.Told.{mark_told};
+ghost use Rattle.commit.specs.Lending.{lent_in, Kept};
+ghost use Rattle.scopes.specs.Meets.{request};
 ghost use Rattle.std.specs.Prelude.{eqb, ◌≡◌};
 
 use crate::{ENTRIES, ROWS, TREE_CELLS, TREE_OPENED};
@@ -12,7 +14,16 @@ use decision::decide;
 use refusal::Cause;
 use scope_tree::Kind;
 use scope_tree::look::View;
+use scopes::lent;
 use scopes::lent::Lent;
+
+// A call on the lent arrays, by its code, and its number.
+fn tell_made(tree: &mut Lent, code: u8, bytes: &[u8], public: bool, mark: u16) -> u8
+    ensures kept { Kept tree.old tree.new }
+    ensures told { TreeTold (lent_in tree.old) (request code bytes.now public mark) result (lent_in tree.new) }
+{
+    scopes::number_of(lent::call(tree, code, bytes, public, mark))
+}
 
 // An answer's number, and its mark where it has one.
 fn tell_found(answer: Result<u16, Cause>, mark: &mut usize) -> u8
@@ -57,7 +68,7 @@ pub extern "C" fn gontsamy_enter(
         n2,
         n3,
     };
-    scopes::number_of(scopes::lent::call(&mut tree, 1, name, public == 1, mark))
+    tell_made(&mut tree, 1, name, public == 1, mark)
 }
 
 // The innermost open module is left. Ruled out: 0 at the root; an entry lost on leaving.
@@ -86,7 +97,7 @@ pub extern "C" fn gontsamy_exit(
         n2,
         n3,
     };
-    scopes::number_of(scopes::lent::call(&mut tree, 2, b"", false, 0))
+    tell_made(&mut tree, 2, b"", false, 0)
 }
 
 // A type alias. Ruled out: 0 where the current module holds a type of that name; 51 with a place left.
@@ -118,7 +129,7 @@ pub extern "C" fn gontsamy_insert_alias(
         n2,
         n3,
     };
-    scopes::number_of(scopes::lent::call(&mut tree, 3, name, public == 1, mark))
+    tell_made(&mut tree, 3, name, public == 1, mark)
 }
 
 // An enum, a type. Ruled out: 49 in the place of 48; arrays that differ after a refusal.
@@ -150,7 +161,7 @@ pub extern "C" fn gontsamy_insert_enum(
         n2,
         n3,
     };
-    scopes::number_of(scopes::lent::call(&mut tree, 4, name, public == 1, mark))
+    tell_made(&mut tree, 4, name, public == 1, mark)
 }
 
 // A function. Ruled out: a refusal because a type or a module has the name; an entry in the root and not in the open module.
@@ -182,7 +193,7 @@ pub extern "C" fn gontsamy_insert_function(
         n2,
         n3,
     };
-    scopes::number_of(scopes::lent::call(&mut tree, 5, name, public == 1, mark))
+    tell_made(&mut tree, 5, name, public == 1, mark)
 }
 
 // A use in the bundle's form: segment count, segments, element count, each element a name and an alias. Ruled out: 0 with nothing
@@ -214,7 +225,7 @@ pub extern "C" fn gontsamy_resolve_use(
         n2,
         n3,
     };
-    scopes::number_of(scopes::lent::call(&mut tree, 6, decl, public == 1, 0))
+    tell_made(&mut tree, 6, decl, public == 1, 0)
 }
 
 // The mark of the type of that name in the current module. Ruled out: the mark of one in an outer module; 43 where a use imported it.

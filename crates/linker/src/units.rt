@@ -9,7 +9,6 @@ use crate::answers::told;
 use crate::{Linked, Told};
 use assembly::Imaged;
 use order::Answer;
-use scopes::lent::Lent;
 
 // The units in their order, of which `a` tells: their tree and their image, the number and the place of the first call that is refused,
 // or 15, 14; without an image the tree is empty. Ruled out: an image where a call was refused.
@@ -25,18 +24,7 @@ pub fn link_units<'a>(
     ensures { LinkedAs (assembled (decode s.now) (take units ids.now)) a image.old image.new result }
 {
     let mut tree = scopes::empty();
-    let mut arrays = Lent {
-        opened: &mut tree.opened,
-        cells: &mut tree.cells,
-        visible: &mut tree.visible,
-        scopes: &mut tree.scopes,
-        marks: &mut tree.marks,
-        n0: &mut tree.n0,
-        n1: &mut tree.n1,
-        n2: &mut tree.n2,
-        n3: &mut tree.n3,
-    };
-    let e = scope_walk::walk_units(s, files, ids, units, &mut arrays);
+    let e = scope_walk::walk_units(s, files, ids, units, &mut tree);
     if e.number != 0 {
         return told(order::refuse(e.number, e.place));
     }
@@ -62,18 +50,7 @@ pub fn tell_units<'a>(
     ensures { ToldAs (assembled (decode s.now) (take units ids.now)) a image.old image.new out.old out.new result }
 {
     let mut tree = scopes::empty();
-    let mut arrays = Lent {
-        opened: &mut tree.opened,
-        cells: &mut tree.cells,
-        visible: &mut tree.visible,
-        scopes: &mut tree.scopes,
-        marks: &mut tree.marks,
-        n0: &mut tree.n0,
-        n1: &mut tree.n1,
-        n2: &mut tree.n2,
-        n3: &mut tree.n3,
-    };
-    let end = scope_walk::walk_units(s, files, ids, units, &mut arrays);
+    let end = scope_walk::walk_units(s, files, ids, units, &mut tree);
     if end.number != 0 {
         return Told {
             answer: order::refuse(end.number, end.place),

@@ -14,6 +14,7 @@ ghost use Rattle.scope_walk.specs.Cursor.{call_code, call_public, taken_bytes, F
 
 use crate::cursor::{Step, UNIT, next, start};
 use bundle::limits::{MODULE, USE};
+use scopes::Tree;
 use scopes::lent::Lent;
 
 // Tree calls by their codes.
@@ -114,15 +115,8 @@ pub struct Ended {
     pub place: usize,
 }
 
-// The tree calls of the units in their order, made on a tree whose arrays the caller lends, zeros before: up to the first that is
-// refused. Ruled out: the tree of the entry's items alone; a unit's number told with the mark of its first item.
-pub fn walk_units<'a>(
-    s: &[u8],
-    files: &'a [usize],
-    ids: &'a [u16],
-    units: usize,
-    tree: &mut Lent,
-) -> Ended
+// The tree calls of the units in their order, made on the arrays of a tree.
+fn walk<'a>(s: &[u8], files: &'a [usize], ids: &'a [u16], units: usize, tree: &mut Lent) -> Ended
     requires { OrderGiven s.now files.now ids.now units × (lent_in tree.old ≡ cleared) }
     ensures kept { Kept tree.old tree.new }
     ensures walked { Walks cleared (program_calls (decode s.now) (take units ids.now)) (stop_at result.number result.place) (lent_in tree.new) }
@@ -167,4 +161,30 @@ pub fn walk_units<'a>(
         number: number,
         place: place,
     }
+}
+
+// The tree calls of the units in their order, made on a tree that was empty: up to the first that is refused. Ruled out: the tree of the
+// entry's items alone; a unit's number told with the mark of its first item.
+pub fn walk_units<'a>(
+    s: &[u8],
+    files: &'a [usize],
+    ids: &'a [u16],
+    units: usize,
+    tree: &mut Tree,
+) -> Ended
+    requires { OrderGiven s.now files.now ids.now units × (tree.old ≡ cleared) }
+    ensures { Walks cleared (program_calls (decode s.now) (take units ids.now)) (stop_at result.number result.place) tree.new }
+{
+    let mut arrays = Lent {
+        opened: &mut tree.opened,
+        cells: &mut tree.cells,
+        visible: &mut tree.visible,
+        scopes: &mut tree.scopes,
+        marks: &mut tree.marks,
+        n0: &mut tree.n0,
+        n1: &mut tree.n1,
+        n2: &mut tree.n2,
+        n3: &mut tree.n3,
+    };
+    walk(s, files, ids, units, &mut arrays)
 }

@@ -10,7 +10,7 @@ use Rattle.scope_walk.specs.Steps.{use_size, meets_request}
 use Rattle.scope_walk.specs.Cursor.{taken-bytes}
 use Rattle.scope_walk.specs.Loop.{walking_from, ready_as, turns_fall, walking_call, turns-end, walking_end}
 use Rattle.scope_walk.specs.declared.cursor.Step.TheVariants as step
-use Rattle.scope_walk.proofs.walk.walk_units.Goals as goal
+use Rattle.scope_walk.proofs.walk.walk.Goals as goal
 
 pub loop-going-init : goal.loop-going-init
 loop-going-init c = (walking_from c.requires.1 c.start-cursor.ensures, (length-replicate {A = ℕ} use_size 0, search rules))
