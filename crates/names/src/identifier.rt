@@ -8,10 +8,12 @@ ghost use Rattle.names.specs.Identifier.{class, is_identifier};
 fn class_of(b: u8) -> u8
     ensures { result ≡ class b }
 {
-    match b {
-        b'A'..=b'Z' | b'a'..=b'z' | b'_' => 1,
-        b'0'..=b'9' => 2,
-        _ => 0,
+    if b.is_ascii_alphabetic() || b == b'_' {
+        1
+    } else if b.is_ascii_digit() {
+        2
+    } else {
+        0
     }
 }
 
