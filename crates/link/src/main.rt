@@ -11,22 +11,24 @@ ghost use Rattle.std.specs.Io.KnownBytes.{Appends};
 ghost use Rattle.bundle.specs.Read.{Bytes};
 ghost use Rattle.printing.specs.Lines.{printed};
 
+use std::alloc::Global;
 use std::io;
 use std::io::{BufWriter, Read, Write};
 
-const READ: usize = 66048;
+const READ: u64 = 66048;
 
 // Writes all that is printed of the bytes that the reader gives.
-fn tell<R: Read, W: Write>(reader: &mut R, out: &mut W) -> io::Result<()>
+#[tactic(auto, using(printing::specs::ReadTheorems::printed_enough))]
+fn tell<R: Read, W: Write>(alloc: Global, reader: &mut R, out: &mut W) -> io::Result<()>
     ensures { OnOk result (IfSome (R.remaining reader.old) (λ s. Bytes s → Appends (W.contents out.old) (W.contents out.new) (printed s))) }
 {
-    let mut bundle = [0u8; READ];
-    let n = lines::fill(reader, &mut bundle)?;
-    printing::print(out, &bundle[..n])
+    let mut bundle = Vec::new(alloc);
+    reader.take(READ).read_to_end(&mut bundle)?;
+    printing::print(out, &bundle)
 }
 
 fn main(rt: HostRuntime) -> io::Result<()> {
     let mut out = BufWriter::new(rt.alloc(), io::writer(&rt))?;
-    tell(&mut rt.reader(), &mut out)?;
+    tell(rt.alloc(), &mut rt.reader(), &mut out)?;
     out.flush()
 }

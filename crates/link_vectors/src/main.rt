@@ -19,10 +19,7 @@ fn next<R: Read>(alloc: Global, reader: &mut R) -> io::Result<Option<Vec<u8>>> {
         return Ok(None);
     }
     let mut bundle = Vec::new(alloc);
-    reader
-        .by_ref()
-        .take(u64::from(size))
-        .read_to_end(&mut bundle)?;
+    reader.take(u64::from(size)).read_to_end(&mut bundle)?;
     Ok(Some(bundle))
 }
 

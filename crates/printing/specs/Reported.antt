@@ -1,8 +1,8 @@
 -- The bytes of a report have the lines of its faults, or of its ring. Assumes nothing.
-use Rattle.std.specs.Prelude.{ℕ, zero, suc, ◌+◌, ◌*◌, ◌/◌, ◌≤◌, ◌<◌, ◌≡◌, refl, cond, ◌&&◌, leb, eqb, length}
-use Rattle.std.proofs.Common.{mod-eq_of_lt, div-lt_iff_lt-mul, arith, sym, ap, ◌∙◌, ne_eqb, le-leb}
+use Rattle.std.specs.Prelude.{ℕ, suc, ◌+◌, ◌*◌, ◌/◌, ◌≤◌, ◌<◌, ◌≡◌, refl, length}
+use Rattle.std.proofs.Common.{mod-eq_of_lt, div-lt_iff_lt-mul, arith, ap, ◌∙◌, ne_eqb, le-leb}
 use Rattle.std.proofs.Math.Bool.{and-false}
-use mathlib.Core.List.{List, [], ◌∷◌, ◌++◌, map, append-nil, Memᴰ}
+use mathlib.Core.List.{List, [], ◌∷◌, map, append-nil, Memᴰ}
 use Rattle.std.specs.Simd.{first_chunks}
 use Rattle.bundle.specs.Encode.{joined}
 use Rattle.discovery.specs.Discovery.{Fault}

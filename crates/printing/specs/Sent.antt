@@ -1,6 +1,6 @@
 -- Where the text is written into a lent buffer, cut at the buffer's end: how much of a file and of a buffer is enough. Assumes nothing.
 use Rattle.std.specs.Prelude.{ℕ, ◌≤◌, ◌≡◌, List, ◌++◌, length, take, drop, replicate}
-use Rattle.std.proofs.Common.{arith, ap, subst, ◌∙◌, length-append, length-take, length-drop, take_all}
+use Rattle.std.proofs.Common.{arith, ap, subst, ◌∙◌, take_all}
 use Rattle.std.proofs.lemmas.List.{length-replicate, take-append-le}
 use Rattle.bundle.specs.Read.{Bytes, Reading, read}
 use Rattle.text.specs.Words.{Text, lines}

@@ -1,10 +1,10 @@
 -- LAWS for the code: the path of a unit's file, and one unit more. Assumes nothing.
-use Rattle.std.specs.Prelude.{ℕ, ◌+◌, ◌<◌, ◌≡◌, List, [], ◌∷◌, ◌++◌, map, length, get_or, take}
+use Rattle.std.specs.Prelude.{ℕ, ◌+◌, ◌<◌, ◌≡◌, List, ◌++◌, map, length, get_or, take}
 use Rattle.std.proofs.Common.{arith, sym, ap, subst, ◌∙◌, take_all}
 use Rattle.bundle.specs.Bundle.{File}
 use Rattle.bundle.specs.Decode.{decode, file_at}
 use Rattle.bundle.specs.Limits.{file_limit}
-use Rattle.text.specs.Words.{Text, line, lines}
+use Rattle.text.specs.Words.{line, lines}
 use Rattle.text.specs.LineLaws.{lines_more}
 use Rattle.order.specs.Run.{units_of}
 use Rattle.assembly.specs.Assemble.{file_of}

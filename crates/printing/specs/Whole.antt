@@ -61,7 +61,7 @@ use Rattle.printing.specs.Reports.{report_lines}
 use Rattle.text.specs.LineLaws.{lines-append}
 use Rattle.printing.specs.Reported.{Tellable, faults-length, faults_reported, ring-length, ring_reported}
 use Rattle.printing.specs.Room.{report-fits}
-use Rattle.printing.specs.Answers.{LinkedLines, ReportLines, Lined, AnswerLines}
+use Rattle.printing.specs.Answers.{LinkedLines, Lined, AnswerLines}
 use Rattle.printing.specs.Sizes.{report_size, image_size}
 
 -- a number and a place alone

@@ -11,7 +11,7 @@ mod units;
 use std::io;
 use std::io::Write;
 
-// Room for the longest report: 1,025 faults. The longest image.
+// Room for the longest report: 1,025 faults. The longest image. Arrays of these sizes are lent: the linker has no heap.
 pub const REPORT: usize = 4096;
 
 pub const IMAGE: usize = 65538;

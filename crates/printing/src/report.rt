@@ -10,7 +10,7 @@ use std::io;
 use std::io::Write;
 
 // A line for each of the faults.
-#[tactic(auto, using(text::specs::Appending::written, crate::specs::Reports::reports), unfolding(text::specs::Words::lines, crate::specs::Reports::fault_lines))]
+#[tactic(auto, using(text::specs::Spelling::written, crate::specs::Reports::reports), unfolding(text::specs::Words::lines, crate::specs::Reports::fault_lines))]
 fn put_faults<W: Write>(out: &mut W, report: &[u8]) -> io::Result<()>
     ensures { OnOk result (Appends (W.contents out.old) (W.contents out.new) (lines (fault_lines report.now))) }
 {
@@ -26,7 +26,7 @@ fn put_faults<W: Write>(out: &mut W, report: &[u8]) -> io::Result<()>
 }
 
 // The line `ring` and the ids, after `no 26 0`.
-#[tactic(auto, using(text::specs::Appending::written, crate::specs::Reports::reports), unfolding(text::specs::Words::lines, names::specs::Bytes::ascii))]
+#[tactic(auto, using(text::specs::Spelling::written, crate::specs::Reports::reports), unfolding(text::specs::Words::lines, names::specs::Bytes::ascii))]
 fn put_ring<W: Write>(out: &mut W, ids: &[u8]) -> io::Result<()>
     ensures { OnOk result (Appends (W.contents out.old) (W.contents out.new) (lines (ring_lines ids.now))) }
 {

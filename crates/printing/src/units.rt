@@ -13,7 +13,7 @@ use std::io;
 use std::io::Write;
 
 // The line of a unit.
-#[tactic(auto, using(text::specs::Appending::written, crate::specs::Units::units), unfolding(text::specs::Words::line, names::specs::Bytes::ascii))]
+#[tactic(auto, using(text::specs::Spelling::written, crate::specs::Units::units), unfolding(text::specs::Words::line, names::specs::Bytes::ascii))]
 fn put_unit<W: Write>(out: &mut W, s: &[u8], files: &[usize], unit: u16) -> io::Result<()>
     requires { OneUnit s.now files.now unit }
     ensures { OnOk result (Appends (W.contents out.old) (W.contents out.new) (line (unit_line (units_of (decode s.now)) unit))) }
@@ -24,7 +24,7 @@ fn put_unit<W: Write>(out: &mut W, s: &[u8], files: &[usize], unit: u16) -> io::
     out.write_all(b"\n")
 }
 
-#[tactic(auto, using(text::specs::Appending::written, crate::specs::Units::units), unfolding(text::specs::Words::lines, text::specs::Words::line, names::specs::Bytes::ascii))]
+#[tactic(auto, using(text::specs::Spelling::written, crate::specs::Units::units), unfolding(text::specs::Words::lines, text::specs::Words::line, names::specs::Bytes::ascii))]
 pub fn put_units<W: Write>(out: &mut W, s: &[u8], files: &[usize], units: &[u16]) -> io::Result<()>
     requires { EachIndex units.now (λ i. OneUnit s.now files.now (slice_index units.now i)) }
     ensures { OnOk result (Appends (W.contents out.old) (W.contents out.new)

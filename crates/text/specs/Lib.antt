@@ -2,5 +2,5 @@
 pub mod Words
 pub mod Writing
 -- LAWS for the code
-pub mod Appending
+pub mod Spelling
 pub mod LineLaws

@@ -1,7 +1,6 @@
 // What is written of numbers, names and refusals, to whatever writer: what is then appended is the definition's.
 #![tactic(auto)]
 
-ghost use Rattle.names.specs.Decimal.{decimal};
 ghost use Rattle.text.specs.Words.{line, no_line, bytes_of, spelled};
 ghost use Rattle.std.specs.Prelude.{OnOk};
 ghost use Rattle.std.specs.Io.KnownBytes.{Appends};
@@ -9,14 +8,6 @@ ghost use Rattle.std.specs.Io.KnownBytes.{Appends};
 use names::Name;
 use std::io;
 use std::io::Write;
-
-// A number in decimal.
-#[tactic(auto, using(crate::specs::Appending::written))]
-pub fn put_decimal<W: Write>(out: &mut W, n: u64) -> io::Result<()>
-    ensures { OnOk result (Appends (W.contents out.old) (W.contents out.new) (decimal n)) }
-{
-    write!(out, "{n}")
-}
 
 // The bytes of a word, big-endian, up to the first 0.
 fn put_word<W: Write>(out: &mut W, word: u64) -> io::Result<()>
@@ -28,7 +19,7 @@ fn put_word<W: Write>(out: &mut W, word: u64) -> io::Result<()>
 }
 
 // A name as it stands in the source.
-#[tactic(auto, using(crate::specs::Appending::written), unfolding(crate::specs::Words::spelled))]
+#[tactic(auto, using(crate::specs::Spelling::written), unfolding(crate::specs::Words::spelled))]
 pub fn put_name<W: Write>(out: &mut W, name: Name) -> io::Result<()>
     ensures { OnOk result (Appends (W.contents out.old) (W.contents out.new) (spelled name)) }
 {
@@ -39,7 +30,7 @@ pub fn put_name<W: Write>(out: &mut W, name: Name) -> io::Result<()>
 }
 
 // A line `no`, a number and a place.
-#[tactic(auto, using(crate::specs::Appending::written), unfolding(crate::specs::Words::line, names::specs::Bytes::ascii))]
+#[tactic(auto, using(crate::specs::Spelling::written), unfolding(crate::specs::Words::line, names::specs::Bytes::ascii))]
 pub fn put_no<W: Write>(out: &mut W, n: u64, p: u64) -> io::Result<()>
     ensures { OnOk result (Appends (W.contents out.old) (W.contents out.new) (line (no_line n p))) }
 {

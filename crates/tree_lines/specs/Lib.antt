@@ -1,4 +1,4 @@
 -- DEFINITIONS: the lines `has` of a tree
 pub mod Entries
-pub mod Shows
-pub mod Paths
+-- LAWS for the code
+pub mod EntryLaws

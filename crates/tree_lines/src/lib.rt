@@ -7,7 +7,7 @@ ghost use Rattle.text.specs.Words.{line, lines};
 ghost use Rattle.scope_tree.specs.Flat.{none};
 ghost use Rattle.scope_tree.specs.Trees.{flat_of};
 ghost use Rattle.tree_lines.specs.Entries.{module_path, has_line, has_lines};
-ghost use Rattle.tree_lines.specs.Shows.{shown_of};
+ghost use Rattle.tree_lines.specs.EntryLaws.{shown_of};
 
 use names::Name;
 use scopes::{ENTRIES, Tree};
@@ -38,7 +38,7 @@ const NONE: Shown = Shown {
 };
 
 // Entry i of a tree.
-#[tactic(auto, using(crate::specs::Shows::entries_at))]
+#[tactic(auto, using(crate::specs::EntryLaws::entries_at))]
 fn entry_at(tree: &Tree, i: usize) -> Shown
     ensures { result ≡ shown_of (get_or (flat_of tree.now).entries i none) }
 {
@@ -60,7 +60,7 @@ fn entry_at(tree: &Tree, i: usize) -> Shown
 }
 
 // The path of the module of a scope, from `crate` on: the modules around it, outermost first, of which there are at most `depth`.
-#[tactic(auto, using(text::specs::Appending::written), unfolding(crate::specs::Entries::module_path, names::specs::Bytes::ascii))]
+#[tactic(auto, using(text::specs::Spelling::written), unfolding(crate::specs::Entries::module_path, names::specs::Bytes::ascii))]
 fn put_module<W: Write>(out: &mut W, tree: &Tree, scope: usize, depth: usize) -> io::Result<()>
     ensures { OnOk result (Appends (W.contents out.old) (W.contents out.new) (module_path depth (flat_of tree.now).entries scope)) }
 {
@@ -74,7 +74,7 @@ fn put_module<W: Write>(out: &mut W, tree: &Tree, scope: usize, depth: usize) ->
 }
 
 // The line of entry i of `count`; none of a unit.
-#[tactic(auto, using(text::specs::Appending::written, crate::specs::Shows::entries_at), unfolding(crate::specs::Entries::has_lines, text::specs::Words::lines, text::specs::Words::line, names::specs::Bytes::ascii))]
+#[tactic(auto, using(text::specs::Spelling::written, crate::specs::EntryLaws::entries_at), unfolding(crate::specs::Entries::has_lines, text::specs::Words::lines, text::specs::Words::line, names::specs::Bytes::ascii))]
 fn put_entry<W: Write>(out: &mut W, tree: &Tree, i: usize) -> io::Result<()>
     ensures { OnOk result (Appends (W.contents out.old) (W.contents out.new) (lines (has_lines (flat_of tree.now).entries (get_or (flat_of tree.now).entries i none ∷ [])))) }
 {
@@ -90,7 +90,7 @@ fn put_entry<W: Write>(out: &mut W, tree: &Tree, i: usize) -> io::Result<()>
 }
 
 // The entries in the order made; units are not shown.
-#[tactic(auto, using(text::specs::Appending::written, crate::specs::Shows::entries_at, crate::specs::Paths::all_entries), unfolding(crate::specs::Entries::has_lines, text::specs::Words::lines))]
+#[tactic(auto, using(text::specs::Spelling::written, crate::specs::EntryLaws::entries_at, crate::specs::EntryLaws::all_entries), unfolding(crate::specs::Entries::has_lines, text::specs::Words::lines))]
 pub fn put_tree<W: Write>(out: &mut W, tree: &Tree) -> io::Result<()>
     ensures { OnOk result (Appends (W.contents out.old) (W.contents out.new) (lines (has_lines (flat_of tree.now).entries (flat_of tree.now).entries))) }
 {

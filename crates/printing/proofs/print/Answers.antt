@@ -1,6 +1,6 @@
 -- What the linker answers in the program's buffers has the lines of the definition.
-use Rattle.std.proofs.Common.{arith, rules, ℕ, ◌≡◌, ◌≤◌, ◌<◌, List, length, replicate, get_or, get_or-take, append_assoc, append-nil, sym, ap, ◌∙◌, subst, length-take-le, Fits, w8}
-use Rattle.text.specs.Words.{lines, line, no_line}
+use Rattle.std.proofs.Common.{arith, rules, ℕ, ◌≡◌, List, length, replicate, get_or, get_or-take, append_assoc, sym, ap, ◌∙◌, subst, length-take-le, Fits, w8}
+use Rattle.text.specs.Words.{lines}
 use Rattle.text.specs.LineLaws.{lines-one}
 use Rattle.bundle.specs.Read.{read}
 use Rattle.order.specs.declared.Answer.{Answer}

@@ -1,7 +1,7 @@
--- One text written after another; the digits of a number and the bytes of a name, as std has them. Assumes nothing.
-use Rattle.std.specs.Prelude.{ℕ, zero, suc, ◌/◌, ◌%◌, ◌^◌, ◌<◌, ◌≤◌, Bool, true, false, not, cond, eqb, ltb, List, [], ◌∷◌, ◌++◌, length, take, ◌≡◌, refl, Option, Some, None, unwrap_or, Result, OnOk}
+-- LAWS for the code: the digits of a number and the bytes of a name, as std has them. Assumes nothing.
+use Rattle.std.specs.Prelude.{ℕ, zero, suc, ◌/◌, ◌%◌, ◌^◌, ◌<◌, Bool, true, false, not, cond, eqb, ltb, List, [], ◌∷◌, length, take, ◌≡◌, refl, Option, Some, None, unwrap_or}
 use Rattle.std.proofs.Common.{◌+◌, subst, arith, add-one, div-one, lt-ltb, le-ltb, sym, ap, ◌∙◌, take_all, append_assoc, append-nil}
-use Rattle.std.proofs.Math.Decide.{dec_lt}
+use Rattle.std.proofs.lemmas.Bool.Decides.{nat_tests}
 use Rattle.std.proofs.lemmas.Fmt.{decimal_from_appends, length-decimal-le_succ}
 use Rattle.std.specs.Fmt as std
 use Rattle.std.specs.Int.{byte_at, bytes_high_first, to_be_bytes, w64}
@@ -34,16 +34,10 @@ before_zero (suc k) w = rw (byte_is k w) (go (eqb (w / 256 ^ k % 256) 0) (w / 25
 
 -- where `position` finds it, or the end
 first_or_all : (l : List ℕ) (end : ℕ) (r : Option ℕ) → r ≡ cond (ltb (position_or_len is_zero l) (length l)) (Some (position_or_len is_zero l)) None → end ≡ unwrap_or r (length l) → take end l ≡ before_first is_zero l
-first_or_all l end r e f = go (dec_lt (position_or_len is_zero l) (length l))
-  where
-    go : Dec (position_or_len is_zero l < length l) → take end l ≡ before_first is_zero l
-    go (yes h) = ap (λ n. take n l) (f ∙ ap (λ o. unwrap_or o (length l)) (e ∙ ap (λ b. cond b (Some (position_or_len is_zero l)) None) (lt-ltb _ _ h)))
-    go (no h) =
-        let m : length l ≤ position_or_len is_zero l = omega arith in
-        ap (λ n. take n l) (f ∙ ap (λ o. unwrap_or o (length l)) (e ∙ ap (λ b. cond b (Some (position_or_len is_zero l)) None) (le-ltb _ _ m))) ∙ (take_all (length l) l (omega arith) ∙ sym (take_all (position_or_len is_zero l) l m))
+first_or_all l end r e f = grind (arith, nat_tests, take_all)
 
-pub word-end : (w : ℕ) (l : List ℕ) (end : ℕ) (r : Option ℕ) → l ≡ to_be_bytes w64 w → r ≡ cond (ltb (position_or_len is_zero l) (length l)) (Some (position_or_len is_zero l)) None → end ≡ unwrap_or r (length l) → take end l ≡ bytes_of 8 w
-word-end w l end r is e f = first_or_all l end r e f ∙ (ap (before_first is_zero) is ∙ before_zero 8 w)
+pub word_end : (w : ℕ) (l : List ℕ) (end : ℕ) (r : Option ℕ) → l ≡ to_be_bytes w64 w → r ≡ cond (ltb (position_or_len is_zero l) (length l)) (Some (position_or_len is_zero l)) None → end ≡ unwrap_or r (length l) → take end l ≡ bytes_of 8 w
+word_end w l end r is e f = first_or_all l end r e f ∙ (ap (before_first is_zero) is ∙ before_zero 8 w)
 
--- for `using`
+-- what the code writes is put together of these
 pub ruleset written = (append_assoc, append-nil, same_decimal)

@@ -1,0 +1,50 @@
+-- LAWS for the code: what is printed of an entry, as the code has it, and the lines of one entry more. Assumes nothing.
+use Rattle.std.specs.Prelude.{ℕ, ◌+◌, ◌<◌, ◌≤◌, ◌≡◌, refl, Bool, true, false, cond, eqb, List, [], ◌∷◌, ◌++◌, length, get_or, take}
+use Rattle.std.proofs.Common.{arith, add-one, sym, ap, ◌∙◌, take_all, take-suc, length-take}
+use Rattle.std.proofs.Math.Decide.{dec_lt}
+use Rattle.std.proofs.Math.ListN.{get_or-eq_default}
+use Rattle.text.specs.LineLaws.{lines-append}
+use Rattle.text.specs.Words.{Text, lines}
+use Rattle.scope_tree.specs.Flat.{Entry, none}
+use Rattle.scope_tree.specs.Rows.{length-tab, get_d_tab}
+use Rattle.scope_tree.specs.Trees.{part, view, flat_of}
+use Rattle.scope_tree.specs.Views.{rows}
+use Rattle.scope_tree.specs.declared.Tree.{Tree}
+use Rattle.tree_lines.specs.Entries.{has_line, has_lines}
+use Rattle.tree_lines.specs.declared.Shown.{Shown}
+
+-- AN ENTRY
+abbrev pub shown_of : Entry → Shown
+shown_of e = record { scope = e.scope; kind = e.shows.kind; name = e.shows.name; mark = e.shows.mark }
+
+-- the code reads arrays where the definition has a list: past the arrays' ends nothing is shown
+pub shown_past : (t : Tree) (i : ℕ) → 1024 ≤ i → length t.scopes ≡ 1024 → length t.marks ≡ 1024 → length t.n0 ≡ 1024 → length t.n1 ≡ 1024 → length t.n2 ≡ 1024 → length t.n3 ≡ 1024 → shown_of none ≡ shown_of (get_or (flat_of t).entries i none)
+unfolding part
+shown_past t i h s m a b c d = go (dec_lt i (get_or t.opened 9 0))
+  where
+    go : Dec (i < get_or t.opened 9 0) → shown_of none ≡ shown_of (get_or (flat_of t).entries i none)
+    go (no l) = ap shown_of (sym (get_or-eq_default (flat_of t).entries none {n = i} (omega (arith, length-tab (rows (view t)) (get_or t.opened 9 0)))))
+    go (yes l) =
+        rw (get_or-eq_default t.scopes 0 {n = i} (omega arith), get_or-eq_default t.marks 0 {n = i} (omega arith), get_or-eq_default t.n0 0 {n = i} (omega arith), get_or-eq_default t.n1 0 {n = i} (omega arith), get_or-eq_default t.n2 0 {n = i} (omega arith), get_or-eq_default t.n3 0 {n = i} (omega arith), get_or-eq_default (part 0 t.cells) 0 {n = i} (omega (arith, length-take 1024 t.cells)))
+        at (ap shown_of (sym (get_d_tab (rows (view t)) (get_or t.opened 9 0) i none l)))
+
+pub ruleset entries_at = (length-tab, get_d_tab, get_or-eq_default, shown_past)
+
+-- ALL ENTRIES
+has_append : (l a b : List Entry) → has_lines l (a ++ b) ≡ has_lines l a ++ has_lines l b
+unfolding has_lines
+has_append l [] b = refl
+has_append l (e ∷ a) b = go (eqb e.scope 0) (has_append l a b)
+  where
+    go : (t : Bool) → has_lines l (a ++ b) ≡ has_lines l a ++ has_lines l b
+        → cond t (has_lines l (a ++ b)) (has_line l e ∷ has_lines l (a ++ b)) ≡ cond t (has_lines l a) (has_line l e ∷ has_lines l a) ++ has_lines l b
+    go true ih = ih
+    go false ih = ap (λ (x : List (List Text)). has_line l e ∷ x) ih
+
+pub entries_more : (l : List Entry) (i : ℕ) → i < length l → lines (has_lines l (take (i + 1) l)) ≡ lines (has_lines l (take i l)) ++ lines (has_lines l (get_or l i none ∷ []))
+entries_more l i h =
+    ap (λ (n : ℕ). lines (has_lines l (take n l))) (add-one i)
+    ∙ (ap (λ (k : List Entry). lines (has_lines l k)) (take-suc l i none h)
+    ∙ (ap lines (has_append l (take i l) (get_or l i none ∷ [])) ∙ lines-append (has_lines l (take i l)) (has_lines l (get_or l i none ∷ []))))
+
+pub ruleset all_entries = (entries_more, take_all)
