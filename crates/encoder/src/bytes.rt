@@ -1,4 +1,5 @@
 // Bytes at the start of a lent part. Each function answers how many it wrote; what follows them is as it was.
+// A part is lent on, not a buffer with a place beside: document 01, "Form by location", names this form of the image's writer.
 ghost use Rattle.std.specs.Prelude.{◌≡◌, ◌+◌, ◌/◌, ◌%◌, ◌<◌, ◌≤◌, ◌++◌, length, set, drop};
 ghost use Rattle.bundle.specs.Limits.{capacity};
 ghost use Rattle.bundle.specs.declared.Width.TheVariants.{Byte, Word};
@@ -17,6 +18,7 @@ pub fn put_two(out: &mut [u8], at: usize, v: usize)
 }
 
 // An item's head: the 2-byte length of what follows, the kind and the visibility.
+// Kind and visibility are the format's bytes, no enums: what is written is what bundle read, whatever kind it is.
 pub fn put_head(out: &mut [u8], n: usize, kind: usize, visibility: usize)
     requires { (4 ≤ length out.old) × ((n < capacity Word) × ((kind < 256) × (visibility < 256))) }
     ensures { out.new ≡ head_bytes n kind visibility ++ drop 4 out.old }
