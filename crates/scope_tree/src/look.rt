@@ -289,7 +289,11 @@ impl<'a> View<'a> {
         ensures { result ≡ current_of (doors_of self.now.opened.now) (get_or self.now.opened.now 10 0) }
     {
         let depth = self.depth();
-        if depth == 0 { 0 } else { self.opened[depth - 1] }
+        if depth == 0 {
+            0
+        } else {
+            self.opened[depth - 1]
+        }
     }
 
     // The current module among all entries; a record that no calls left has none.
