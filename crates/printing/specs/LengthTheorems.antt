@@ -284,7 +284,7 @@ printed-short s B = go (read s) refl
         one-fits n p (omega (arith, k.0)) (omega (arith, width_fits 4 p small))
     go (value b) e = outcome_fits s B b e
 
--- so the program's buffer of 440,000 bytes has room for it
+-- so a buffer of 440,000 bytes has room for it
 pub printed-fits : (s : List ℕ) → Bytes s → length (printed s) ≤ text_size
 printed-fits s B = omega (arith, printed-short s B)
 

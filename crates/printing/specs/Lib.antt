@@ -1,4 +1,4 @@
--- DEFINITIONS: the printed lines; the sizes of the program's arrays
+-- DEFINITIONS: the printed lines; the sizes of the program's arrays, of a text and of what is read
 pub mod Lines
 pub mod Sizes
 -- THEOREMS to cite: the lines of what the linker answers are these, of any bytes; the printed case; how long the text is; what is read

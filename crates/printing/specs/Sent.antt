@@ -1,6 +1,6 @@
 -- Where the text is written into a lent buffer, cut at the buffer's end: how much of a file and of a buffer is enough. Assumes nothing.
 use Rattle.std.specs.Prelude.{ℕ, ◌≤◌, ◌≡◌, List, ◌++◌, length, take, drop, replicate}
-use Rattle.std.proofs.Common.{arith, ap, subst, ◌∙◌, take_all}
+use Rattle.std.proofs.Common.{arith, ap, subst, ◌∙◌, length-append, length-take, length-drop, take_all}
 use Rattle.std.proofs.lemmas.List.{length-replicate, take-append-le}
 use Rattle.bundle.specs.Read.{Bytes, Reading, read}
 use Rattle.text.specs.Words.{Text, lines}
@@ -14,7 +14,18 @@ use Rattle.printing.specs.Sizes.{text_size, read_size}
 abbrev pub Shows : List (List Text) → List ℕ → List ℕ → ℕ → Type 0
 Shows ls o o₁ r = (o₁ ≡ shown (lines ls) o) × (r ≡ reach (lines ls) o)
 
--- WHERE THE BUFFER HAS ROOM FOR IT, what is sent is all that is printed of the bytes, and nothing else
+-- there are so many
+pub told-counts : (ls : List (List Text)) (o o₁ : List ℕ) (r : ℕ) → Shows ls o o₁ r → (r ≤ length o₁) × (r ≡ length (take r o₁))
+told-counts ls o o₁ r x =
+    let e = ap length x.0 in
+    let a = length-append (take (length o) (lines ls)) (drop (length (lines ls)) o) in
+    let b = length-take (length o) (lines ls) in
+    let d = length-drop (length (lines ls)) o in
+    let f = x.1 in
+    let l : r ≤ length o₁ = omega arith in
+    (l, omega (arith, length-take r o₁))
+
+-- WHERE IT HAS ROOM FOR IT, its first r bytes are all that is printed of the bytes, and nothing else
 pub sent_whole : (s o o₁ : List ℕ) (r : ℕ) → length (printed s) ≤ length o → Shows (reading_lines (read s)) o o₁ r → take r o₁ ≡ printed s
 unfolding printed
 sent_whole s o o₁ r room x =
@@ -31,7 +42,7 @@ sent_of-size s B o o₁ r l x =
     (omega (arith, printed-fits s B))
     (subst (λ (z : Reading). Shows (reading_lines z) o o₁ r) (read_enough s B read_size (omega arith)) x)
 
--- THE PROGRAM: of a file of whatever bytes it reads the first read_size, and its buffer has text_size. What it sends is all that
--- is printed of the file
+-- OF A FILE of whatever bytes, of which the first read_size are read, into a buffer of text_size: they are all that is printed of
+-- the file
 pub program_sends : (s : List ℕ) → Bytes s → (o₁ : List ℕ) (r : ℕ) → Shows (reading_lines (read (take read_size s))) (replicate text_size 0) o₁ r → take r o₁ ≡ printed s
 program_sends s B o₁ r x = sent_of-size s B (replicate text_size 0) o₁ r (length-replicate {A = ℕ} text_size 0) x

@@ -1,4 +1,4 @@
--- The sizes of the program's arrays. Assumes nothing.
+-- The sizes of the program's arrays, and how much of a text and of a file is enough. Assumes nothing.
 use Rattle.std.specs.Prelude.{ℕ, ◌+◌}
 use Rattle.bundle.specs.Limits.{header}
 use Rattle.assembly.specs.Image.{image_limit}
@@ -11,7 +11,7 @@ report_size = 4096
 abbrev pub image_size : ℕ
 image_size = header + image_limit
 
--- its text: room for the longest
+-- a buffer for the text: room for the longest
 abbrev pub text_size : ℕ
 text_size = 440000
 

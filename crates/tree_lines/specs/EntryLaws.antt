@@ -1,16 +1,17 @@
 -- LAWS for the code: what is printed of an entry, as the code has it, and the lines of one entry more. Assumes nothing.
-use Rattle.std.specs.Prelude.{ℕ, ◌+◌, ◌<◌, ◌≤◌, ◌≡◌, refl, Bool, true, false, cond, eqb, List, [], ◌∷◌, ◌++◌, length, get_or, take}
+use Rattle.std.specs.Prelude.{ℕ, zero, suc, ◌+◌, ◌-◌, ◌<◌, ◌≤◌, ◌≡◌, refl, Bool, true, false, cond, eqb, List, [], ◌∷◌, ◌++◌, length, get_or, take}
 use Rattle.std.proofs.Common.{arith, add-one, sym, ap, ◌∙◌, take_all, take-suc, length-take}
 use Rattle.std.proofs.Math.Decide.{dec_lt}
 use Rattle.std.proofs.Math.ListN.{get_or-eq_default}
+use Rattle.names.specs.Bytes.{ascii}
 use Rattle.text.specs.LineLaws.{lines-append}
-use Rattle.text.specs.Words.{Text, lines}
+use Rattle.text.specs.Words.{Text, lines, spelled}
 use Rattle.scope_tree.specs.Flat.{Entry, none}
 use Rattle.scope_tree.specs.Rows.{length-tab, get_d_tab}
 use Rattle.scope_tree.specs.Trees.{part, view, flat_of}
 use Rattle.scope_tree.specs.Views.{rows}
 use Rattle.scope_tree.specs.declared.Tree.{Tree}
-use Rattle.tree_lines.specs.Entries.{has_line, has_lines}
+use Rattle.tree_lines.specs.Entries.{module_path, has_line, has_lines}
 use Rattle.tree_lines.specs.declared.Shown.{Shown}
 
 -- AN ENTRY
@@ -29,6 +30,16 @@ shown_past t i h s m a b c d = go (dec_lt i (get_or t.opened 9 0))
         at (ap shown_of (sym (get_d_tab (rows (view t)) (get_or t.opened 9 0) i none l)))
 
 pub ruleset entries_at = (length-tab, get_d_tab, get_or-eq_default, shown_past)
+
+-- A PATH
+pub path_more : (d s : ℕ) (l : List Entry) → (d ≡ 0 → ⊥) → (s ≡ 0 → ⊥) → module_path d l s ≡ module_path (d - 1) l (get_or l (s - 1) none).scope ++ (58 ∷ 58 ∷ spelled (get_or l (s - 1) none).shows.name)
+unfolding module_path ascii
+path_more zero s l h k = absurd (h refl)
+path_more (suc d) zero l h k = absurd (k refl)
+path_more (suc d) (suc i) l h k =
+    let z : suc d - 1 ≡ d = omega arith in
+    let y : suc i - 1 ≡ i = omega arith in
+    rw (z, y)
 
 -- ALL ENTRIES
 has_append : (l a b : List Entry) → has_lines l (a ++ b) ≡ has_lines l a ++ has_lines l b

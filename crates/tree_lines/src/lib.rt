@@ -60,7 +60,7 @@ fn entry_at(tree: &Tree, i: usize) -> Shown
 }
 
 // The path of the module of a scope, from `crate` on: the modules around it, outermost first, of which there are at most `depth`.
-#[tactic(auto, using(text::specs::Spelling::written), unfolding(crate::specs::Entries::module_path, names::specs::Bytes::ascii))]
+#[tactic(auto, using(text::specs::Spelling::written, crate::specs::EntryLaws::path_more), unfolding(crate::specs::Entries::module_path, names::specs::Bytes::ascii))]
 fn put_module<W: Write>(out: &mut W, tree: &Tree, scope: usize, depth: usize) -> io::Result<()>
     ensures { OnOk result (Appends (W.contents out.old) (W.contents out.new) (module_path depth (flat_of tree.now).entries scope)) }
 {
@@ -73,7 +73,7 @@ fn put_module<W: Write>(out: &mut W, tree: &Tree, scope: usize, depth: usize) ->
     text::put_name(out, module.name)
 }
 
-// The line of entry i of `count`; none of a unit.
+// The line of entry i; none of a unit.
 #[tactic(auto, using(text::specs::Spelling::written, crate::specs::EntryLaws::entries_at), unfolding(crate::specs::Entries::has_lines, text::specs::Words::lines, text::specs::Words::line, names::specs::Bytes::ascii))]
 fn put_entry<W: Write>(out: &mut W, tree: &Tree, i: usize) -> io::Result<()>
     ensures { OnOk result (Appends (W.contents out.old) (W.contents out.new) (lines (has_lines (flat_of tree.now).entries (get_or (flat_of tree.now).entries i none ∷ [])))) }
