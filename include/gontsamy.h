@@ -2,7 +2,7 @@
  *
  * No call allocates, keeps a pointer, or is unsafe because of what was called before. Any bytes may be handed over. A pointer may be null
  * where its length is 0; one without a length points at an array of the length that is named here. Buffers must not overlap. The archive
- * needs memcpy, memmove and memset alone. x86-64 Linux; a link takes up to 288 KB of stack (docs/BENCHMARKS.md).
+ * needs memcpy and memset alone. x86-64 Linux; a link takes up to 288 KB of stack (docs/BENCHMARKS.md).
  *
  * A call returns 0, or a number that refuses: GONTSAMY_CUT and so on below. What each means and what to do is in docs/NUMBERS.md.
  */

@@ -4,14 +4,14 @@ use Rattle.bundle.specs.Bundle.{Items, Bundle}
 use Rattle.bundle.specs.Read.{Reading, read}
 use Rattle.order.specs.Outcome.{result_or}
 use Rattle.order.specs.Call.{padded, unit_files, answer_by, answer_from, report_from, held_from}
-use Rattle.order.specs.declared.Answer.{Answer}
+use Rattle.order.specs.Results.{Answer}
 use Rattle.order.specs.Report.{Record, fault}
 pub use Rattle.order.specs.Report.{records_of}
 pub use Rattle.order.specs.Call.{telling, refusing, reported_to}
 use Rattle.assembly.specs.Assemble.{Built, Outcome, assembly_faults, linearize_and_assemble}
 use Rattle.assembly.specs.Image.{small_buffer, long_image, image_limit, image_bytes, items_length, image_length, imaging, lent_image}
-use Rattle.assembly.specs.declared.Imaged.{Imaged}
-use Rattle.assembly.specs.declared.Imaged.TheVariants as imaged
+use Rattle.assembly.specs.Results.{Imaged}
+use Rattle.assembly.specs.Results as imaged
 
 -- the records of step 5's faults
 abbrev pub faults_told : Bundle → List ℕ → List Record

@@ -25,8 +25,8 @@ use Rattle.graph.specs.Linearize as graph
 use Rattle.order.specs.Run.{ordered}
 use Rattle.assembly.specs.Assemble.{rewrite_use, rewrite_items, local_items, assembled, enum_declarations, forbid_enum_dec_in_deps, has_main, main_faults, assembly_faults, Outcome, faulty, closed, ended, result, program, linearize_and_assemble}
 use Rattle.assembly.specs.Image.{image_bytes, items_length, imaging, lent_image}
-use Rattle.assembly.specs.declared.Imaged.{Imaged}
-use Rattle.assembly.specs.declared.Imaged.TheVariants as imaged
+use Rattle.assembly.specs.Results.{Imaged}
+use Rattle.assembly.specs.Results as imaged
 
 -- what is told of bytes: the outcome, and the image of its program
 pub data AssembleCase : Type 0 where

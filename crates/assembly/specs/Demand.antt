@@ -11,15 +11,15 @@ use Rattle.order.specs.Theorems.{RingMet, first_half_read}
 use Rattle.order.specs.Call.{padded, unit_files, paths_of_ids, Wrote}
 use Rattle.order.specs.Report.{fault, ring, small_buffer, report_length, lent_report, nothing_lent}
 use Rattle.order.specs.Demand.{report-told, fault-some, ring-some, files-linked}
-use Rattle.order.specs.declared.Answer.{Answer}
+use Rattle.order.specs.Results.{Answer}
 use Rattle.assembly.specs.Assemble.{Outcome, faulty, closed, ended, result, program, linearize_and_assemble}
 use Rattle.assembly.specs.Call.{records_of, telling, refusing, imaged_to, answering, image_after, answer_to, report_to, image_to, assemble_answer, assemble_report, assemble_image, ImageWritten, NoImage}
 use Rattle.assembly.specs.Call as call
 use Rattle.assembly.specs.Image.{image_limit, items_length, image_length, imaging, lent_image}
 use Rattle.assembly.specs.Image as image
 use Rattle.assembly.specs.Theorems.{Assembled, assembly_read, Program, program-only, FaultsMet, faults-only, ring_only, never_refused}
-use Rattle.assembly.specs.declared.Imaged.{Imaged}
-use Rattle.assembly.specs.declared.Imaged.TheVariants as imaged
+use Rattle.assembly.specs.Results.{Imaged}
+use Rattle.assembly.specs.Results as imaged
 
 -- a program: the linked order that step 5 found nothing to tell of, with all that is proved of it
 pub record WholeProgram (b : Bundle) (o : List ℕ) (p : Items) : Type 0 where

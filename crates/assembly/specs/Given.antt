@@ -10,24 +10,25 @@ use Rattle.bundle.specs.Read.{verdict}
 use Rattle.bundle.specs.Results.{Ok}
 use Rattle.resolution.specs.Call.{position}
 use Rattle.discovery.specs.Discovery.{paths_of}
-use Rattle.driver.specs.Complete.{Known}
+use Rattle.driver.specs.Complete.{Knows}
+use Rattle.discovery.specs.declared.known.Known.{Known}
 use Rattle.discovery.specs.Places.{Places}
 use Rattle.order.specs.Run.{linked, ordered, units_of}
 use Rattle.order.specs.Call.{unit_files}
 use Rattle.assembly.specs.Assemble.{file_of, local_items, assembled}
 
 -- the files of the units of a checked bundle
-pub record UnitsGiven (s files : List ℕ) (units : ℕ) : Type 0 where
+pub record UnitsGiven (s : List ℕ) (k : Known) (units : ℕ) : Type 0 where
   pub checked : verdict s ≡ Ok
-  pub files_are : take units files ≡ unit_files (decode s)
-  pub fits : units ≤ length files
-  -- behind them stands what every use of a unit resolves to, and where each file stands
-  pub known : Known (decode s) files
-  pub places : Places s files
+  pub files_are : take units k.files ≡ unit_files (decode s)
+  pub fits : units ≤ length k.files
+  -- what every use of a unit resolves to, and where each file stands
+  pub known : Knows (decode s) k
+  pub places : Places s k
 
 -- and their linked order
-pub record OrderGiven (s files ids : List ℕ) (units : ℕ) : Type 0 where
-  pub of_units : UnitsGiven s files units
+pub record OrderGiven (s : List ℕ) (k : Known) (ids : List ℕ) (units : ℕ) : Type 0 where
+  pub of_units : UnitsGiven s k units
   pub order : ordered (decode s) ≡ linked (take units ids)
   pub ids_fit : units ≤ length ids
 
@@ -50,9 +51,9 @@ pub record OneUnit (s files : List ℕ) (u : ℕ) : Type 0 where
   pub index : get_or files u 0 ≡ position (file_of (decode s) u) (paths_of (decode s))
 
 -- and where each file stands
-pub record PlacedUnit (s files : List ℕ) (u : ℕ) : Type 0 where
-  pub of_unit : OneUnit s files u
-  pub places : Places s files
+pub record PlacedUnit (s : List ℕ) (k : Known) (u : ℕ) : Type 0 where
+  pub of_unit : OneUnit s k.files u
+  pub places : Places s k
 
 -- A UNIT IN THE IMAGE
 unfoldable pub unit_bytes : Bundle → ℕ → List ℕ

@@ -1,13 +1,14 @@
 -- Laws of the units of a linked order as the code has them. Assumes nothing.
-use Rattle.std.specs.Prelude.{ℕ, zero, suc, ◌+◌, ◌≤◌, ◌<◌, Bool, true, false, cond, ◌≡◌, refl, eqb, length, get_or, take, drop}
-use Rattle.std.proofs.Common.{add-one, arith, sym, ap, subst, ◌∙◌, length-append, eq-eqb, ne_eqb}
+use Rattle.std.specs.Prelude.{ℕ, suc, ◌+◌, ◌≤◌, ◌<◌, Bool, true, false, cond, ◌≡◌, refl, eqb, length, get_or, take, drop}
+use Rattle.std.proofs.Common.{add-one, arith, sym, ap, subst, ◌∙◌, length-append, eq-eqb, ne_eqb, drop_of_length-le}
 use mathlib.Core.List.{List, [], ◌∷◌, ◌++◌, map, append-nil, Memᴰ}
-use Rattle.std.proofs.lemmas.List.{length-map}
+use Rattle.std.proofs.lemmas.List.{length-map, length-take}
 use Rattle.std.proofs.Math.ListN.{get_or-map}
-use lib.Seq.{length-take-le, get_or-take, drop-cons}
+use lib.Seq.{length-take-le, get_or-take, drop-cons, take-take}
+use Rattle.std.proofs.Math.Seq.{take-length}
 use Rattle.names.specs.Bytes.{same, same-eq, same_differs, different}
 use Rattle.names.specs.Decimal.{unit_name}
-use Rattle.bundle.specs.Bundle.{Text, Items, File, Bundle}
+use Rattle.bundle.specs.Bundle.{Text, File, Bundle}
 use Rattle.bundle.specs.Limits.{file_limit, depth_limit, module_kind}
 use Rattle.bundle.specs.Encode.{string, items}
 use Rattle.bundle.specs.Stand.{Bytes}
@@ -22,11 +23,11 @@ use Rattle.discovery.specs.Facts.{member_true, member_false, get_d_mem, get_d_an
 use Rattle.discovery.specs.Right.{discovered}
 use Rattle.discovery.specs.Room.{checked-roomy}
 use Rattle.discovery.specs.Search.{index_in}
-use Rattle.discovery.specs.Known.{Row, FilesPut, row_put, files-put}
+use Rattle.discovery.specs.declared.known.Known.{Known}
+use Rattle.discovery.specs.Known.{Row, row_put}
 use Rattle.driver.specs.Complete.{Carries}
-use Rattle.discovery.specs.Places.{places-put}
 use Rattle.discovery.specs.Weight.{reached-file}
-use Rattle.order.specs.Run.{units_of}
+use Rattle.order.specs.Run.{linked, units_of}
 use Rattle.order.specs.Call.{unit_files}
 use Rattle.order.specs.Theorems.{LinkedIds, first_half}
 use Rattle.assembly.specs.Assemble.{file_of, items_of, local_items, assembled}
@@ -122,28 +123,37 @@ module _ (s files : List ℕ) (units : ℕ) (checked : verdict s ≡ Ok) (are : 
             ∙ get_or-map (λ p. position p (paths_of (decode s))) (units_of (decode s)) u []));
       }
 
--- THE FILES IN FRONT OF A TABLE
-pub known-linked : {s files ids t known : List ℕ} {units : ℕ} → OrderedFilesGiven s files ids units → Carries s t → FilesPut t files known → OrderGiven s known ids units
-known-linked {s} {files} {ids} {t} {known} {units} x y p =
+-- A TABLE with the files of the units
+abbrev pub with_files : Known → List ℕ → Known
+with_files t files = record t { files = files }
+
+pub known-linked : {s files ids : List ℕ} {t : Known} {units : ℕ} → OrderedFilesGiven s files ids units → Carries s t → OrderGiven s (with_files t files) ids units
+known-linked {s} {files} {ids} {t} {units} x y =
     let u = x.of_units in
-    let n = counted-few s files units u.checked u.files_are u.fits in
-    let l = y.long in
-    let w = p.wide in
-    let fit : units ≤ length known = omega arith in
     record {
       of_units = record {
         checked = u.checked;
-        files_are = files-put t files known p units n u.fits fit ∙ u.files_are;
-        fits = fit;
+        files_are = u.files_are;
+        fits = u.fits;
         known = let k = y.known u.checked in
-            record { complete = record { long = w ∙ l; rows = λ q m. row_put t files known p _ _ _ _ (k.complete.rows q m) }; rise = k.rise };
-        places = places-put s t files known p u.checked (y.places u.checked);
+            record { complete = record { rows = λ q m. row_put t files _ _ _ _ (k.complete.rows q m) }; rise = k.rise };
+        places = let p = y.places u.checked in record { small = p.small; stands = p.stands };
       };
       order = x.order;
       ids_fit = x.ids_fit;
     }
 
-module _ (s files : List ℕ) (units : ℕ) (x : UnitsGiven s files units) where
+-- the ids that are there, as a slice
+pub given-cut : {s ids : List ℕ} {k : Known} {units : ℕ} → OrderGiven s k ids units → OrderGiven s k (take units ids) (length (take units ids))
+given-cut {s} {ids} {k} {units} x =
+    let n = length-take-le units ids x.ids_fit in
+    subst (OrderGiven s k (take units ids)) (sym n)
+    (record { of_units = x.of_units; order = x.order ∙ ap linked (sym (take-take units units ids (omega arith))); ids_fit = omega arith })
+
+module _ (s : List ℕ) (k : Known) (units : ℕ) (x : UnitsGiven s k units) where
+  abbrev files : List ℕ
+  files = k.files
+
   abbrev c : Bundle
   c = decode s
 
@@ -156,27 +166,29 @@ module _ (s files : List ℕ) (units : ℕ) (x : UnitsGiven s files units) where
   pub one_unit : (u : ℕ) → u < units → OneUnit s files u
   one_unit u h = unit-there s files units x.checked x.files_are x.fits u h
 
-  pub placed-unit : (u : ℕ) → u < units → PlacedUnit s files u
+  pub placed-unit : (u : ℕ) → u < units → PlacedUnit s k u
   placed-unit u h = record { of_unit = one_unit u h; places = x.places }
 
-  pub unit-of : (u : ℕ) → u < units → UnitOf s files units u
+  pub unit-of : (u : ℕ) → u < units → UnitOf s k units u
   unit-of u h =
       let one = one_unit u h in
       record {
         unit = h;
         fits = x.fits;
         few = few-units;
-        ids = λ p k. index-units p (paths_of c) (units_of c) (member_true p (paths_of c) k) (unit-listed c) ∙ ap (index_in (position p (paths_of c))) (sym x.files_are);
-        long = x.known.complete.long;
+        ids = λ p m. index-units p (paths_of c) (units_of c) (member_true p (paths_of c) m) (unit-listed c) ∙ ap (index_in (position p (paths_of c))) (sym x.files_are);
         place = index-few s files u one;
-        table = subst (λ (k : ℕ). Row files k (lists_of c) (file_of c u) (file_uses s (file_of c u))) (sym one.index) (x.known.complete.rows (file_of c u) (get_d_mem (units_of c) u [] one.is_unit));
+        table = subst (λ (i : ℕ). Row k i (lists_of c) (file_of c u) (file_uses s (file_of c u))) (sym one.index) (x.known.complete.rows (file_of c u) (get_d_mem (units_of c) u [] one.is_unit));
         rise = x.known.rise (file_of c u);
-        others = λ p k. no_unit p (units_of c) (λ w. member_false k (unit-listed c p w)) ∙ unit-count;
+        others = λ p m. no_unit p (units_of c) (λ w. member_false m (unit-listed c p w)) ∙ unit-count;
       }
 
-  pub unit_brief : Bytes s → (u : ℕ) (y : Items) → y ≡ items_of c u → Brief (file_uses s (file_of c u)) y
-  unit_brief B u y q =
-      rw q (formed_brief (file_uses s (file_of c u)) (items_of c u) depth_limit (program-formed c.files (file_of c u) (sound s B c (accepted s x.checked)).1.form.files) (λ v m. m))
+-- what is in a unit is in form
+pub unit_brief : (s : List ℕ) → Bytes s → {k : Known} {u : ℕ} → PlacedUnit s k u → (end at : ℕ) → items_at depth_limit s end at ≡ items_of (decode s) u
+    → Brief (file_uses s (file_of (decode s) u)) (items_at depth_limit s end at)
+unit_brief s B {k} {u} x end at q =
+    let c = decode s in
+    rw q (formed_brief (file_uses s (file_of c u)) (items_of c u) depth_limit (program-formed c.files (file_of c u) (sound s B c (accepted s x.of_unit.checked)).1.form.files) (λ v m. m))
 
 -- A UNIT IN THE IMAGE
 -- by the items that the code reads
@@ -200,31 +212,31 @@ pub program-one : (b : Bundle) (u : ℕ) (o : List ℕ) → program_bytes b (u �
 unfolding program_bytes unit_bytes assembled items
 program-one b u o = rw append-nil
 
--- THE ORDER
-module _ (s files ids : List ℕ) (units : ℕ) (x : OrderGiven s files ids units) where
-  pub below : (i : ℕ) → i < units → get_or ids i 0 < units
+-- A PROGRAM'S UNITS
+module _ {s : List ℕ} {known : Known} {ids : List ℕ} (x : OrderGiven s known ids (length ids)) where
+  pub placed : (u : ℕ) → u < length ids → PlacedUnit s known u
+  placed = placed-unit s known (length ids) x.of_units
+
+  pub among : (u : ℕ) → u < length ids → UnitOf s known (length ids) u
+  among = unit-of s known (length ids) x.of_units
+
+  -- each id is one of them
+  pub below : (i : ℕ) → i < length ids → get_or ids i 0 < length ids
   below i h =
-      let k = x.ids_fit in
       let r = (checked-roomy s x.of_units.checked).some in
-      let l : LinkedIds (decode s) (take units ids) = (first_half (decode s) r).ids (take units ids) x.order in
-      let m : Memᴰ (get_or ids i 0) (take units ids) = mathlib.Core.List.Memᴰ.cast (sym (get_or-take units ids i 0 h)) (get_d_mem (take units ids) i 0 (let n = length-take-le units ids k in omega arith)) in
-      let c = unit-count s files units x.of_units in
-      let q = l.below (get_or ids i 0) m in
+      let l : LinkedIds (decode s) ids = (first_half (decode s) r).ids ids (x.order ∙ ap linked (take-length ids)) in
+      let c = unit-count s known (length ids) x.of_units in
+      let q = l.below (get_or ids i 0) (get_d_mem ids i 0 h) in
       omega arith
 
-  pub order-step : (i : ℕ) → i < units → program_bytes (decode s) (drop i (take units ids)) ≡ unit_bytes (decode s) (get_or ids i 0) ++ program_bytes (decode s) (drop (i + 1) (take units ids))
-  order-step i h =
-      let n = length-take-le units ids x.ids_fit in
-      let l : i < length (take units ids) = omega arith in
-      ap (program_bytes (decode s)) (drop-cons (take units ids) i 0 l ∙ (ap (λ (u : ℕ). u ∷ drop (suc i) (take units ids)) (get_or-take units ids i 0 h) ∙ ap (λ (k : ℕ). get_or ids i 0 ∷ drop k (take units ids)) (sym (add-one i))))
-      ∙ program-one (decode s) (get_or ids i 0) (drop (i + 1) (take units ids))
+  pub below_first : (m i : ℕ) → i < length (take m ids) → get_or (take m ids) i 0 < length ids
+  below_first m i h =
+      let n = length-take m ids in
+      rw (get_or-take m ids i 0 (omega arith)) (below i (omega arith))
 
-  pub order-end : (i : ℕ) → units ≤ i → program_bytes (decode s) (drop i (take units ids)) ≡ []
-  order-end i h =
-      let n = length-take-le units ids x.ids_fit in
-      ap (program_bytes (decode s)) (nothing_left (take units ids) i (omega arith)) ∙ program-none (decode s)
-    where
-      nothing_left : (l : List ℕ) (i : ℕ) → length l ≤ i → drop i l ≡ []
-      nothing_left [] i k = lib.Seq.drop-nil i
-      nothing_left (a ∷ l) zero k = absurd (omega arith)
-      nothing_left (a ∷ l) (suc i) k = nothing_left l i (omega arith)
+-- IN THEIR ORDER
+pub order-step : (b : Bundle) (ids : List ℕ) (i : ℕ) → i < length ids → program_bytes b (drop i ids) ≡ unit_bytes b (get_or ids i 0) ++ program_bytes b (drop (i + 1) ids)
+order-step b ids i h = ap (program_bytes b) (drop-cons ids i 0 h ∙ ap (λ (k : ℕ). get_or ids i 0 ∷ drop k ids) (sym (add-one i))) ∙ program-one b (get_or ids i 0) (drop (i + 1) ids)
+
+pub order-end : (b : Bundle) (ids : List ℕ) (i : ℕ) → length ids ≤ i → program_bytes b (drop i ids) ≡ []
+order-end b ids i h = ap (program_bytes b) (drop_of_length-le ids h) ∙ program-none b

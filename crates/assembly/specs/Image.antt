@@ -11,8 +11,8 @@ use Rattle.bundle.specs.Bundle.{Text, Element, Head, Items, none, named, use_of,
 use Rattle.bundle.specs.Encode.{two, string, joined, counted, sized, element, encode_head, items}
 use Rattle.bundle.specs.Limits.{version, header, capacity, use_kind, module_kind, ignored_kind}
 use Rattle.bundle.specs.declared.Width.TheVariants.{Word}
-use Rattle.assembly.specs.declared.Imaged.{Imaged}
-use Rattle.assembly.specs.declared.Imaged.TheVariants as imaged
+use Rattle.assembly.specs.Results.{Imaged}
+use Rattle.assembly.specs.Results as imaged
 
 -- the specification's numbers
 abbrev pub small_buffer : ℕ

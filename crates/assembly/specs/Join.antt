@@ -13,21 +13,19 @@ use Rattle.bundle.specs.Results.{Ok, Refused}
 use Rattle.resolution.specs.Call.{position}
 use Rattle.discovery.specs.Discovery.{Fault, paths_of}
 use Rattle.discovery.specs.Room.{checked-roomy}
-pub use Rattle.driver.specs.Meaning.{faults-counted}
 use Rattle.order.specs.Run.{linked, ordered, units_of}
 use Rattle.order.specs.Run as order
 use Rattle.order.specs.Call.{padded, unit_files, order_answer, order_report}
 use Rattle.order.specs.Call as call
 use Rattle.order.specs.Report.{fault, lent_report, reporting, nothing_lent, tells, tells-some, tells_none}
 use Rattle.order.specs.Theorems.{first_half, order-count}
-use Rattle.order.specs.declared.Answer.{Answer}
-use Rattle.order.specs.declared.Reported.{Reported}
+use Rattle.order.specs.Results.{Reported, Answer}
 use Rattle.order.specs.Carried.{order-read, not-refused, units-only, carried}
 use Rattle.assembly.specs.Assemble.{Outcome, faulty, program, assembled, assembly_faults, step5, assemble_after, linearize_and_assemble}
 use Rattle.assembly.specs.Image.{imaging, lent_image}
 use Rattle.assembly.specs.Call.{faults_told, records_of, reported_to, imaged_to, with_image, answering, image_after, assemble_answer, assemble_report, assemble_image}
 use Rattle.assembly.specs.Given.{OrderedFilesGiven}
-use Rattle.assembly.specs.declared.Imaged.{Imaged}
+use Rattle.assembly.specs.Results.{Imaged}
 
 -- what is due of an answer and of both buffers
 abbrev pub Due : (s report₀ image₀ report₁ image₁ : List ℕ) → Answer → Type 0

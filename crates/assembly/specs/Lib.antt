@@ -1,7 +1,9 @@
 -- DEFINITIONS: what contracts and theorems speak of
 pub mod Assemble
+pub mod Results
 pub mod Image
 pub mod Call
+pub mod Told
 pub mod Given
 -- THEOREMS to cite
 pub mod Rewritten
@@ -15,7 +17,9 @@ pub mod Demand
 pub mod Cases
 -- LAWS for code and proofs
 pub mod Targets
+pub mod Codes
 pub mod Walk
 pub mod GivenLaws
+pub mod FaultRoom
 pub mod EnumRoom
 pub mod Join

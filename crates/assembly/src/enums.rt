@@ -1,77 +1,62 @@
-// The enums of a unit and the main function: what 27 and 28 are told of.
-ghost use Rattle.std.specs.Prelude.{◌≡◌, ℕ, ◌<◌, ◌≤◌, ◌^◌, length};
-ghost use Rattle.bundle.specs.Decode.{items_at};
+// The enums of a unit, those of its modules included.
+ghost use Rattle.std.specs.Prelude.{◌≡◌, ◌+◌, ◌<◌, ◌≤◌, ◌++◌, length, map};
+ghost use Rattle.bundle.specs.Limits.{module_kind};
+ghost use Rattle.bundle.specs.Scan.{byte};
+ghost use Rattle.bundle.specs.Decode.{decode};
 ghost use Rattle.discovery.specs.Walk.{Small};
-ghost use Rattle.encoder.specs.Started.{started};
-ghost use Rattle.assembly.specs.Assemble.{has_main};
-ghost use Rattle.assembly.specs.Walk.{item_enums, items_enums, main_at};
+ghost use Rattle.assembly.specs.Assemble.{items_of, enum_declarations};
+ghost use Rattle.assembly.specs.FaultRoom.{fault_limit, foreign, Told};
+ghost use Rattle.assembly.specs.Walk.{item_enums, items_enums, named_enums};
 
-use bundle::limits::MODULE;
+use crate::Unit;
+use crate::faults::Faults;
+use bundle::limits::DEPTH;
+use bundle::{Items, Kind, Range};
+use refusal::Cause;
 
-// Kinds of items.
-const FUNCTION: usize = 2;
+// The kind of an enum.
+const ENUM: u8 = 4;
 
-const ENUM: usize = 4;
-
-// An item: an enum's mark is stored at the start of `marks`, a module's items are walked. The answer is how many are stored.
-#[cycle(enum_item_enum_items)]
-fn enum_item(s: &[u8], at: usize, depth: usize, marks: &mut [usize]) -> usize
-    requires { Small at depth × (length (item_enums s.now depth at) ≤ length marks.old) }
-    ensures { (result ≡ length (item_enums s.now depth at)) × (marks.new ≡ started (item_enums s.now depth at) marks.old) }
+// 28 for an item of this kind, if it is an enum.
+fn tell_named(kind: u8, at: usize, faults: &mut Faults)
+    requires { length faults.old + length (named_enums kind at) ≤ fault_limit }
+    ensures { Told faults.old faults.new (named_enums kind at) }
 {
-    let kind = bundle::item_kind(s, at);
     if kind == ENUM {
-        marks[0] = at;
-        return 1;
+        faults.push(Cause::ForeignEnum.at(at));
     }
-    if kind == MODULE {
-        if depth == 0 {
-            return 0;
+}
+
+// The enums of the module at `at`, with modules at most `depth` deep.
+#[cycle(tell_items_tell_module)]
+fn tell_module(s: &[u8], at: usize, depth: usize, faults: &mut Faults)
+    requires { (Small at depth × (byte s.now (at + 2) ≡ module_kind)) × (length faults.old + length (item_enums s.now depth at) ≤ fault_limit) }
+    ensures { Told faults.old faults.new (item_enums s.now depth at) }
+{
+    if depth > 0 {
+        tell_items(s, bundle::module_items(s, at), depth - 1, faults);
+    }
+}
+
+// Those of these items: an enum is told, a module's items are walked.
+#[cycle(tell_items_tell_module)]
+fn tell_items(s: &[u8], items: Range, depth: usize, faults: &mut Faults)
+    requires { Small items.end depth × (length faults.old + length (items_enums s.now depth items.end items.at) ≤ fault_limit) }
+    ensures { Told faults.old faults.new (items_enums s.now depth items.end items.at) }
+{
+    for at in Items::of(s, items) {
+        match bundle::kind(s, at) {
+            Kind::Named(kind) => tell_named(kind, at, faults),
+            Kind::Module => tell_module(s, at, depth, faults),
+            Kind::Use | Kind::Ignored => {}
         }
-        let inner = bundle::module_items(s, at);
-        return enum_items(s, inner.at, inner.end, depth - 1, marks);
     }
-    0
 }
 
-// The items from `at` to `end`, with modules at most `depth` deep.
-#[cycle(enum_item_enum_items)]
-pub fn enum_items(s: &[u8], at: usize, end: usize, depth: usize, marks: &mut [usize]) -> usize
-    requires { Small end depth × (length (items_enums s.now depth end at) ≤ length marks.old) }
-    ensures { (result ≡ length (items_enums s.now depth end at)) × (marks.new ≡ started (items_enums s.now depth end at) marks.old) }
+// 28 for each enum of a unit.
+pub fn forbid_enum_dec(unit: &Unit<'_>, faults: &mut Faults)
+    requires { length faults.old + length (enum_declarations (items_of (decode unit.now.bytes.now) unit.now.id)) ≤ fault_limit }
+    ensures { Told faults.old faults.new (enum_declarations (items_of (decode unit.now.bytes.now) unit.now.id)) }
 {
-    let mut sum = 0;
-    let mut a = at;
-    while a < end {
-        let n = enum_item(s, a, depth, &mut marks[sum..]);
-        sum += n;
-        a = bundle::next_item(s, a);
-    }
-    sum
-}
-
-// Whether the item is a function named `main`.
-fn is_main_function(s: &[u8], at: usize) -> bool
-    requires { at < 2 ^ 58 }
-    ensures { result ≡ main_at s.now at }
-{
-    if bundle::item_kind(s, at) != FUNCTION {
-        return false;
-    }
-    names::is_main(bundle::item_name(s, at))
-}
-
-// Whether such a function is among the items from `at` to `end`, and not inside their modules.
-pub fn has_main(s: &[u8], at: usize, end: usize) -> bool
-    requires { end < 2 ^ 58 }
-    ensures { (depth : ℕ) → result ≡ has_main (items_at depth s.now end at) }
-{
-    let mut a = at;
-    while a < end {
-        if is_main_function(s, a) {
-            return true;
-        }
-        a = bundle::next_item(s, a);
-    }
-    false
+    tell_items(unit.bytes, unit.items(), DEPTH, faults);
 }

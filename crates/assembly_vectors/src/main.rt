@@ -4,6 +4,7 @@
 #![tactic(auto)]
 
 use lines::Hex;
+use program::Assembled;
 use refusal::Cause;
 use std::io;
 use std::io::Write;
@@ -13,20 +14,21 @@ const SIZE: usize = 65538;
 fn tell<W: Write>(out: &mut W, bundle: &[u8]) -> io::Result<()> {
     let mut report = [0u8; 4096];
     let mut image = [0u8; SIZE];
-    let a = program::assemble(bundle, &mut report, &mut image);
-    if a.number != 0 {
-        return lines::tell_refusal(out, a.number, a.place);
+    match program::assemble(bundle, &mut report, &mut image) {
+        Err(refusal) => writeln!(out, "{refusal}"),
+        Ok(Assembled::Report(n)) => {
+            let told = report.get(..n).unwrap_or(&[]);
+            let Some(ids) = lines::ring(told) else {
+                return lines::tell_faults(out, told);
+            };
+            writeln!(out, "{}", Cause::Ring.at(0))?;
+            lines::tell_ring(out, ids)
+        }
+        Ok(Assembled::Image(linked, n)) => {
+            let image = image.get(..n).unwrap_or(&[]);
+            writeln!(out, "ok {}\nimage {}", linked.units, Hex(image))
+        }
     }
-    let told = report.get(..a.report).unwrap_or(&[]);
-    if let Some(ids) = lines::ring(told) {
-        writeln!(out, "{}", Cause::Ring.at(0))?;
-        return lines::tell_ring(out, ids);
-    }
-    if !told.is_empty() {
-        return lines::tell_faults(out, told);
-    }
-    let image = image.get(..a.image).unwrap_or(&[]);
-    writeln!(out, "ok {}\nimage {}", a.units, Hex(image))
 }
 
 fn main(rt: HostRuntime) -> io::Result<()> {

@@ -28,6 +28,8 @@ pub mod Steps
 pub mod Walks
 pub mod ListLaws
 pub mod Access
+pub mod Places
+pub mod Kinds
 pub mod Stand
 pub mod Marks
 pub mod Sound

@@ -1,5 +1,6 @@
 -- The code's answers in the specification's numbers. Assumes nothing.
-use Rattle.std.specs.Prelude.{ℕ, Result, Ok, Err}
+use Rattle.std.specs.Prelude.{ℕ, Bool, true, false, cond, eqb, ◌≡◌, refl, Result, Ok, Err}
+use Rattle.std.proofs.Common.{sym, ap, ◌∙◌, eqb-true}
 use Rattle.refusal.specs.declared.Refusal.{Refusal}
 use Rattle.refusal.specs.Numbers.{number_of}
 use Rattle.bundle.specs.declared.Passed.{Passed}
@@ -27,3 +28,27 @@ kind_number (Named k) = k
 kind_number Use = use_kind
 kind_number Module = module_kind
 kind_number Ignored = ignored_kind
+
+-- and the kind of a number
+abbrev pub kind_from : ℕ → Kind
+kind_from k = cond (eqb k use_kind) Use (cond (eqb k module_kind) Module (cond (eqb k ignored_kind) Ignored (Named k)))
+
+pub kind-number : (k : ℕ) → kind_number (kind_from k) ≡ k
+kind-number k = go (eqb k use_kind) (eqb k module_kind) (eqb k ignored_kind) refl refl refl
+  where
+    go : (a b c : Bool) → eqb k use_kind ≡ a → eqb k module_kind ≡ b → eqb k ignored_kind ≡ c → kind_number (cond a Use (cond b Module (cond c Ignored (Named k)))) ≡ k
+    go true b c p q r = sym (eqb-true k use_kind p)
+    go false true c p q r = sym (eqb-true k module_kind q)
+    go false false true p q r = sym (eqb-true k ignored_kind r)
+    go false false false p q r = refl
+
+-- AN ITEM'S KIND, as the code tells it
+pub told-use : (n : ℕ) → kind_from n ≡ Use → n ≡ use_kind
+told-use n e = sym (kind-number n) ∙ ap kind_number e
+
+pub told-module : (n : ℕ) → kind_from n ≡ Module → n ≡ module_kind
+told-module n e = sym (kind-number n) ∙ ap kind_number e
+
+-- neither
+pub told-other : (n : ℕ) → (kind_from n ≡ Use → ⊥) → (kind_from n ≡ Module → ⊥) → (n ≡ use_kind → ⊥) × (n ≡ module_kind → ⊥)
+told-other n f g = (λ e. f (ap kind_from e), λ e. g (ap kind_from e))

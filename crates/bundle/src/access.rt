@@ -3,14 +3,15 @@
 ghost use Rattle.std.specs.Prelude.{◌≡◌, ℕ, suc, ◌+◌, ◌<◌, ◌≤◌, ◌^◌, length, get_or};
 ghost use Rattle.bundle.specs.Bundle.{Text, Remapping, File};
 ghost use Rattle.bundle.specs.Limits.{capacity, count_limit, string_size, element_size, remapping_size, file_size, depth_limit, use_kind, module_kind, ignored_kind};
-ghost use Rattle.bundle.specs.Scan.{text, count, past_count};
+ghost use Rattle.bundle.specs.Scan.{byte, text, count, past_count};
 ghost use Rattle.bundle.specs.Decode.{each, after, after_element, after_remapping, after_file, element_at, remapping_at, file_at, items_at, decode, folder_first, folder_count, remapping_first, remapping_count, file_first, file_count};
+ghost use Rattle.bundle.specs.Told.{kind_from};
 ghost use Rattle.bundle.specs.Parts.{kind_of, visibility_of, name_of, segments_of, elements_of, inner_of, rest_of};
 
-use crate::Width;
 use crate::bytes::{after_length, after_string, byte_at, count_at, text_at, version_of};
 use crate::limits::{HEADER, file_width, folder_width, width_bytes};
 use crate::steps::{Files, Remappings, Texts, past};
+use crate::{Kind, Width};
 
 // A counted list: the position of its first value, and how many there are.
 #[derive(Clone, Copy)]
@@ -38,26 +39,33 @@ fn listed_at(s: &[u8], at: usize, width: Width) -> Listed
     }
 }
 
-// The three lists, each after the one before it.
-pub fn folder_list(s: &[u8]) -> Listed
-    ensures { ((result.first ≡ folder_first s.now) × (result.count ≡ folder_count s.now)) × ((result.first < 2 ^ 10) × (result.count < count_limit)) }
+// The three lists, each after the one before it: a value is read at its position, and the next stands after it. Three functions and not one
+// over `Part`: each list has its width and another type of values.
+pub fn folders(s: &[u8]) -> Listed
+    ensures place { (result.first ≡ folder_first s.now) × (result.count ≡ folder_count s.now) }
+    ensures list { each (after s.now) (text s.now) result.count result.first ≡ (decode s.now).folders }
+    ensures bound { (result.first < 2 ^ 10) × (result.count < count_limit) }
 {
     let at = after_string(s, HEADER);
     listed_at(s, at, folder_width(version_of(s)))
 }
 
-pub fn remapping_list(s: &[u8]) -> Listed
-    ensures { ((result.first ≡ remapping_first s.now) × (result.count ≡ remapping_count s.now)) × ((result.first < 2 ^ 18) × (result.count < count_limit)) }
+pub fn remappings(s: &[u8]) -> Listed
+    ensures place { (result.first ≡ remapping_first s.now) × (result.count ≡ remapping_count s.now) }
+    ensures list { each (after_remapping s.now) (remapping_at s.now) result.count result.first ≡ (decode s.now).remappings }
+    ensures bound { (result.first < 2 ^ 18) × (result.count < count_limit) }
 {
-    let folders = folder_list(s);
+    let folders = folders(s);
     let at = past::<Texts>(s, folders.first, folders.count);
     listed_at(s, at, Width::Byte)
 }
 
-pub fn file_list(s: &[u8]) -> Listed
-    ensures { ((result.first ≡ file_first s.now) × (result.count ≡ file_count s.now)) × ((result.first < 2 ^ 20) × (result.count < count_limit)) }
+pub fn files(s: &[u8]) -> Listed
+    ensures place { (result.first ≡ file_first s.now) × (result.count ≡ file_count s.now) }
+    ensures list { each (after_file s.now) (file_at s.now) result.count result.first ≡ (decode s.now).files }
+    ensures bound { (result.first < 2 ^ 20) × (result.count < count_limit) }
 {
-    let remappings = remapping_list(s);
+    let remappings = remappings(s);
     let at = past::<Remappings>(s, remappings.first, remappings.count);
     listed_at(s, at, file_width(version_of(s)))
 }
@@ -69,31 +77,12 @@ pub fn root(s: &[u8]) -> &[u8]
     text_at(s, HEADER)
 }
 
-// The folders: each is the string at its position, and the next stands after it.
-pub fn folders(s: &[u8]) -> Listed
-    ensures { (each (after s.now) (text s.now) result.count result.first ≡ (decode s.now).folders) × ((result.first < 2 ^ 20) × (result.count < count_limit)) }
-{
-    folder_list(s)
-}
-
-pub fn remappings(s: &[u8]) -> Listed
-    ensures { (each (after_remapping s.now) (remapping_at s.now) result.count result.first ≡ (decode s.now).remappings) × ((result.first < 2 ^ 20) × (result.count < count_limit)) }
-{
-    remapping_list(s)
-}
-
-pub fn files(s: &[u8]) -> Listed
-    ensures { (each (after_file s.now) (file_at s.now) result.count result.first ≡ (decode s.now).files) × ((result.first < 2 ^ 20) × (result.count < count_limit)) }
-{
-    file_list(s)
-}
-
 // The positions of the i-th folder, remapping and file.
 pub fn folder_at(s: &[u8], i: usize) -> usize
     requires { i < count_limit }
     ensures { ((d : Text) → i < length (decode s.now).folders → get_or (decode s.now).folders i d ≡ text s.now result) × (result < 2 ^ 20) }
 {
-    let folders = folder_list(s);
+    let folders = folders(s);
     past::<Texts>(s, folders.first, i)
 }
 
@@ -101,7 +90,7 @@ pub fn remapping_at(s: &[u8], i: usize) -> usize
     requires { i < count_limit }
     ensures { ((d : Remapping) → i < length (decode s.now).remappings → get_or (decode s.now).remappings i d ≡ remapping_at s.now result) × (result < 2 ^ 20) }
 {
-    let remappings = remapping_list(s);
+    let remappings = remappings(s);
     past::<Remappings>(s, remappings.first, i)
 }
 
@@ -109,7 +98,7 @@ pub fn file_at(s: &[u8], i: usize) -> usize
     requires { i < count_limit }
     ensures { ((d : File) → i < length (decode s.now).files → get_or (decode s.now).files i d ≡ file_at s.now result) × (result < 2 ^ 26) }
 {
-    let files = file_list(s);
+    let files = files(s);
     past::<Files>(s, files.first, i)
 }
 
@@ -215,12 +204,22 @@ pub fn element_alias(s: &[u8], at: usize) -> &[u8]
 }
 
 // AN ITEM'S PARTS. Its mark is its position. The items from `at` to `end` are read with modules `depth` deep, as the items of
-// a file are with `depth_limit`; a module's items are read one less deep.
+// a file are with `depth_limit`; a module's items are read one less deep. An item is (s, at), no struct with the bound of `at`: marks are
+// kept as numbers, in arrays and by C, and a struct would be made and taken apart at each call.
 pub fn item_kind(s: &[u8], at: usize) -> usize
     requires { at < 2 ^ 62 }
     ensures { (depth end : ℕ) → at < end → result ≡ kind_of (items_at depth s.now end at) }
 {
     byte_at(s, at + 2)
+}
+
+// The same as an enum.
+pub fn kind(s: &[u8], at: usize) -> Kind
+    requires { at < 2 ^ 63 }
+    ensures item { (depth end : ℕ) → at < end → result ≡ kind_from (kind_of (items_at depth s.now end at)) }
+    ensures byte { result ≡ kind_from (byte s.now (at + 2)) }
+{
+    Kind::from(byte_at(s, at + 2) as u8)
 }
 
 pub fn item_visibility(s: &[u8], at: usize) -> usize

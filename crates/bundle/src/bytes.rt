@@ -13,7 +13,7 @@ pub fn byte_at(s: &[u8], at: usize) -> usize
     s.get(at).map_or(0, |b| usize::from(*b))
 }
 
-// The 2-byte number at `at`.
+// The 2-byte number at `at`. Not `from_be_bytes`: either byte may be past the end.
 pub fn word_at(s: &[u8], at: usize) -> usize
     requires { at + 1 < 2 ^ 64 }
     ensures { (result ≡ word s.now at) × (result < capacity Width.Word) }

@@ -1,6 +1,6 @@
 // An item's kind.
 ghost use Rattle.std.specs.Prelude.{◌≡◌};
-ghost use Rattle.bundle.specs.Told.{kind_number};
+ghost use Rattle.bundle.specs.Told.{kind_from, kind_number};
 
 // What a kind says of an item's body: a use, a module, an ignored item, or a name alone. Named are a type alias, a function and
 // an enum, and of bytes that are no bundle any other number.
@@ -13,7 +13,7 @@ pub enum Kind {
 }
 
 impl From<u8> for Kind {
-    ghost from_gives = { λ n k. kind_number k ≡ n };
+    ghost from_gives = { λ n k. k ≡ kind_from n };
 
     fn from(n: u8) -> Kind {
         match n {

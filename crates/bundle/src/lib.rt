@@ -6,17 +6,18 @@ mod bytes;
 mod kinds;
 pub mod limits;
 mod steps;
+mod walk;
 
 pub use access::{
-    Listed, Range, element_alias, element_name, file_at, file_items, file_list, file_path, files,
-    folder_at, folder_list, folders, item_kind, item_name, item_visibility, module_items,
-    next_element, next_file, next_item, next_remapping, next_string, remapping_at,
-    remapping_context, remapping_list, remapping_name, remapping_target, remappings, root, string,
-    use_elements, use_segments,
+    Listed, Range, element_alias, element_name, file_at, file_items, file_path, files, folder_at,
+    folders, item_kind, item_name, item_visibility, kind, module_items, next_element, next_file,
+    next_item, next_remapping, next_string, remapping_at, remapping_context, remapping_name,
+    remapping_target, remappings, root, string, use_elements, use_segments,
 };
 pub use bytes::{byte_at, count_at, text_at, version_of, word_at};
 pub use kinds::Kind;
 pub use steps::{Files, Part, Remappings, Texts, past};
+pub use walk::Items;
 
 // What a walk over items has passed: where the next starts, and how many items and uses there were.
 #[derive(Clone, Copy, Debug, PartialEq, Eq)]

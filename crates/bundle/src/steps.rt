@@ -1,7 +1,7 @@
 // Steps over the values of a list.
 ghost use Rattle.std.specs.Prelude.{◌≡◌, ℕ, List, ◌+◌, ◌*◌, ◌<◌, ◌≤◌, ◌^◌};
 ghost use Rattle.std.proofs.Common.{rules};
-ghost use Rattle.bundle.specs.Limits.{count_limit, string_size, remapping_size, file_size};
+ghost use Rattle.bundle.specs.Limits.{string_size, remapping_size, file_size};
 ghost use Rattle.bundle.specs.Decode.{far, after, after_file, after_remapping};
 
 use crate::access::{next_file, next_remapping, next_string};
@@ -64,7 +64,7 @@ impl Part for Files {
 
 // Past n of them.
 pub fn past<P: Part>(s: &[u8], at: usize, n: usize) -> usize
-    requires { (at < 2 ^ 60) × (n < count_limit) }
+    requires { (at < 2 ^ 60) × (n < 1024) }
     ensures { (result ≡ far (P.after s.now) n at) × (result ≤ at + n * P.size) }
 {
     let mut a = at;

@@ -1,22 +1,25 @@
 -- What a card means: numbers by which the listed paths of a bundle are a tree with an index. Assumes nothing.
-use Rattle.std.specs.Prelude.{ℕ, suc, ◌+◌, ◌%◌, ◌/◌, ◌≤◌, ◌<◌, ◌^◌, Bool, ◌&&◌, not, ◌≡◌, Option, Some, None, get_or, drop}
+use Rattle.std.specs.Prelude.{ℕ, suc, ◌+◌, ◌≤◌, ◌<◌, ◌^◌, Bool, ◌&&◌, ◌≡◌, Option, Some, None, get_or, drop}
 use Rattle.std.proofs.Common.{arith, ap, ◌∙◌, length-append}
 use Rattle.std.proofs.Math.Decide.{dec_lt}
-use Rattle.std.proofs.Math.Bool.{true, false, cond}
+use Rattle.std.proofs.Math.Bool.{true, false, cond, and-false}
 use Rattle.std.proofs.Math.Path.{refl, sym}
 use mathlib.Core.List.{List, [], ◌∷◌, ◌++◌, map}
 use Rattle.std.proofs.Math.Dec.{eqb, leb}
 use Rattle.std.proofs.Math.ListN.{length}
-use borrow.Author.Tests.{eq-eqb, ne_eqb, eqb-true, eqb-false, le-leb, lt-leb}
-use Rattle.names.specs.Bytes.{slash, has_prefix, same-append, same, same-eq, equal-same, different, member, and_right, not_true}
+use borrow.Author.Tests.{eq-eqb, ne_eqb, eqb-true, eqb-false, le-leb}
+use Rattle.names.specs.Bytes.{slash, same, same-eq, equal-same, different, member, and_right, not_true}
 use Rattle.names.specs.Path.{root, is_path, component_limit}
 use Rattle.names.specs.Prefix.{starts_with, stem_of, child}
 use Rattle.names.specs.PathTheorems.{form}
 use Rattle.names.specs.FolderTheorems.{Plain}
 use Rattle.bundle.specs.Bundle.{Text, Bundle, File, Remapping, with_slash}
+use Rattle.bundle.specs.Limits.{remapping_limit}
 use Rattle.bundle.specs.Scan.{text}
-use Rattle.bundle.specs.Decode.{decode, file_at, remapping_at}
-use Rattle.card.specs.Layout.{node_limit, bucket_limit, card_size, key_limit, parent_at, start_at, hash_at, next_at, mark_at, head_at, context_at, target_at, place_at, folders_of, remappings_of, files_of, root_of, key_of}
+use Rattle.bundle.specs.Decode.{far, after_remapping, after_file, decode, file_at, file_count, file_first, remapping_at, remapping_count, remapping_first}
+use Rattle.bundle.specs.ListLaws.{each-length, each_at}
+use Rattle.card.specs.declared.parts.Card.{Card}
+use Rattle.card.specs.Layout.{node_limit, bucket_limit, bucket_of, key_limit, parent_at, start_at, hash_at, next_at, root_at, head_at, map_at}
 use Rattle.card.specs.Tree.{Tree, ascends, below-is, hit-is}
 use Rattle.card.specs.Index.{last_in, last-below, last_key, last-above, Chained, Looked, Walking, walking_start, walking_on, walking_found, walking_end, hashed, hashed-append}
 
@@ -39,24 +42,30 @@ unfoldable pub hash_of : ℕ → Text → ℕ
 hash_of m p = cond (eqb (length p) 1) seed (hashed m seed p)
 
 -- the chain that an index is in
-abbrev pub bucket_at : List ℕ → ℕ → ℕ
-bucket_at c i = hash_at c i / 16777216 % bucket_limit
+abbrev pub bucket_at : Card → ℕ → ℕ
+bucket_at c i = bucket_of (hash_at c i)
+
+-- how many of all there is room for
+pub record Sized (c : Card) : Type 0 where
+  pub nodes : length c.nodes ≡ node_limit
+  pub links : length c.links ≡ node_limit
+  pub heads : length c.heads ≡ bucket_limit
+  pub maps : length c.maps ≡ remapping_limit
 
 -- THE INDEX over a list of paths that stand in s, the first of which is `/`
-pub record IndexOf (s : List ℕ) (ps : List Text) (c : List ℕ) : Type 0 where
-  pub size : length c ≡ card_size
+pub record IndexOf (s : List ℕ) (ps : List Text) (c : Card) : Type 0 where
+  pub size : Sized c
   pub some : 0 < length ps
   pub count : length ps ≤ node_limit
-  pub multiplier : key_of c < key_limit
+  pub multiplier : c.key < key_limit
   pub texts : (i : ℕ) → i < length ps → (i ≡ 0 → ⊥) → text s (start_at c i) ≡ get_or ps i []
   pub low : (i : ℕ) → i < length ps → start_at c i < 2 ^ 26
-  pub hash : (i : ℕ) → i < length ps → hash_at c i ≡ hash_of (key_of c) (get_or ps i [])
+  pub hash : (i : ℕ) → i < length ps → hash_at c i ≡ hash_of c.key (get_or ps i [])
   pub chains : Chained (bucket_at c) (head_at c) (next_at c) (length ps)
 
 -- parents that stay inside
-pub record Above (c : List ℕ) : Type 0 where
-  pub size : length c ≡ card_size
-  pub inside : (i : ℕ) → i < node_limit → parent_at c i < node_limit
+abbrev pub Above : Card → Type 0
+Above c = (i : ℕ) → parent_at c i < node_limit
 
 -- index i is that of a folder, `/` among them, and its path is p
 pub record FolderAt (b : Bundle) (p : Text) (i : ℕ) : Type 0 where
@@ -69,25 +78,40 @@ InFolder b t (Some i) = FolderAt b t i
 InFolder b t None = member t (with_slash b.folders) ≡ false
 
 -- of each remapping its position and the folders of its context and its target
-pub record Maps (s : List ℕ) (c : List ℕ) : Type 0 where
-  pub places : (j : ℕ) (d : Remapping) → j < length (decode s).remappings → remapping_at s (place_at c j) ≡ get_or (decode s).remappings j d
-  pub low : (j : ℕ) → j < length (decode s).remappings → place_at c j < 2 ^ 26
-  pub contexts : (j : ℕ) (d : Remapping) → j < length (decode s).remappings → FolderAt (decode s) (get_or (decode s).remappings j d).context (context_at c j)
-  pub targets : (j : ℕ) (d : Remapping) → j < length (decode s).remappings → FolderAt (decode s) (get_or (decode s).remappings j d).target (target_at c j)
+pub record Maps (s : List ℕ) (c : Card) : Type 0 where
+  pub places : (j : ℕ) → j < length (decode s).remappings → (map_at c j).place ≡ far (after_remapping s) j (remapping_first s)
+  pub low : (j : ℕ) → j < length (decode s).remappings → (map_at c j).place < 2 ^ 26
+  pub contexts : (j : ℕ) (d : Remapping) → j < length (decode s).remappings → FolderAt (decode s) (get_or (decode s).remappings j d).context (map_at c j).context
+  pub targets : (j : ℕ) (d : Remapping) → j < length (decode s).remappings → FolderAt (decode s) (get_or (decode s).remappings j d).target (map_at c j).target
 
 -- THE MEANING OF A CARD: it is the lists of the bundle s
-pub record CardIs (s : List ℕ) (c : List ℕ) : Type 0 where
+pub record CardIs (s : List ℕ) (c : Card) : Type 0 where
   pub index : IndexOf s (nodes_in s) c
   pub above : Above c
   pub tree : Tree (nodes_in s) (parent_at c)
-  pub folders : folders_of c ≡ length (decode s).folders
-  pub remappings : remappings_of c ≡ length (decode s).remappings
-  pub files : files_of c ≡ length (decode s).files
+  pub folders : c.folders ≡ length (decode s).folders
+  pub remappings : c.remappings ≡ length (decode s).remappings
+  pub few : length (decode s).remappings ≤ remapping_limit
+  pub files : c.files ≡ length (decode s).files
   -- a file's start is the file's
-  pub starts : (i : ℕ) (d : File) → i < length (decode s).files → file_at s (start_at c (suc (length (decode s).folders + i))) ≡ get_or (decode s).files i d
-  pub marks : (i : ℕ) → i < length (nodes_in s) → eqb (mark_at c i) 1 ≡ member (get_or (nodes_in s) i []) (roots_of (decode s))
+  pub starts : (i : ℕ) → i < length (decode s).files → start_at c (suc (length (decode s).folders + i)) ≡ far (after_file s) i (file_first s)
+  pub marks : (i : ℕ) → i < length (nodes_in s) → root_at c i ≡ member (get_or (nodes_in s) i []) (roots_of (decode s))
   pub maps : Maps s c
-  pub entry : FolderAt (decode s) (decode s).root (root_of c)
+  pub entry : FolderAt (decode s) (decode s).root c.root
+
+-- the file at a file's start, and the remapping at its place
+module _ {s : List ℕ} {c : Card} (C : CardIs s c) where
+  pub file-starts : (i : ℕ) (d : File) → i < length (decode s).files → file_at s (start_at c (suc (length (decode s).folders + i))) ≡ get_or (decode s).files i d
+  unfolding decode
+  file-starts i d h =
+      let o : i < file_count s = omega (arith, each-length (after_file s) (file_at s) (file_count s) (file_first s)) in
+      ap (file_at s) (C.starts i h) ∙ sym (each_at (after_file s) (file_at s) (file_count s) i (file_first s) d o)
+
+  pub map-places : (j : ℕ) (d : Remapping) → j < length (decode s).remappings → remapping_at s (map_at c j).place ≡ get_or (decode s).remappings j d
+  unfolding decode
+  map-places j d h =
+      let o : j < remapping_count s = omega (arith, each-length (after_remapping s) (remapping_at s) (remapping_count s) (remapping_first s)) in
+      ap (remapping_at s) (C.maps.places j h) ∙ sym (each_at (after_remapping s) (remapping_at s) (remapping_count s) j (remapping_first s) d o)
 
 -- THE HASH OF A NAME IN A FOLDER
 pub child-long : (d n : Text) → 1 ≤ length n → length (child d n) ≡ 1 → ⊥
@@ -125,59 +149,13 @@ module _ (m : ℕ) where
   hash-child d n h p = hash-long (child d n) (child-long d n p.some_byte) ∙ hash-whole d n ∙ ap (λ (x : ℕ). hashed m x (slash ∷ n)) (sym (hash_stem d h))
 
 -- ONE LOOKUP
--- the code's test of an index by the hash, the parent and the start that the card has of it
-unfoldable pub hit : List ℕ → ℕ → ℕ → ℕ → ℕ → ℕ → ℕ → Text → Bool
-hit s hash h parent start d cut n = eqb hash h && (eqb parent d && same (drop cut (text s start)) n)
-
-not_false : (b : Bool) → not b ≡ false → b ≡ true
-not_false true h = refl
-not_false false h = sym h
-
-not-is_true : (b : Bool) → not b ≡ true → b ≡ false
-not-is_true true h = sym h
-not-is_true false h = refl
-
-and_false : (b : Bool) → (b && false) ≡ false
-and_false true = refl
-and_false false = refl
-
-module _ (s : List ℕ) (hash h parent start d cut : ℕ) (n : Text) where
-  pub hit_unlike : (v : ℕ) → v ≡ hash → (v ≡ h → ⊥) → false ≡ hit s hash h parent start d cut n
-  unfolding hit
-  hit_unlike v q z = rw (ne_eqb hash h (λ y. z (q ∙ y)))
-
-  pub hit_elsewhere : (w : ℕ) → w ≡ parent → (w ≡ d → ⊥) → false ≡ hit s hash h parent start d cut n
-  unfolding hit
-  hit_elsewhere w q z = rw (ne_eqb parent d (λ y. z (q ∙ y))) (sym (and_false (eqb hash h)))
-
-module _ (s : List ℕ) (hash h parent start d cut : ℕ) (n e : Text) (v : ℕ) (vq : v ≡ hash) (vh : v ≡ h) where
-  module _ (w : ℕ) (q : w ≡ parent) (o : w ≡ d) (f : ℕ) (fq : f ≡ start) (t : Text) (tq : t ≡ text s f) (l : Text) (lq : l ≡ drop cut t) (b : Bool) (bq : b ≡ has_prefix l n) where
-    same-last : l ≡ drop cut (text s start)
-    same-last = lq ∙ rw (tq, fq)
-
-    pub hit_other : not b ≡ true → false ≡ hit s hash h parent start d cut (n ++ e)
-    unfolding hit
-    hit_other k =
-        let z : has_prefix (drop cut (text s start)) n ≡ false = rw (← same-last) (sym bq ∙ not-is_true b k) in
-        rw (eq-eqb hash h (sym vq ∙ vh), eq-eqb parent d (sym q ∙ o), same-append (drop cut (text s start)) n e, z)
-
-    pub hit-here : not b ≡ false → (y : Text) → y ≡ drop (length n) l → (r : Bool) → r ≡ same y e → r ≡ hit s hash h parent start d cut (n ++ e)
-    unfolding hit
-    hit-here k y yq r rq =
-        let z : has_prefix (drop cut (text s start)) n ≡ true = rw (← same-last) (sym bq ∙ not_false b k) in
-        rw (eq-eqb hash h (sym vq ∙ vh), eq-eqb parent d (sym q ∙ o), same-append (drop cut (text s start)) n e, z, ← same-last, ← yq) rq
+-- the code's test of a path by its hash, its parent and its bytes
+unfoldable pub hit : List ℕ → Card → ℕ → ℕ → ℕ → ℕ → Text → Bool
+hit s c i h d cut n = eqb (hash_at c i) h && (eqb (parent_at c i) d && same (drop cut (text s (start_at c i))) n)
 
 -- where the last component of what lies in a folder stands
-unfoldable pub cut_of : List ℕ → ℕ → ℕ → ℕ
-cut_of s start d = cond (eqb d 0) 1 (length (text s start) + 1)
-
-pub cut-root : (s : List ℕ) (start d : ℕ) → d ≡ 0 → 1 ≡ cut_of s start d
-unfolding cut_of
-cut-root s start d h = rw (eq-eqb d 0 h)
-
-pub cut_below : (s : List ℕ) (start d : ℕ) → (d ≡ 0 → ⊥) → (f : ℕ) → f ≡ start → (t : Text) → t ≡ text s f → length t + 1 ≡ cut_of s start d
-unfolding cut_of
-cut_below s start d h f fq t tq = rw (ne_eqb d 0 h, tq, fq)
+unfoldable pub cut_of : List ℕ → Card → ℕ → ℕ
+cut_of s c d = cond (eqb d 0) 1 (length (text s (start_at c d)) + 1)
 
 -- the test of the definition: the path of index i is that of the name in the folder
 abbrev pub sought : List Text → ℕ → Text → ℕ → Bool
@@ -191,8 +169,8 @@ stem_other : (p : Text) → (p ≡ root → ⊥) → stem_of p ≡ p
 unfolding stem_of
 stem_other p h = rw (different p root h)
 
-module _ {s : List ℕ} {ps : List Text} {c : List ℕ} (I : IndexOf s ps c) (T : Tree ps (parent_at c)) (d : ℕ) (l : d < length ps) where
-  pub cut-is : cut_of s (start_at c d) d ≡ length (stem_of (get_or ps d [])) + 1
+module _ {s : List ℕ} {ps : List Text} {c : Card} (I : IndexOf s ps c) (T : Tree ps (parent_at c)) (d : ℕ) (l : d < length ps) where
+  pub cut-is : cut_of s c d ≡ length (stem_of (get_or ps d [])) + 1
   unfolding cut_of
   cut-is = go (eqb d 0) refl
     where
@@ -202,13 +180,13 @@ module _ {s : List ℕ} {ps : List Text} {c : List ℕ} (I : IndexOf s ps c) (T 
           let z : d ≡ 0 → ⊥ = eqb-false d 0 e in
           rw (I.texts d l z, stem_other (get_or ps d []) (λ q. z (T.once d 0 l (omega (arith, I.some)) (q ∙ sym T.rooted))))
 
-  module _ (n : Text) (p : Plain n) (h : ℕ) (hq : h ≡ hashed (key_of c) (hash_at c d) (slash ∷ n)) where
+  module _ (n : Text) (p : Plain n) (h : ℕ) (hq : h ≡ hashed c.key (hash_at c d) (slash ∷ n)) where
     hash-sought : (i : ℕ) → i < length ps → sought ps d n i ≡ true → hash_at c i ≡ h
     hash-sought i o q =
-        I.hash i o ∙ ap (hash_of (key_of c)) (same-eq _ _ q) ∙ hash-child (key_of c) (get_or ps d []) n (T.formed d l) p
-        ∙ ap (λ (x : ℕ). hashed (key_of c) x (slash ∷ n)) (sym (I.hash d l)) ∙ sym hq
+        I.hash i o ∙ ap (hash_of c.key) (same-eq _ _ q) ∙ hash-child c.key (get_or ps d []) n (T.formed d l) p
+        ∙ ap (λ (x : ℕ). hashed c.key x (slash ∷ n)) (sym (I.hash d l)) ∙ sym hq
 
-    hit-sought : (i : ℕ) → i < length ps → (i ≡ 0 → ⊥) → hit s (hash_at c i) h (parent_at c i) (start_at c i) d (cut_of s (start_at c d) d) n ≡ sought ps d n i
+    hit-sought : (i : ℕ) → i < length ps → (i ≡ 0 → ⊥) → hit s c i h d (cut_of s c d) n ≡ sought ps d n i
     unfolding hit
     hit-sought i o z = rw (cut-is, I.texts i o z) (go (eqb (hash_at c i) h) refl)
       where
@@ -216,22 +194,22 @@ module _ {s : List ℕ} {ps : List Text} {c : List ℕ} (I : IndexOf s ps c) (T 
         go true e = sym (hit-is T i d n o l z p)
         go false e = sym (not_true (sought ps d n i) (λ q. eqb-false (hash_at c i) h e (hash-sought i o q)))
 
-    bucket-sought : (i : ℕ) → i < length ps → sought ps d n i ≡ true → bucket_at c i ≡ h / 16777216 % bucket_limit
-    bucket-sought i o q = ap (λ (x : ℕ). x / 16777216 % bucket_limit) (hash-sought i o q)
+    bucket-sought : (i : ℕ) → i < length ps → sought ps d n i ≡ true → bucket_at c i ≡ bucket_of h
+    bucket-sought i o q = ap bucket_of (hash-sought i o q)
 
     -- AS THE CODE HAS IT
     abbrev pub Child : ℕ → Type 0
-    Child i = Walking (sought ps d n) (bucket_at c) (h / 16777216 % bucket_limit) (length ps) i
+    Child i = Walking (sought ps d n) (bucket_at c) (bucket_of h) (length ps) i
 
-    pub find-start : (i : ℕ) → i ≡ head_at c (h / 16777216 % bucket_limit) → Child i
+    pub find-start : (i : ℕ) → i ≡ head_at c (bucket_of h) → Child i
     find-start i e =
-        walking_start I.chains.links bucket-sought (λ z. omega (arith, I.some)) i (e ∙ I.chains.heads (h / 16777216 % bucket_limit) (omega arith))
+        walking_start I.chains.links bucket-sought (λ z. omega (arith, I.some)) i (e ∙ I.chains.heads (bucket_of h) (omega arith))
 
-    module _ (cut : ℕ) (cq : cut ≡ cut_of s (start_at c d) d) (i : ℕ) (w : Child i) where
+    module _ (cut : ℕ) (cq : cut ≡ cut_of s c d) (i : ℕ) (w : Child i) where
       pub find-end : i ≡ 0 → Looked (sought ps d n) (length ps) None
       find-end z = walking_end I.chains.links bucket-sought i w z
 
-      module _ (z : i ≡ 0 → ⊥) (u : Bool) (uq : u ≡ hit s (hash_at c i) h (parent_at c i) (start_at c i) d cut n) where
+      module _ (z : i ≡ 0 → ⊥) (u : Bool) (uq : u ≡ hit s c i h d cut n) where
         told : sought ps d n i ≡ u
         told = sym (uq ∙ rw cq (hit-sought i w.within z))
 
@@ -242,15 +220,11 @@ module _ {s : List ℕ} {ps : List Text} {c : List ℕ} (I : IndexOf s ps c) (T 
         find-on e m mq = walking_on I.chains.links bucket-sought i w z (told ∙ e) m mq
 
 -- the hash of a name with its ending, in steps
-pub hash_steps : (k m h : ℕ) (n e : Text) → m ≡ k → (w : ℕ) → w ≡ h → (a : ℕ) → a ≡ hashed m w (slash ∷ []) → (b : ℕ) → b ≡ hashed m a n → (c : ℕ) → c ≡ hashed m b e
-    → c ≡ hashed k h (slash ∷ (n ++ e))
-hash_steps k m h n e mk w o a p b q c r =
-    r ∙ rw (q, p, o, mk) (sym (hashed-append k (hashed k h (slash ∷ [])) n e) ∙ sym (hashed-append k h (slash ∷ []) (n ++ e)))
+pub hash_steps : (k h : ℕ) (n e : Text) (a : ℕ) → a ≡ hashed k h (slash ∷ []) → (b : ℕ) → b ≡ hashed k a n → (c : ℕ) → c ≡ hashed k b e → c ≡ hashed k h (slash ∷ (n ++ e))
+hash_steps k h n e a p b q c r =
+    r ∙ rw (q, p) (sym (hashed-append k (hashed k h (slash ∷ [])) n e) ∙ sym (hashed-append k h (slash ∷ []) (n ++ e)))
 
 -- A PATH SEARCHED FOR
-pub hash-keyed : (k m : ℕ) (t : Text) → m ≡ k → (h : ℕ) → h ≡ hash_of m t → h ≡ hash_of k t
-hash-keyed k m t e h q = q ∙ rw e
-
 abbrev pub is_at : List Text → Text → ℕ → Bool
 is_at ps t i = same (get_or ps i []) t
 
@@ -259,49 +233,35 @@ abbrev pub is_up_to : List Text → Text → ℕ → ℕ → Bool
 is_up_to ps t last i = leb i last && is_at ps t i
 
 -- the code's test
-unfoldable pub met : List ℕ → ℕ → ℕ → ℕ → ℕ → ℕ → Text → Bool
-met s i last hash h start t = leb i last && (eqb hash h && same (text s start) t)
-
-module _ (s : List ℕ) (i last hash h start : ℕ) (t : Text) where
-  pub met_late : last < i → false ≡ met s i last hash h start t
-  unfolding met
-  met_late l = rw (lt-leb i last l)
-
-  module _ (l : i ≤ last) (v : ℕ) (vq : v ≡ hash) where
-    pub met_unlike : (v ≡ h → ⊥) → false ≡ met s i last hash h start t
-    unfolding met
-    met_unlike z = rw (le-leb i last l, ne_eqb hash h (λ y. z (vq ∙ y)))
-
-    pub met-here : v ≡ h → (f : ℕ) → f ≡ start → (x : Text) → x ≡ text s f → (r : Bool) → r ≡ same x t → r ≡ met s i last hash h start t
-    unfolding met
-    met-here z f fq x xq r rq = rw (le-leb i last l, eq-eqb hash h (sym vq ∙ z)) (rq ∙ rw (xq, fq))
+unfoldable pub met : List ℕ → Card → ℕ → ℕ → ℕ → Text → Bool
+met s c i last h t = eqb (hash_at c i) h && (leb i last && same (text s (start_at c i)) t)
 
 -- a chain is gone down from `from` for the path t of hash h
-pub record Chain (ps : List Text) (c : List ℕ) (h : ℕ) (t : Text) (from : ℕ) : Type 0 where
-  pub hashes : h ≡ hash_of (key_of c) t
+pub record Chain (ps : List Text) (c : Card) (h : ℕ) (t : Text) (from : ℕ) : Type 0 where
+  pub hashes : h ≡ hash_of c.key t
   pub within : from < length ps
-  pub keyed : (from ≡ 0 → ⊥) → bucket_at c from ≡ h / 16777216 % bucket_limit
+  pub keyed : (from ≡ 0 → ⊥) → bucket_at c from ≡ bucket_of h
 
-module _ {s : List ℕ} {ps : List Text} {c : List ℕ} (I : IndexOf s ps c) (t : Text) (h from : ℕ) (W : Chain ps c h t from) (last : ℕ) where
+module _ {s : List ℕ} {ps : List Text} {c : Card} (I : IndexOf s ps c) (t : Text) (h from : ℕ) (W : Chain ps c h t from) (last : ℕ) where
   hash_at_lem : (i : ℕ) → i < length ps → is_at ps t i ≡ true → hash_at c i ≡ h
-  hash_at_lem i o q = I.hash i o ∙ ap (hash_of (key_of c)) (same-eq _ _ q) ∙ sym W.hashes
+  hash_at_lem i o q = I.hash i o ∙ ap (hash_of c.key) (same-eq _ _ q) ∙ sym W.hashes
 
-  met_at : (i : ℕ) → i < length ps → (i ≡ 0 → ⊥) → met s i last (hash_at c i) h (start_at c i) t ≡ is_up_to ps t last i
+  met_at : (i : ℕ) → i < length ps → (i ≡ 0 → ⊥) → met s c i last h t ≡ is_up_to ps t last i
   unfolding met
-  met_at i o z = rw (I.texts i o z) (ap (λ (b : Bool). leb i last && b) (go (eqb (hash_at c i) h) refl))
+  met_at i o z = rw (I.texts i o z) (go (eqb (hash_at c i) h) refl)
     where
-      go : (u : Bool) → eqb (hash_at c i) h ≡ u → (u && is_at ps t i) ≡ is_at ps t i
+      go : (u : Bool) → eqb (hash_at c i) h ≡ u → (u && is_up_to ps t last i) ≡ is_up_to ps t last i
       go true e = refl
-      go false e = sym (not_true (is_at ps t i) (λ q. eqb-false (hash_at c i) h e (hash_at_lem i o q)))
+      go false e = sym (not_true (is_up_to ps t last i) (λ q. eqb-false (hash_at c i) h e (hash_at_lem i o (and_right (leb i last) (is_at ps t i) q))))
 
-  bucket-at : (i : ℕ) → i < suc from → is_up_to ps t last i ≡ true → bucket_at c i ≡ h / 16777216 % bucket_limit
-  bucket-at i o q = ap (λ (x : ℕ). x / 16777216 % bucket_limit) (hash_at_lem i (omega (arith, W.within)) (and_right (leb i last) (is_at ps t i) q))
+  bucket-at : (i : ℕ) → i < suc from → is_up_to ps t last i ≡ true → bucket_at c i ≡ bucket_of h
+  bucket-at i o q = ap bucket_of (hash_at_lem i (omega (arith, W.within)) (and_right (leb i last) (is_at ps t i) q))
 
   links : (i : ℕ) → i < suc from → next_at c i ≡ last_in (bucket_at c) (bucket_at c i) i
   links i o = I.chains.links i (omega (arith, W.within))
 
   abbrev pub Searching : ℕ → Type 0
-  Searching i = Walking (is_up_to ps t last) (bucket_at c) (h / 16777216 % bucket_limit) (suc from) i
+  Searching i = Walking (is_up_to ps t last) (bucket_at c) (bucket_of h) (suc from) i
 
   pub path-start : Searching from
   path-start = record { within = omega arith; keyed = W.keyed; passed = λ j a b. absurd (omega arith) }
@@ -313,7 +273,7 @@ module _ {s : List ℕ} {ps : List Text} {c : List ℕ} (I : IndexOf s ps c) (t 
     pub path-end : i ≡ 0 → Looked (is_up_to ps t last) (suc from) None
     path-end z = walking_end links bucket-at i w z
 
-    module _ (z : i ≡ 0 → ⊥) (u : Bool) (uq : u ≡ met s i last (hash_at c i) h (start_at c i) t) where
+    module _ (z : i ≡ 0 → ⊥) (u : Bool) (uq : u ≡ met s c i last h t) where
       told-path : is_up_to ps t last i ≡ u
       told-path = sym (uq ∙ met_at i path-within z)
 
@@ -324,23 +284,23 @@ module _ {s : List ℕ} {ps : List Text} {c : List ℕ} (I : IndexOf s ps c) (t 
       path-on e m mq = walking_on links bucket-at i w z (told-path ∙ e) m mq
 
 -- from the head of its chain, and from the index before one of its paths
-module _ {s : List ℕ} {ps : List Text} {c : List ℕ} (I : IndexOf s ps c) (t : Text) (h : ℕ) (hq : h ≡ hash_of (key_of c) t) where
-  module _ (from : ℕ) (e : from ≡ head_at c (h / 16777216 % bucket_limit)) where
-    is_last : from ≡ last_in (bucket_at c) (h / 16777216 % bucket_limit) (length ps)
-    is_last = e ∙ I.chains.heads (h / 16777216 % bucket_limit) (omega arith)
+module _ {s : List ℕ} {ps : List Text} {c : Card} (I : IndexOf s ps c) (t : Text) (h : ℕ) (hq : h ≡ hash_of c.key t) where
+  module _ (from : ℕ) (e : from ≡ head_at c (bucket_of h)) where
+    is_last : from ≡ last_in (bucket_at c) (bucket_of h) (length ps)
+    is_last = e ∙ I.chains.heads (bucket_of h) (omega arith)
 
     pub from-head : Chain ps c h t from
     from-head = record {
       hashes = hq;
-      within = rw is_last (last-below (bucket_at c) (h / 16777216 % bucket_limit) (length ps) (λ z. omega (arith, I.some)));
-      keyed = λ z. rw is_last (last_key (bucket_at c) (h / 16777216 % bucket_limit) (length ps) (λ x. z (is_last ∙ x)));
+      within = rw is_last (last-below (bucket_at c) (bucket_of h) (length ps) (λ z. omega (arith, I.some)));
+      keyed = λ z. rw is_last (last_key (bucket_at c) (bucket_of h) (length ps) (λ x. z (is_last ∙ x)));
     }
 
     -- nothing after the head
     pub past_head : (j : ℕ) → from < j → j < length ps → is_at ps t j ≡ false
     past_head j l o =
-        not_true (is_at ps t j) (λ q. last-above (bucket_at c) (h / 16777216 % bucket_limit) (length ps) j (rw is_last at l) o
-        (ap (λ (x : ℕ). x / 16777216 % bucket_limit) (I.hash j o ∙ ap (hash_of (key_of c)) (same-eq _ _ q) ∙ sym hq)))
+        not_true (is_at ps t j) (λ q. last-above (bucket_at c) (bucket_of h) (length ps) j (rw is_last at l) o
+        (ap bucket_of (I.hash j o ∙ ap (hash_of c.key) (same-eq _ _ q) ∙ sym hq)))
 
     -- what a walk from the head finds
     pub whole-chain : (last : ℕ) (r : Option ℕ) → Looked (is_up_to ps t last) (suc from) r → Looked (is_up_to ps t last) (length ps) r
@@ -348,7 +308,7 @@ module _ {s : List ℕ} {ps : List Text} {c : List ℕ} (I : IndexOf s ps c) (t 
     whole-chain last None L = λ j z o. at j z o (dec_lt from j)
       where
         at : (j : ℕ) → (j ≡ 0 → ⊥) → j < length ps → Dec (from < j) → is_up_to ps t last j ≡ false
-        at j z o (yes l) = rw (past_head j l o) (and_false (leb j last))
+        at j z o (yes l) = rw (past_head j l o) (and-false (leb j last))
         at j z o (no l) = L j z (omega arith)
 
   -- all indices are below the limit
@@ -357,6 +317,6 @@ module _ {s : List ℕ} {ps : List Text} {c : List ℕ} (I : IndexOf s ps c) (t 
   up_to-all last None l L = λ j z o. rw (le-leb j last (omega (arith, I.count))) at (L j z o)
 
 -- BELOW: what `is_below` answers is whether the path lies at or below the other, by whole components
-pub below-card : {s : List ℕ} {c : List ℕ} → CardIs s c → (i d : ℕ) → i < length (nodes_in s) → d < length (nodes_in s)
+pub below-card : {s : List ℕ} {c : Card} → CardIs s c → (i d : ℕ) → i < length (nodes_in s) → d < length (nodes_in s)
     → starts_with (get_or (nodes_in s) i []) (get_or (nodes_in s) d []) ≡ ascends component_limit (parent_at c) i d
 below-card C i d h l = below-is C.tree i d h l

@@ -1,7 +1,7 @@
 -- An index by hash with chains: a lookup visits the indices of one hash, from the last to ever earlier ones. Assumes nothing.
 use Prim.Native.Nat.{ℕ, zero, suc, ◌+◌, ◌*◌, ◌%◌, ◌≤◌, ◌<◌}
 use native.Mathlib.Omega.{arith}
-use Rattle.std.proofs.Common.{le_of_lt, lt_of_le_of_lt, mul-le-mul_right, add-one, sym, ap, ◌∙◌, drop_of_length-le, drop-cons}
+use Rattle.std.proofs.Common.{add-one, sym, ap, ◌∙◌, drop_of_length-le, drop-cons}
 use Rattle.std.proofs.Math.Decide.{dec_lt}
 use Rattle.std.specs.Prelude.{Bool, ◌≡◌, Option, Some, None, List, [], ◌∷◌, ◌++◌, length, get_or, drop}
 use Rattle.std.proofs.Math.Bool.{true, false, cond}
@@ -163,13 +163,3 @@ hash-more m x i t h = rw (add-one, drop-cons t i 0 h)
 pub hash-end : (m x i : ℕ) (t : List ℕ) → length t ≤ i → hashed m x (drop i t) ≡ x
 unfolding hashed
 hash-end m x i t h = rw (drop_of_length-le t h)
-
--- a hash times a multiplier is below 2^61, and so a hash stays below 2^32
-pub product : (x m : ℕ) → x < 4294967296 → m < 536870912 → x * m < 2305843009213693952
-product x m h l =
-    let a : x * m ≤ 4294967296 * m = mul-le-mul_right m (le_of_lt h) in
-    let b : 4294967296 * m < 2305843009213693952 = omega arith in
-    lt_of_le_of_lt a b
-
-pub fold_small : (y : ℕ) → y < 2305843009213694208 → folded y < 4294967296
-fold_small y h = omega arith

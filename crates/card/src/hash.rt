@@ -1,37 +1,36 @@
 // The hash of bytes that follow others.
-ghost use Rattle.std.specs.Prelude.{◌≡◌, ◌<◌, ◌^◌};
-ghost use Rattle.card.specs.Layout.{key_limit};
+ghost use Rattle.std.specs.Prelude.{◌≡◌};
+ghost use Rattle.card.specs.Layout.{bucket_of};
 ghost use Rattle.card.specs.Index.{hashed};
 ghost use Rattle.card.specs.Card.{hash_of};
 
-pub const SEED: usize = 5381;
-
-// Hashes stay below this.
-const HASH: usize = 4294967296;
-
-// The chain of a hash is in its highest bits: the lowest of a product come from the lowest of the multiplier alone.
-pub const HIGH: usize = 16777216;
+pub const SEED: u32 = 5381;
 
 // The hash h, with the bytes t after it, by the multiplier m.
-pub fn mix(m: usize, h: usize, t: &[u8]) -> usize
-    requires { (m < key_limit) × (h < 2 ^ 32) }
-    ensures { (result ≡ hashed m h t.now) × (result < 2 ^ 32) }
+pub fn mix(m: u32, h: u32, t: &[u8]) -> u32
+    ensures { result ≡ hashed m h t.now }
 {
     let mut x = h;
     for b in t {
-        x = (x * m + usize::from(*b)) % HASH;
+        x = x.wrapping_mul(m).wrapping_add(u32::from(*b));
     }
     x
 }
 
 // The hash of a path.
 #[tactic(auto, unfolding(crate::specs::Card::hash_of))]
-pub fn hash_of(m: usize, p: &[u8]) -> usize
-    requires { m < key_limit }
-    ensures { (result ≡ hash_of m p.now) × (result < 2 ^ 32) }
+pub fn hash_of(m: u32, p: &[u8]) -> u32
+    ensures { result ≡ hash_of m p.now }
 {
     if p.len() == 1 {
         return SEED;
     }
     mix(m, SEED, p)
+}
+
+// The chain of a hash: its highest bits, since the lowest of a product come from the lowest of the multiplier alone.
+pub fn chain_of(h: u32) -> usize
+    ensures { result ≡ bucket_of h }
+{
+    (h >> 24) as usize
 }

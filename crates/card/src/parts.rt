@@ -1,57 +1,76 @@
-// What a card holds, by name.
-ghost use Rattle.std.specs.Prelude.{◌≡◌, ◌<◌, ◌^◌, length};
-ghost use Rattle.bundle.specs.Limits.{remapping_limit};
-ghost use Rattle.card.specs.Layout.{node_limit, parent_at, context_at, target_at, place_at, folders_of, remappings_of, files_of};
+// What a card holds.
+ghost use Rattle.std.specs.Prelude.{◌≡◌};
+ghost use Rattle.card.specs.Layout.{bucket_of, empty, head_at};
 
-use crate::layout::{
-    CARD, CONTEXTS, FILE_COUNT, FOLDER_COUNT, PARENTS, PLACES, REMAPPING_COUNT, TARGETS,
-};
+use crate::hash::chain_of;
+use bundle::limits::{FILES, FOLDERS, REMAPPINGS};
 
-// The index of the folder that index i lies in.
-pub fn parent_of(card: &[u32; CARD], i: usize) -> usize
-    requires { i < node_limit }
-    ensures { result ≡ parent_at card.now i }
-{
-    card[PARENTS + i] as usize
+// `/`, the folders and the files; the chains.
+pub const NODES: usize = FOLDERS + FILES + 1;
+
+pub const BUCKETS: usize = 256;
+
+// A listed path: its position, the index of the folder that it lies in, and whether it is a package root. The position of a file's
+// path is the file's.
+#[derive(Clone, Copy, Debug, Default, PartialEq, Eq)]
+pub struct Node {
+    pub start: u32,
+    pub parent: u16,
+    pub is_root: bool,
 }
 
-// How many folders, remappings and files.
-pub fn folder_count(card: &[u32; CARD]) -> usize
-    ensures { (result ≡ folders_of card.now) × (result < 2 ^ 32) }
-{
-    card[FOLDER_COUNT] as usize
+// A listed path in its chain: its hash, and the index before it. 0 is none, and no Option: index 0, `/`, is looked for in no chain.
+#[derive(Clone, Copy, Debug, Default, PartialEq, Eq)]
+pub struct Link {
+    pub hash: u32,
+    pub next: u16,
 }
 
-pub fn remapping_count(card: &[u32; CARD]) -> usize
-    ensures { result ≡ remappings_of card.now }
-{
-    card[REMAPPING_COUNT] as usize
+// A remapping: the indices of the folders of its context and its target, and its position.
+#[derive(Clone, Copy, Debug, Default, PartialEq, Eq)]
+pub struct Map {
+    pub context: u16,
+    pub target: u16,
+    pub place: u32,
 }
 
-pub fn file_count(card: &[u32; CARD]) -> usize
-    ensures { result ≡ files_of card.now }
-{
-    card[FILE_COUNT] as usize
+// Of each chain the last index; the multiplier of the hash; how many folders, remappings and files; the index of the entry's root.
+// Arrays, not Vecs: the linker has no heap.
+#[derive(Drop)]
+pub struct Card {
+    pub nodes: [Node; NODES],
+    pub links: [Link; NODES],
+    pub heads: [u16; BUCKETS],
+    pub key: u32,
+    pub maps: [Map; REMAPPINGS],
+    pub folders: usize,
+    pub remappings: usize,
+    pub files: usize,
+    pub root: usize,
 }
 
-// Of remapping j the position, and the indices of the folders of its context and its target.
-pub fn remapping_place(card: &[u32; CARD], j: usize) -> usize
-    requires { j < remapping_limit }
-    ensures { result ≡ place_at card.now j }
-{
-    card[PLACES + j] as usize
-}
+impl Card {
+    // Of no bundle: all places 0.
+    pub fn empty() -> Card
+        ensures { result ≡ empty }
+    {
+        Card {
+            nodes: [Node::default(); NODES],
+            links: [Link::default(); NODES],
+            heads: [0; BUCKETS],
+            key: 0,
+            maps: [Map::default(); REMAPPINGS],
+            folders: 0,
+            remappings: 0,
+            files: 0,
+            root: 0,
+        }
+    }
 
-pub fn remapping_context(card: &[u32; CARD], j: usize) -> usize
-    requires { j < remapping_limit }
-    ensures { result ≡ context_at card.now j }
-{
-    card[CONTEXTS + j] as usize
-}
-
-pub fn remapping_target(card: &[u32; CARD], j: usize) -> usize
-    requires { j < remapping_limit }
-    ensures { result ≡ target_at card.now j }
-{
-    card[TARGETS + j] as usize
+    // The last index of the chain of a hash.
+    pub fn last_of(&self, h: u32) -> usize
+        ensures { result ≡ head_at self.now (bucket_of h) }
+    {
+        usize::from(self.heads[chain_of(h)])
+    }
 }

@@ -1,18 +1,19 @@
 -- Laws of what a use stages: an entry put, and read. Assumes nothing.
-use Rattle.std.specs.Prelude.{ℕ, zero, suc, ◌+◌, ◌-◌, ◌≤◌, ◌<◌, ◌≡◌, Bool, List, ◌++◌, length, map, take, get_or, set, replicate}
-use Rattle.std.specs.List.{list_any}
-use Rattle.std.proofs.Common.{arith, ap, sym, ◌∙◌, eq-eqb, length-take, get_or-take, add-one, append_assoc}
+use Rattle.std.specs.Prelude.{ℕ, zero, suc, ◌+◌, ◌-◌, ◌≤◌, ◌<◌, ◌≡◌, Bool, List, ◌++◌, length, map, take, drop, get_or, set, replicate, ◌&&◌, Option, Some, None}
+use Rattle.std.specs.List.{list_any, AllWithin, HoldsAt}
+use Rattle.std.specs.Option.{MatchOption, unwrap_or}
+use Rattle.std.proofs.Common.{arith, ap, sym, ◌∙◌, eq-eqb, subst, length-take, get_or-take, get_or-set_other, add-one, append_assoc}
 use Rattle.std.proofs.Math.Path.{refl}
 use Rattle.std.proofs.Math.Bool.{true, false}
 use Rattle.std.proofs.Math.ListN.{get_or-append}
-use Rattle.std.proofs.lemmas.List.{get_or-map, take_more_set, set-append_right, length-map, map-append}
-use Rattle.std.proofs.lemmas.List.Folds.{list_any_more}
+use Rattle.std.proofs.lemmas.List.{get_or-map, take_more_set, set-append_right, length-map, map-append, take-append-drop, take-take, drop-take}
+use Rattle.std.proofs.lemmas.List.Folds.{list_any_more, list_any_none, list_any-append}
 use Rattle.names.specs.declared.Name.{Name}
 use Rattle.scope_tree.specs.Kinds.{kind_number}
 use Rattle.scope_tree.specs.Rows.{Arrays, is_row}
 use Rattle.scope_tree.specs.Staging.{Choice, refusal, numbered, put, stored, staged_held, any_to, staged_test, choice_of, with_choice, staged_item}
 use Rattle.decision.specs.declared.batch.Staged.{Staged as Entry}
-use Rattle.decision.specs.Batches.{column, is_named, staged_in}
+use Rattle.decision.specs.Batches.{column, has_name, is_named, staged_in}
 
 -- NOTHING STAGED
 pub none-staged : (es : List Entry) → staged_in 0 es ≡ refusal 0
@@ -73,6 +74,37 @@ module _ (n : ℕ) (es : List Entry) (l : n ≤ length es) (here k : ℕ) (x : N
 
   pub batch-held : staged_held (staged_in n es) here k x ≡ list_any (is_named k x) (take n es)
   batch-held = held-to n (omega arith)
+
+-- THE FIRST OF A NAME, and what is looked for from it on
+module _ (x : Name) (es : List Entry) where
+  abbrev Others : List Entry → ℕ → Type 0
+  Others l i = AllWithin (λ e. has_name x e ≡ false) l 0 i
+
+  pub fresh_first : (n : ℕ) → n ≤ length es → (r : Option ℕ) → MatchOption r (Others (take n es) (length (take n es))) (λ i. (i < length (take n es)) × HoldsAt (λ e. has_name x e ≡ true) (take n es) i × Others (take n es) i)
+      → (unwrap_or r n ≤ n) × Others es (unwrap_or r n)
+  fresh_first n l None h =
+      (omega arith, λ k d a b. subst (λ (e : Entry). has_name x e ≡ false) (get_or-take n es k d b) (h k d a (rw length-take (omega arith))))
+  fresh_first n l (Some i) h =
+      let f : i < n = omega (arith, h.0, length-take n es) in
+      (omega arith, λ k d a b. subst (λ (e : Entry). has_name x e ≡ false) (get_or-take n es k d (omega arith)) (h.2 k d a b))
+
+  pub fresh_put : {i n : ℕ} (e : Entry) → i ≤ n → Others es i → Others (set es n e) i
+  fresh_put {i} {n} e l h k d a b = subst (λ (y : Entry). has_name x y ≡ false) (sym (get_or-set_other es n k e d (λ q. omega arith))) (h k d a b)
+
+  module _ (k : ℕ) {i n : ℕ} (l : i ≤ n) (h : Others es i) where
+    unnamed : list_any (is_named k x) (take i es) ≡ false
+    unnamed = list_any_none (is_named k x) (take i es) (λ j d b. let f : j < i = omega (arith, b, length-take i es) in neither _ _ (ap (has_name x) (get_or-take i es j d f) ∙ h j d (omega arith) f))
+      where
+        neither : (a b : Bool) → b ≡ false → (a && b) ≡ false
+        neither true b e = e
+        neither false b e = refl
+
+    pub held_from : {r : Bool} → r ≡ list_any (is_named k x) (take (n - i) (drop i es)) → r ≡ list_any (is_named k x) (take n es)
+    held_from q =
+        let m : i + (n - i) ≡ n = omega arith in
+        let s : take n es ≡ take i es ++ take (n - i) (drop i es) =
+        sym (take-append-drop i (take n es)) ∙ (λ j. take-take i n es l j ++ (ap (λ (z : ℕ). drop i (take z es)) (sym m) ∙ drop-take i (n - i) es) j) in
+        q ∙ sym (ap (list_any (is_named k x)) s ∙ list_any-append (is_named k x) (take i es) (take (n - i) (drop i es)) ∙ rw unnamed refl)
 
 -- ONE KIND OF ONE ELEMENT, as the code stages it
 module _ (A : Arrays) (total here scope time n : ℕ) (es : List Entry) (l : n ≤ length es) (k : ℕ) (x y : Name) {c : Choice} (q : c ≡ choice_of A total here scope time k x y) (z : c.number ≡ 0) {b : Bool} (u : b ≡ list_any (is_named k y) (take n es)) where

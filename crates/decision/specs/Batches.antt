@@ -1,5 +1,6 @@
 -- What a use stages, in this paper's numbers. Assumes nothing.
-use Rattle.std.specs.Prelude.{ℕ, ◌-◌, ◌≡◌, Bool, ◌&&◌, eqb, List, ◌++◌, map, take, replicate, Result, Ok, Err}
+use Rattle.std.specs.Prelude.{ℕ, ◌-◌, ◌≤◌, ◌≡◌, Bool, false, ◌&&◌, eqb, List, ◌++◌, map, take, replicate, Result, Ok, Err}
+use Rattle.std.specs.List.{AllWithin}
 use Rattle.names.specs.declared.Name.{Name}
 use Rattle.names.specs.Packed.{same_name}
 use Rattle.refusal.specs.declared.Cause.{Cause}
@@ -33,9 +34,16 @@ staged_in n es =
 abbrev pub staged_of : Batch → Staged
 staged_of b = staged_in b.count b.entries
 
--- whether an entry has a kind and a name
+-- whether an entry has a name, and a kind with it
+abbrev pub has_name : Name → Entry → Bool
+has_name n e = same_name e.name n
+
 abbrev pub is_named : ℕ → Name → Entry → Bool
-is_named k n e = eqb (kind_number e.kind) k && same_name e.name n
+is_named k n e = eqb (kind_number e.kind) k && has_name n e
+
+-- none of the first i entries has the name
+abbrev pub Fresh : Name → ℕ → Batch → Type 0
+Fresh n i b = (i ≤ b.count) × AllWithin (λ e. has_name n e ≡ false) b.entries 0 i
 
 -- what an item copies, or its number
 abbrev pub choice_told : Result Entry Cause → Choice

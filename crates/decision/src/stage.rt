@@ -1,12 +1,12 @@
 // A use's entries before they are committed: each is found, public and free, or the use is refused.
-ghost use Rattle.std.specs.Prelude.{◌≡◌, ◌+◌, ◌<◌, ◌≤◌, IfOk, take};
+ghost use Rattle.std.specs.Prelude.{◌≡◌, ◌+◌, ◌<◌, ◌≤◌, IfOk, take, ℕ};
 ghost use Rattle.std.specs.List.{list_any};
 ghost use Rattle.scope_tree.specs.Kinds.{kind_number};
 ghost use Rattle.scope_tree.specs.Forms.{fault};
 ghost use Rattle.scope_tree.specs.Trees.{tree_in};
 ghost use Rattle.scope_tree.specs.Looks.{arrays_in};
 ghost use Rattle.scope_tree.specs.Staging.{refusal, numbered, stored, verdict_so_far, choice_of, staged_item, staged_element, staged_all};
-ghost use Rattle.decision.specs.Batches.{is_named, staged_of, choice_told, Stages};
+ghost use Rattle.decision.specs.Batches.{Fresh, has_name, is_named, staged_of, choice_told, Stages};
 
 use crate::batch::{Batch, STAGED, Staged};
 use names::Name;
@@ -17,10 +17,16 @@ use scope_tree::look::{Place, View};
 
 impl Staged {
     #[tactic(auto, unfolding(names::specs::Packed::same_name))]
+    fn has_name(&self, name: Name) -> bool
+        ensures { result ≡ has_name name self.now }
+    {
+        self.name == name
+    }
+
     fn is(&self, kind: Kind, name: Name) -> bool
         ensures { result ≡ is_named (kind_number kind) name self.now }
     {
-        self.kind == kind && self.name == name
+        self.kind == kind && self.has_name(name)
     }
 }
 
@@ -48,23 +54,38 @@ impl Batch {
         }
     }
 
-    // Whether an entry has this kind and name; whatever module they are to stand in.
-    fn holds(&self, kind: Kind, name: Name) -> bool
-        ensures { result ≡ list_any (is_named (kind_number kind) name) (take self.now.count self.now.entries) }
+    // The first entry of this name, or how many there are.
+    fn first_named(&self, name: Name) -> usize
+        ensures { Fresh name result self.now }
     {
-        self.entries[..self.count].iter().any(|e| e.is(kind, name))
+        let entries = &self.entries[..self.count];
+        entries
+            .iter()
+            .position(|e| e.has_name(name))
+            .unwrap_or(self.count)
     }
 
-    #[tactic(auto, using(crate::specs::BatchLaws::batch_put))]
+    // Whether an entry has this kind and name, whatever module they are to stand in; none before `first` has the name.
+    fn holds(&self, first: usize, kind: Kind, name: Name) -> bool
+        requires { Fresh name first self.now }
+        ensures { result ≡ list_any (is_named (kind_number kind) name) (take self.now.count self.now.entries) }
+    {
+        self.entries[first..self.count]
+            .iter()
+            .any(|e| e.is(kind, name))
+    }
+
+    #[tactic(auto, using(crate::specs::BatchLaws::batch_put, crate::specs::BatchLaws::fresh_put))]
     fn push(&mut self, entry: Staged)
         requires { self.old.count < 96 }
-        ensures { staged_of self.new ≡ stored (staged_of self.old) (kind_number entry.kind) entry.mark entry.name entry.origin entry.target entry.moment }
+        ensures stored { staged_of self.new ≡ stored (staged_of self.old) (kind_number entry.kind) entry.mark entry.name entry.origin entry.target entry.moment }
+        ensures fresh { (n : Name) (i : ℕ) → Fresh n i self.old → Fresh n i self.new }
     {
         self.entries[self.count] = entry;
         self.count += 1;
     }
 
-    // One kind of one element.
+    // One kind of one element; no entry before `first` has its local name.
     #[tactic(auto, unfolding(scope_tree::specs::Staging::with_choice))]
     fn stage_kind(
         &mut self,
@@ -74,13 +95,16 @@ impl Batch {
         kind: Kind,
         name: Name,
         local: Name,
+        first: usize,
     ) -> Result<(), Cause>
-        requires { (from.time ≤ 1024) × (self.old.count < 96) }
+        requires small { (from.time ≤ 1024) × (self.old.count < 96) }
+        requires fresh { Fresh local first self.old }
+        ensures fresh { Fresh local first self.new }
         ensures told { fault result ≡ (staged_item (arrays_in (tree_in tree.now)) here.time here.scope from.scope from.time (staged_of self.old) (kind_number kind) name local).number }
         ensures left { staged_of self.new ≡ numbered 0 (staged_item (arrays_in (tree_in tree.now)) here.time here.scope from.scope from.time (staged_of self.old) (kind_number kind) name local) }
     {
         let entry = choose(tree, here, from, kind, name, local)?;
-        if self.holds(kind, local) {
+        if self.holds(first, kind, local) {
             return Err(Cause::Clash);
         }
         self.push(entry);
@@ -101,9 +125,11 @@ impl Batch {
         ensures told { fault result ≡ (staged_element (arrays_in (tree_in tree.now)) here.time here.scope from.scope from.time (staged_of self.old) name local).number }
         ensures left { staged_of self.new ≡ numbered 0 (staged_element (arrays_in (tree_in tree.now)) here.time here.scope from.scope from.time (staged_of self.old) name local) }
     {
+        let first = self.first_named(local);
         let mut told = Err(Cause::NoItem);
         for kind in [Kind::Type, Kind::Function, Kind::Module] {
-            told = verdict(told, self.stage_kind(tree, here, from, kind, name, local));
+            let staged = self.stage_kind(tree, here, from, kind, name, local, first);
+            told = verdict(told, staged);
         }
         told
     }

@@ -6,44 +6,35 @@ ghost use Rattle.bundle.specs.Decode.{file_at};
 ghost use Rattle.discovery.specs.Discovery.{uses};
 ghost use Rattle.discovery.specs.Walk.{uses_at, item_uses, Gathered, Room, Small, UsesAre};
 
-use crate::{IDS, Uses};
-use bundle::limits::{DEPTH, MODULE, USE};
+use crate::Uses;
+use bundle::limits::DEPTH;
+use bundle::{Items, Kind, Range};
 
-// The items of the module at `at`, with modules at most `depth` deep.
+// The items of the module at `at`, with modules at most `depth` deep. Document 01: one function handles an item, the other a module's
+// items, and they call each other.
 #[cycle(process_items_process_module)]
-fn process_module(s: &[u8], at: usize, depth: usize, u: Uses) -> Uses
-    requires { Small at depth × (Room u (item_uses depth s.now at) × (byte s.now (at + 2) ≡ module_kind)) }
-    ensures { Gathered s.now u result (item_uses depth s.now at) }
+fn process_module(s: &[u8], at: usize, depth: usize, uses: &mut Uses)
+    requires { Small at depth × (Room uses.old (item_uses depth s.now at) × (byte s.now (at + 2) ≡ module_kind)) }
+    ensures { Gathered s.now uses.old uses.new (item_uses depth s.now at) }
 {
-    if depth == 0 {
-        return u;
+    if depth > 0 {
+        process_items(s, bundle::module_items(s, at), depth - 1, uses);
     }
-    let inner = bundle::module_items(s, at);
-    process_items(s, inner.at, inner.end, depth - 1, u)
 }
 
-// The items from `at` to `end`, with modules at most `depth` deep: a use is added, a module's items are walked. The record is copied
-// for a module only.
+// These items, with modules at most `depth` deep: a use is added, a module's items are walked.
 #[cycle(process_items_process_module)]
-fn process_items(s: &[u8], at: usize, end: usize, depth: usize, u: Uses) -> Uses
-    requires { Small end depth × Room u (uses_at depth s.now end at) }
-    ensures { Gathered s.now u result (uses_at depth s.now end at) }
+fn process_items(s: &[u8], items: Range, depth: usize, uses: &mut Uses)
+    requires { Small items.end depth × Room uses.old (uses_at depth s.now items.end items.at) }
+    ensures { Gathered s.now uses.old uses.new (uses_at depth s.now items.end items.at) }
 {
-    let mut w = u;
-    let mut a = at;
-    while a < end {
-        let item = a;
-        let kind = bundle::item_kind(s, item);
-        a = bundle::next_item(s, item);
-        if kind == USE {
-            let n = w.count;
-            w.marks[n] = item;
-            w.count = n + 1;
-        } else if kind == MODULE {
-            w = process_module(s, item, depth, w);
+    for at in Items::of(s, items) {
+        match bundle::kind(s, at) {
+            Kind::Use => uses.push(at),
+            Kind::Module => process_module(s, at, depth, uses),
+            Kind::Named(_) | Kind::Ignored => {}
         }
     }
-    w
 }
 
 // The uses of the file at `at`. Ruled out: a use of an inline module left out, or told after one that follows the module; the
@@ -52,11 +43,7 @@ pub fn uses_of(s: &[u8], at: usize) -> Uses
     requires { (at < 2 ^ 57) × (length (uses (file_at s.now at).items) ≤ use_limit) }
     ensures { UsesAre s.now result (uses (file_at s.now at).items) }
 {
-    let items = bundle::file_items(s, at);
-    let none = [0usize; IDS];
-    let u = Uses {
-        marks: none,
-        count: 0,
-    };
-    process_items(s, items.at, items.end, DEPTH, u)
+    let mut uses = Uses::new();
+    process_items(s, bundle::file_items(s, at), DEPTH, &mut uses);
+    uses
 }

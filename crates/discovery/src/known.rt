@@ -1,141 +1,105 @@
-// What is known of the units: a lent array. Its first UNITS places are for the units' files; behind them stands what the uses of the
-// reached files resolved to, file by file, an entry for each use: its mark, whether it is a file, a folder or nothing, the index of that,
-// and the segments left.
+// What is known of the units: their files; of each file of the bundle where it stands and where its entries are; and an entry for each
+// use of the reached files, file by file: what it resolved to.
 ghost use Rattle.std.specs.Prelude.{◌≡◌, ℕ, ◌+◌, ◌<◌, ◌≤◌, ◌^◌, List, length, get_or};
 ghost use Rattle.bundle.specs.Bundle.{File};
 ghost use Rattle.bundle.specs.Decode.{decode, file_at};
-ghost use Rattle.card.specs.Layout.{card_size, folders_of, files_of};
-ghost use Rattle.discovery.specs.Places.{Places, StartsPut};
-ghost use Rattle.bundle.specs.Limits.{folder_limit, file_limit, use_limit};
-ghost use Rattle.resolution.specs.Told.{told_use};
-ghost use Rattle.discovery.specs.Known.{known_length, code_in, file_in, left_in, next_of, begun, Keeps, Held, Finds, FilesPut};
+ghost use Rattle.bundle.specs.Limits.{file_limit, use_limit};
+ghost use Rattle.discovery.specs.Known.{begun, with_entry, Held, Finds};
+ghost use Rattle.discovery.specs.Places.{Fresh, Places, StartsPut};
 
 use crate::{IDS, UNITS};
-use card::CARD;
-use refusal::Cause;
-use resolution::{Found, Target};
+use card::Carded;
+use resolution::Found;
 
-// By a file's index: where its entries begin and end, and where the file stands in the bundle.
-const FROM: usize = UNITS;
-
-const TO: usize = FROM + UNITS;
-
-const PLACES: usize = TO + UNITS;
-
-// How many entries there are of all.
-const NEXT: usize = PLACES + UNITS;
-
-// The parts of the entries.
-const MARKS: usize = NEXT + 1;
-
-pub const CODES: usize = MARKS + IDS;
-
-pub const TARGETS: usize = CODES + IDS;
-
-pub const LEFTS: usize = TARGETS + IDS;
-
-pub const KNOWN: usize = LEFTS + IDS;
-
-// What a use resolved to, as its entry has it.
-pub const FILE: usize = 1;
-
-pub const FOLDER: usize = 2;
-
-const NOTHING: usize = 0;
-
-// The position of each file of the bundle is put in its place: the start of its path.
-pub fn put_places(card: &[u32; CARD], t: &mut [usize; KNOWN])
-    requires { (length card.now ≡ card_size) × ((folders_of card.now ≤ folder_limit) × (files_of card.now ≤ file_limit)) × (length t.old ≡ known_length) }
-    ensures { StartsPut card.now t.old t.new }
-{
-    let folders = card::folder_count(card);
-    let n = card::file_count(card);
-    let mut i = 0;
-    while i < n {
-        t[PLACES + i] = card::start_of(card, folders + 1 + i);
-        i += 1;
-    }
+// Of a file: where its entries begin and end, and where it stands in the bundle.
+#[derive(Clone, Copy, Debug, PartialEq, Eq)]
+pub struct FileRow {
+    pub from: usize,
+    pub to: usize,
+    pub place: usize,
 }
 
-// The position of the file of this index. Ruled out: that of another file.
-pub fn file_place(t: &[usize], i: usize) -> usize
-    requires { (length t.now ≡ known_length) × (i < file_limit) }
-    ensures { (s : List ℕ) → Places s t.now → ((d : File) → i < length (decode s).files → get_or (decode s).files i d ≡ file_at s result) × (result < 2 ^ 26) }
-{
-    t[PLACES + i]
+// The mark of a use, and what it resolved to.
+#[derive(Clone, Copy, Debug, PartialEq, Eq)]
+pub struct Entry {
+    pub mark: usize,
+    pub found: Option<Found>,
 }
 
-// Room for so many entries of the file of this index: where they begin.
-pub fn begin(t: &mut [usize; KNOWN], index: usize, count: usize) -> usize
-    requires { (length t.old ≡ known_length) × (index < file_limit) × (next_of t.old + count ≤ use_limit) }
-    ensures { (result ≡ next_of t.old) × (t.new ≡ begun t.old index count) }
-{
-    let next = t[NEXT];
-    t[FROM + index] = next;
-    t[TO + index] = next + count;
-    t[NEXT] = next + count;
-    next
+// Unit u is the file files[u] of the bundle; the first `next` entries are there. Arrays, not Vecs: the linker has no heap.
+#[derive(Drop)]
+pub struct Known {
+    pub files: [usize; UNITS],
+    pub rows: [FileRow; UNITS],
+    pub next: usize,
+    pub entries: [Entry; IDS],
 }
 
-// An entry's last three parts.
-fn parts_of(found: Result<Found, Cause>) -> (usize, usize, usize)
-    ensures { (result.0 ≡ code_in (told_use found)) × ((result.1 ≡ file_in (told_use found)) × (result.2 ≡ left_in (told_use found))) }
-{
-    match found {
-        Ok(
-            Found {
-                target: Target::File(f),
-                left,
-            },
-        ) => (FILE, f, left),
-        Ok(
-            Found {
-                target: Target::Folder(f),
-                left,
-            },
-        ) => (FOLDER, f, left),
-        Err(_) => (NOTHING, 0, 0),
-    }
-}
-
-// Entry i: what the use at `mark` resolved to.
-pub fn keep(t: &mut [usize; KNOWN], i: usize, mark: usize, found: Result<Found, Cause>)
-    requires { (length t.old ≡ known_length) × (i < use_limit) }
-    ensures { Keeps t.old t.new i mark (told_use found) }
-{
-    let (code, f, left) = parts_of(found);
-    t[MARKS + i] = mark;
-    t[CODES + i] = code;
-    t[TARGETS + i] = f;
-    t[LEFTS + i] = left;
-}
-
-// The entry of the use at `mark` in the file of this index, which has one. Ruled out: an entry of another use.
-pub fn find_use(t: &[usize], index: usize, mark: usize) -> usize
-    requires { Held t.now index mark }
-    ensures { Finds t.now index mark result }
-{
-    let mut lo = t[FROM + index];
-    let mut hi = t[TO + index];
-    while lo + 1 < hi {
-        let mid = lo + (hi - lo) / 2;
-        if t[MARKS + mid] <= mark {
-            lo = mid;
-        } else {
-            hi = mid;
+impl Known {
+    pub fn new() -> Known
+        ensures { Fresh result }
+    {
+        Known {
+            files: [0; UNITS],
+            rows: [FileRow {
+                from: 0,
+                to: 0,
+                place: 0,
+            }; UNITS],
+            next: 0,
+            entries: [Entry {
+                mark: 0,
+                found: None,
+            }; IDS],
         }
     }
-    lo
-}
 
-// The units' files are put in their places.
-pub fn put_files(t: &mut [usize; KNOWN], files: [usize; UNITS])
-    requires { length t.old ≡ known_length }
-    ensures { FilesPut t.old files t.new }
-{
-    let mut i = 0;
-    while i < UNITS {
-        t[i] = files[i];
-        i += 1;
+    // The position of each file of the bundle is put in its place: the start of its path.
+    pub fn put_places(&mut self, b: &Carded<'_>)
+        ensures { StartsPut b.now.card.now self.old self.new }
+    {
+        let card = b.card;
+        for i in 0..card.files {
+            self.rows[i].place = card.nodes[card.folders + 1 + i].start as usize;
+        }
+    }
+
+    // The position of the file of this index. Ruled out: that of another file.
+    pub fn place_of(&self, i: usize) -> usize
+        requires { i < file_limit }
+        ensures { (s : List ℕ) → Places s self.now → ((d : File) → i < length (decode s).files → get_or (decode s).files i d ≡ file_at s result) × (result < 2 ^ 26) }
+    {
+        self.rows[i].place
+    }
+
+    // Room for so many entries of the file of this index: where they begin.
+    pub fn begin(&mut self, index: usize, count: usize) -> usize
+        requires { (index < file_limit) × (self.old.next + count ≤ use_limit) }
+        ensures { (result ≡ self.old.next) × (self.new ≡ begun self.old index count) }
+    {
+        let from = self.next;
+        let row = &mut self.rows[index];
+        row.from = from;
+        row.to = from + count;
+        self.next = from + count;
+        from
+    }
+
+    // Entry i: what the use at `mark` resolved to.
+    pub fn keep(&mut self, i: usize, mark: usize, found: Option<Found>)
+        requires { i < use_limit }
+        ensures { self.new ≡ with_entry self.old i mark found }
+    {
+        self.entries[i] = Entry { mark, found };
+    }
+
+    // What the use at `mark` in the file of this index resolved to; it has an entry. Ruled out: what another use resolved to.
+    pub fn find_use(&self, index: usize, mark: usize) -> Option<Found>
+        requires { Held self.now index mark }
+        ensures { Finds self.now index mark result }
+    {
+        let row = self.rows[index];
+        let entries = &self.entries[row.from..row.to];
+        entries[entries.partition_point(|e| e.mark < mark)].found
     }
 }

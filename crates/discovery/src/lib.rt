@@ -2,11 +2,12 @@
 #![tactic(auto)]
 
 mod imports;
-pub mod known;
-mod search;
+mod known;
+mod uses;
 
 pub use imports::uses_of;
-pub use search::{holds, index_of};
+pub use known::{Entry, FileRow, Known};
+pub use uses::Uses;
 
 // The most files and folders of a bundle, and the most uses, so the most ids in all lists and the most faults: the limits of the
 // reader.
@@ -15,10 +16,3 @@ pub const UNITS: usize = bundle::limits::FILES;
 pub const IDS: usize = bundle::limits::USES;
 
 pub const FOLDERS: usize = bundle::limits::FOLDERS;
-
-// The marks of uses, in item order.
-#[derive(Clone, Copy)]
-pub struct Uses {
-    pub marks: [usize; IDS],
-    pub count: usize,
-}

@@ -1,20 +1,25 @@
 -- What the code's lookups leave in its record: the faults and the imports of the definition. Assumes nothing.
-use Rattle.std.specs.Prelude.{ℕ, zero, suc, ◌+◌, ◌-◌, ◌≤◌, ◌<◌, Bool, true, false, cond, ◌||◌, ◌≡◌, refl, ltb, length, get_or, take}
-use Rattle.std.proofs.Common.{add-one, arith, ⊎_elim, sym, ap, subst, ◌∙◌, length-set, take-suc-set, length-take-le, lt-ltb, le-ltb}
+use Rattle.std.specs.Prelude.{ℕ, ◌+◌, ◌≤◌, ◌<◌, Bool, true, false, cond, ◌||◌, ◌≡◌, refl, length, get_or, take, set}
+use Rattle.std.proofs.Common.{add-one, arith, ⊎_elim, sym, ap, subst, ◌∙◌, take-suc-set}
 use mathlib.Core.List.{List, [], ◌∷◌, ◌++◌, map, append-nil, append_assoc, Memᴰ}
+use Rattle.refusal.specs.declared.Refusal.{Refusal}
+use Rattle.refusal.specs.Numbers.{number_of, refusal}
 use Rattle.names.specs.Bytes.{member}
 use Rattle.bundle.specs.Bundle.{Text}
-use Rattle.bundle.specs.Limits.{file_limit, use_limit}
+use Rattle.bundle.specs.Limits.{use_limit}
 use Rattle.resolution.specs.Lists.{Lists}
-use Rattle.resolution.specs.Resolution.{Resolved, to, fails, number, resolve_path_internal}
+use Rattle.resolution.specs.Resolution.{Resolved, to, fails, resolve_path_internal}
 use Rattle.resolution.specs.Theorems.{is_listed}
 use Rattle.resolution.specs.Theorems as theorem
-use Rattle.resolution.specs.Call.{answer, position}
-use Rattle.resolution.specs.Results.{File, Folder}
-use Rattle.driver.specs.declared.Graph.{Graph}
+use Rattle.resolution.specs.Told.{answered, cause_in, number-in}
+use Rattle.resolution.specs.Call.{position}
+use Rattle.resolution.specs.declared.Target.{Target}
+use Rattle.resolution.specs.declared.Target.TheVariants.{File, Folder}
+use Rattle.driver.specs.declared.record.Graph.{Graph}
+use Rattle.driver.specs.declared.record.Import.{Import as Gathered}
 use Rattle.discovery.specs.Discovery.{Use, Fault, Import, fault_of, import_of, lookup_faults, valid_imports, resolve_single}
-use Rattle.discovery.specs.Facts.{member_true, mem_snoc, id-found}
-use Rattle.driver.specs.Record.{pushed_fault, pushed_import, looked, looked_use, looked_all, looked-faults, looked-imports}
+use Rattle.discovery.specs.Facts.{member_true, mem_snoc, map_snoc, id-found}
+use Rattle.driver.specs.Record.{pushed_fault, pushed_import, looked, looked_use, looked_all, looked-faults, looked-imports, Wide, wide_fault, wide_import}
 
 -- WHAT A USE RESOLVES TO IS LISTED
 abbrev pub Listed : Lists → Text → Type 0
@@ -33,147 +38,104 @@ resolved-listed b file known (name ∷ parts) = go (resolve_path_internal b file
     go (to p rest) e = theorem.resolved-listed b file parts p rest name e (rw known)
     go (fails f) e = tt
 
+-- FIRST PLACES: x is the first place of what stands there
+pub record FirstOf (l : List Text) (x : ℕ) : Type 0 where
+  pub within : x < length l
+  pub first : position (get_or l x []) l ≡ x
+
+pub first_found : (p : Text) (l : List Text) → member p l ≡ true → FirstOf l (position p l)
+first_found p l m =
+    let f = id-found p l (member_true p l m) in
+    record { within = f.0; first = ap (λ (q : Text). position q l) f.1 }
+
 -- THE RECORD'S FAULTS AND IMPORTS
-abbrev fault : ℕ → ℕ → Fault
-fault n p = record { number = n; place = p }
-
-unfoldable pub faults_in : List ℕ → List ℕ → List Fault
-faults_in [] ps = []
-faults_in (n ∷ ns) [] = []
-faults_in (n ∷ ns) (p ∷ ps) = fault n p ∷ faults_in ns ps
-
--- as many as are taken
-pub faults-counted : (i : ℕ) (ns ps : List ℕ) → i ≤ length ns → i ≤ length ps → length (faults_in (take i ns) (take i ps)) ≡ i
-unfolding faults_in
-faults-counted zero ns ps h k = refl
-faults-counted (suc i) [] ps h k = absurd (omega arith)
-faults-counted (suc i) (n ∷ ns) [] h k = absurd (omega arith)
-faults-counted (suc i) (n ∷ ns) (p ∷ ps) h k = let e = faults-counted i ns ps (omega arith) (omega arith) in omega arith
+abbrev pub fault_told : Refusal → Fault
+fault_told e = record { number = number_of e.cause; place = e.place }
 
 abbrev pub faults_of : Graph → List Fault
-faults_of g = faults_in (take g.faults g.numbers) (take g.faults g.places)
+faults_of g = map fault_told (take g.fault_count g.faults)
 
--- a file of the bundle or, from `file_limit` on, a folder
-unfoldable pub target_path : Lists → ℕ → Text
-target_path b t = cond (ltb t file_limit) (get_or b.files t []) (get_or b.folders (t - file_limit) [])
+abbrev pub file_path : Lists → ℕ → Text
+file_path b x = get_or b.files x []
 
-unfoldable pub imports_in : Lists → List ℕ → List ℕ → List Import
-imports_in b [] ms = []
-imports_in b (t ∷ ts) [] = []
-imports_in b (t ∷ ts) (m ∷ ms) = record { path = target_path b t; mark = m } ∷ imports_in b ts ms
+abbrev pub folder_path : Lists → ℕ → Text
+folder_path b x = get_or b.folders x []
+
+abbrev pub target_path : Lists → Target → Text
+target_path b (File x) = file_path b x
+target_path b (Folder x) = folder_path b x
+
+abbrev pub import_told : Lists → Gathered → Import
+import_told b i = record { path = target_path b i.target; mark = i.mark }
 
 abbrev pub imports_of : Lists → Graph → List Import
-imports_of b g = imports_in b (take g.imports g.targets) (take g.imports g.marks)
+imports_of b g = map (import_told b) (take g.import_count g.imports)
 
-faults_snoc : (ns ps : List ℕ) (n p : ℕ) → length ns ≡ length ps → faults_in (ns ++ (n ∷ [])) (ps ++ (p ∷ [])) ≡ faults_in ns ps ++ (fault n p ∷ [])
-unfolding faults_in
-faults_snoc [] [] n p e = refl
-faults_snoc [] (x ∷ ps) n p e = absurd (omega arith)
-faults_snoc (x ∷ ns) [] n p e = absurd (omega arith)
-faults_snoc (x ∷ ns) (y ∷ ps) n p e = rw (faults_snoc ns ps n p (omega arith))
+-- a target is the first place of a listed path; a folder's is no file's
+abbrev pub Aimed : Lists → Target → Type 0
+Aimed b (File x) = FirstOf b.files x
+Aimed b (Folder x) = FirstOf b.folders x × (member (folder_path b x) b.files ≡ false)
 
-pub imports_snoc : (b : Lists) (ts ms : List ℕ) (t m : ℕ) → length ts ≡ length ms → imports_in b (ts ++ (t ∷ [])) (ms ++ (m ∷ [])) ≡ imports_in b ts ms ++ (record { path = target_path b t; mark = m } ∷ [])
-unfolding imports_in
-imports_snoc b [] [] t m e = refl
-imports_snoc b [] (x ∷ ms) t m e = absurd (omega arith)
-imports_snoc b (x ∷ ts) [] t m e = absurd (omega arith)
-imports_snoc b (x ∷ ts) (y ∷ ms) t m e = rw (imports_snoc b ts ms t m (omega arith))
+abbrev pub AllAimed : Lists → Graph → Type 0
+AllAimed b g = (i : Gathered) → Memᴰ i (take g.import_count g.imports) → Aimed b i.target
 
--- a target is the first place of a listed path
-abbrev pub target_of : Lists → Text → ℕ
-target_of b p = cond (member p b.files) (position p b.files) (file_limit + position p b.folders)
+-- ONE MORE in an array
+module _ {A : Type 0} where
+  pub pushed : {B : Type 0} (f : A → B) (l : List A) (n : ℕ) (x : A) → n < length l → map f (take (n + 1) (set l n x)) ≡ map f (take n l) ++ (f x ∷ [])
+  pushed f l n x h = rw (add-one n, take-suc-set l n x h) (map_snoc f (take n l) x)
 
-pub record Target (b : Lists) (t : ℕ) : Type 0 where
-  pub listed : Listed b (target_path b t)
-  pub is : t ≡ target_of b (target_path b t)
+  pub pushed_mem : (l : List A) (n : ℕ) (x : A) → n < length l → (y : A) → Memᴰ y (take (n + 1) (set l n x)) → Memᴰ y (take n l ++ (x ∷ []))
+  pushed_mem l n x h y m = subst (λ (k : List A). Memᴰ y k) (ap (λ (k : ℕ). take k (set l n x)) (add-one n) ∙ take-suc-set l n x h) m
 
-abbrev pub Targets : Lists → Graph → Type 0
-Targets b g = (t : ℕ) → Memᴰ t (take g.imports g.targets) → Target b t
-
--- each array has its elements
-pub record Sized (g : Graph) : Type 0 where
-  pub numbers : length g.numbers ≡ use_limit
-  pub places : length g.places ≡ use_limit
-  pub targets : length g.targets ≡ use_limit
-  pub marks : length g.marks ≡ use_limit
-
-pub fault-pushed : (g : Graph) → length g.numbers ≡ use_limit → length g.places ≡ use_limit → (n p : ℕ) → g.faults < use_limit
-    → faults_of (pushed_fault g n p) ≡ faults_of g ++ (fault n p ∷ [])
-fault-pushed g a c n p h =
-    rw (add-one g.faults, take-suc-set g.numbers g.faults n (omega arith), take-suc-set g.places g.faults p (omega arith))
-    (faults_snoc (take g.faults g.numbers) (take g.faults g.places) n p
-    (length-take-le g.faults g.numbers (omega arith) ∙ sym (length-take-le g.faults g.places (omega arith))))
-
-module _ (g : Graph) (z : Sized g) where
-  import-pushed : (b : Lists) (t m : ℕ) → g.imports < use_limit → imports_of b (pushed_import g t m) ≡ imports_of b g ++ (record { path = target_path b t; mark = m } ∷ [])
-  import-pushed b t m h =
-      let a = z.targets in
-      let c = z.marks in
-      rw (add-one g.imports, take-suc-set g.targets g.imports t (omega arith), take-suc-set g.marks g.imports m (omega arith))
-      (imports_snoc b (take g.imports g.targets) (take g.imports g.marks) t m
-      (length-take-le g.imports g.targets (omega arith) ∙ sym (length-take-le g.imports g.marks (omega arith))))
+pub fault-pushed : (g : Graph) → Wide g → (e : Refusal) → g.fault_count < use_limit → faults_of (pushed_fault g e) ≡ faults_of g ++ (fault_told e ∷ [])
+fault-pushed g w e h = pushed fault_told g.faults g.fault_count e (omega arith)
 
 -- A LOOKUP
 pub record Means (b : Lists) (g r : Graph) (fs : List Fault) (is : List Import) : Type 0 where
-  pub sized : Sized r
+  pub wide : Wide r
   pub faults : faults_of r ≡ faults_of g ++ fs
   pub imports : imports_of b r ≡ imports_of b g ++ is
-  pub targets : Targets b g → Targets b r
+  pub aimed : AllAimed b g → AllAimed b r
 
-file-path : (b : Lists) (p : Text) → length b.files ≤ file_limit → member p b.files ≡ true → target_path b (position p b.files) ≡ p
-unfolding target_path
-file-path b p l m =
-    let f = id-found p b.files (member_true p b.files m) in
-    let lt : position p b.files < file_limit = omega (arith, f.0) in
-    rw (lt-ltb (position p b.files) file_limit lt) f.1
-
-folder-path : (b : Lists) (p : Text) → member p b.folders ≡ true → target_path b (file_limit + position p b.folders) ≡ p
-unfolding target_path
-folder-path b p m =
-    let f = id-found p b.folders (member_true p b.folders m) in
-    let le : file_limit ≤ file_limit + position p b.folders = omega arith in
-    let e : file_limit + position p b.folders - file_limit ≡ position p b.folders = omega arith in
-    rw (le-ltb (file_limit + position p b.folders) file_limit le, e) f.1
-
-module _ (b : Lists) (g : Graph) (z : Sized g) (hf : g.faults < use_limit) (hi : g.imports < use_limit) (few : length b.files ≤ file_limit) where
-  pushed-import : (t m : ℕ) (p : Text) → target_path b t ≡ p → Listed b p → t ≡ target_of b p → Means b g (pushed_import g t m) [] (record { path = p; mark = m } ∷ [])
-  pushed-import t m p e k q = record {
-    sized = record { numbers = z.numbers; places = z.places; targets = length-set g.targets g.imports t ∙ z.targets; marks = length-set g.marks g.imports m ∙ z.marks };
+module _ (b : Lists) (g : Graph) (w : Wide g) (hf : g.fault_count < use_limit) (hi : g.import_count < use_limit) where
+  import-means : (t : Target) (m : ℕ) (p : Text) → target_path b t ≡ p → Aimed b t → Means b g (pushed_import g (record { target = t; mark = m })) [] (record { path = p; mark = m } ∷ [])
+  import-means t m p e a = record {
+    wide = wide_import g w (record { target = t; mark = m });
     faults = sym (append-nil (faults_of g));
-    imports = import-pushed g z b t m hi ∙ ap (λ (q : Text). imports_of b g ++ (record { path = q; mark = m } ∷ [])) e;
-    targets = λ f x w. ⊎_elim (f x) (λ y. subst (λ (j : ℕ). Target b j) (sym y) (record { listed = subst (λ (r : Text). Listed b r) (sym e) k; is = q ∙ ap (target_of b) (sym e) }))
-        (mem_snoc (take g.imports g.targets) (rw (add-one g.imports, take-suc-set g.targets g.imports t (let a = z.targets in omega arith)) at w));
+    imports = pushed (import_told b) g.imports g.import_count (record { target = t; mark = m }) (omega arith) ∙ ap (λ (q : Text). imports_of b g ++ (record { path = q; mark = m } ∷ [])) e;
+    aimed = λ f i k. ⊎_elim (f i) (λ q. subst (λ (j : Gathered). Aimed b j.target) (sym q) a) (mem_snoc (take g.import_count g.imports) (pushed_mem g.imports g.import_count (record { target = t; mark = m }) (omega arith) i k));
   }
 
-  pub lookup-means : (mark : ℕ) (x : Resolved) → ResolvedListed b x → Means b g (looked (answer b x) mark g) (fault_of mark x) (import_of mark x)
+  pub lookup-means : (mark : ℕ) (x : Resolved) → ResolvedListed b x → Means b g (looked (answered b x) mark g) (fault_of mark x) (import_of mark x)
   lookup-means mark (fails f) h = record {
-    sized = record { numbers = length-set g.numbers g.faults (number f) ∙ z.numbers; places = length-set g.places g.faults mark ∙ z.places; targets = z.targets; marks = z.marks };
-    faults = fault-pushed g z.numbers z.places (number f) mark hf;
+    wide = wide_fault g w (refusal (cause_in f) mark);
+    faults = fault-pushed g w (refusal (cause_in f) mark) hf ∙ ap (λ (n : ℕ). faults_of g ++ (record { number = n; place = mark } ∷ [])) (number-in f);
     imports = sym (append-nil (imports_of b g));
-    targets = λ f. f;
+    aimed = λ f. f;
   }
   lookup-means mark (to p rest) h = go (member p b.files) refl h
     where
       go : (t : Bool) → member p b.files ≡ t → (t || member p b.folders) ≡ true
-          → Means b g (looked (cond t (File (position p b.files) (length rest)) (Folder (position p b.folders) (length rest))) mark g) [] (record { path = p; mark = mark } ∷ [])
-      go true e k = pushed-import (position p b.files) mark p (file-path b p few e) (rw e) (rw e)
-      go false e k = pushed-import (file_limit + position p b.folders) mark p (folder-path b p k) (rw e k) (rw e)
+          → Means b g (pushed_import g (record { target = cond t (File (position p b.files)) (Folder (position p b.folders)); mark = mark })) [] (record { path = p; mark = mark } ∷ [])
+      go true e k = import-means (File (position p b.files)) mark p (id-found p b.files (member_true p b.files e)).1 (first_found p b.files e)
+      go false e k =
+          let i = (id-found p b.folders (member_true p b.folders k)).1 in
+          import-means (Folder (position p b.folders)) mark p i (first_found p b.folders k, ap (λ (q : Text). member q b.files) i ∙ e)
 
 -- ALL LOOKUPS OF A FILE
-pub lookups_mean : (b : Lists) (file : Text) → member file b.files ≡ true → length b.files ≤ file_limit → (us : List Use) (g : Graph) → Sized g
-    → g.faults + length us ≤ use_limit → g.imports + length us ≤ use_limit
+pub lookups_mean : (b : Lists) (file : Text) → member file b.files ≡ true → (us : List Use) (g : Graph) → Wide g
+    → g.fault_count + length us ≤ use_limit → g.import_count + length us ≤ use_limit
     → Means b g (looked_all b file us g) (lookup_faults (map (resolve_single b file) us)) (valid_imports (map (resolve_single b file) us))
 unfolding looked_all lookup_faults valid_imports
-lookups_mean b file known few [] g z hf hi = record { sized = z; faults = sym (append-nil (faults_of g)); imports = sym (append-nil (imports_of b g)); targets = λ f. f }
-lookups_mean b file known few (u ∷ us) g z hf hi =
-    let x = resolve_path_internal b file u.segments in
-    let a = lookup-means b g z (omega arith) (omega arith) few u.mark (resolve_path_internal b file u.segments) (resolved-listed b file known u.segments) in
-    let fl = looked-faults (answer b (resolve_path_internal b file u.segments)) u.mark g in
-    let il = looked-imports (answer b (resolve_path_internal b file u.segments)) u.mark g in
-    let r = lookups_mean b file known few us (looked_use b file u g) a.sized (omega arith) (omega arith) in
+lookups_mean b file known [] g w hf hi = record { wide = w; faults = sym (append-nil (faults_of g)); imports = sym (append-nil (imports_of b g)); aimed = λ f. f }
+lookups_mean b file known (u ∷ us) g w hf hi =
+    let a = lookup-means b g w (omega arith) (omega arith) u.mark (resolve_path_internal b file u.segments) (resolved-listed b file known u.segments) in
+    let fl = looked-faults (answered b (resolve_path_internal b file u.segments)) u.mark g in
+    let il = looked-imports (answered b (resolve_path_internal b file u.segments)) u.mark g in
+    let r = lookups_mean b file known us (looked_use b file u g) a.wide (omega arith) (omega arith) in
     record {
-      sized = r.sized;
+      wide = r.wide;
       faults = r.faults ∙ (ap (λ (l : List Fault). l ++ lookup_faults (map (resolve_single b file) us)) a.faults ∙ append_assoc (faults_of g) (fault_of u.mark (resolve_path_internal b file u.segments)) (lookup_faults (map (resolve_single b file) us)));
       imports = r.imports ∙ (ap (λ (l : List Import). l ++ valid_imports (map (resolve_single b file) us)) a.imports ∙ append_assoc (imports_of b g) (import_of u.mark (resolve_path_internal b file u.segments)) (valid_imports (map (resolve_single b file) us)));
-      targets = λ f. r.targets (a.targets f);
+      aimed = λ f. r.aimed (a.aimed f);
     }

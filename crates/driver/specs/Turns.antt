@@ -1,32 +1,33 @@
 -- The record after each unit is the definition's graph. Assumes nothing.
-use Rattle.std.specs.Prelude.{ℕ, zero, suc, ◌+◌, ◌-◌, ◌≤◌, ◌<◌, Bool, true, false, cond, ◌≡◌, take, set, replicate}
+use Rattle.std.specs.Prelude.{ℕ, zero, suc, ◌+◌, ◌-◌, ◌≤◌, ◌<◌, Bool, true, false, cond, ◌≡◌, take, set, Result, Ok, Err}
 use Rattle.std.proofs.Common.{not-suc-le-zero, le_of_suc-le-suc, eq-or-lt_of_le, sym, subst, ◌∙◌, length-append, drop_of_length-le, take-suc, length-take-le, take-take, get_or-take, lt-ltb, le-ltb}
 use native.Mathlib.Omega.{arith}
 use Rattle.std.proofs.Math.Logic.{⊎_elim}
 use Rattle.std.proofs.Math.Path.{refl, ap}
 use mathlib.Core.List.Memᴰ
 use mathlib.Core.List.{List, [], ◌∷◌, ◌++◌, map, Memᴰ}
-use Rattle.std.proofs.Math.ListN.{length, get_or, drop, length-set, get_or-map}
-use Rattle.std.proofs.lemmas.List.{length-map, length-replicate}
-use Rattle.std.proofs.Math.Seq.{take-nil, get_or-set_same, get_or-set_other}
+use Rattle.std.proofs.Math.ListN.{length, get_or, drop, get_or-map}
+use Rattle.std.proofs.lemmas.List.{length-map, drop-take, take-map}
+use Rattle.std.proofs.Math.Seq.{get_or-set_same, get_or-set_other}
 use Rattle.names.specs.Bytes.{member, same, same_refl}
 use Rattle.bundle.specs.Bundle.{Text, File, Bundle}
-use Rattle.bundle.specs.Limits.{file_limit, folder_limit, use_limit}
+use Rattle.bundle.specs.Limits.{file_limit, use_limit}
 use Rattle.resolution.specs.Lists.{Lists, lists_of}
-use Rattle.resolution.specs.Call.{position, answer}
+use Rattle.resolution.specs.Call.{position}
+use Rattle.resolution.specs.Told.{answered}
+use Rattle.resolution.specs.declared.Found.{Found}
+use Rattle.refusal.specs.declared.Cause.{Cause}
 use Rattle.resolution.specs.Resolution.{resolve_path_internal}
-use Rattle.resolution.specs.Results.{Resolution}
-use Rattle.resolution.specs.Results as resolution
-use Rattle.driver.specs.declared.Graph.{Graph}
+use Rattle.driver.specs.declared.record.Graph.{Graph}
 use Rattle.discovery.specs.Discovery.{Use, uses, program_of, ResolvedUse, resolve_single, use_cache, Fault, Import, lookup_faults, valid_imports, Loading, load_all, turn, turns, start, paths_of, discover_dependencies}
 use Rattle.discovery.specs.Discovery as definition
 use Rattle.discovery.specs.Reached.{Once, none, more}
 use Rattle.discovery.specs.Facts.{mem_member, member_true, mem_get_d, once-place, id-found, get_d_mem, get_d_any}
 use Rattle.discovery.specs.Room.{Roomy}
 use Rattle.discovery.specs.Weight.{sum_uses, weigh}
-use Rattle.driver.specs.Record.{looked, looked_use, looked_all, no_imports, read_out, read_all, with_list, ReadsRoom}
-use Rattle.driver.specs.Meaning.{faults_of, faults_in, imports_in, Sized, Targets, Means, lookups_mean}
-use Rattle.driver.specs.Readings.{FirstOf, Kept, Few, file_path, folder_path, sources_of, invalid_of, loading_of, ReadTo, read-to, reads-room}
+use Rattle.driver.specs.Record.{entry_alone, looked, looked_use, looked_all, no_imports, read_out, read_all, with_list, ReadsRoom, Wide, wide_entry, wide_list}
+use Rattle.driver.specs.Meaning.{FirstOf, file_path, folder_path, faults_of, AllAimed, Means, lookups_mean}
+use Rattle.driver.specs.Readings.{Kept, Few, sources_of, invalid_of, loading_of, ReadTo, read-to, reads-room}
 
 -- THE RECORD AS A GRAPH
 -- what unit u lists
@@ -62,20 +63,10 @@ lists_agree zero f h e = refl
 lists_agree (suc n) f h e = rw (lists_agree n f h (λ u lt. e u (omega arith)), e n (omega arith))
 
 -- LISTS
-take-drop : {A : Type 0} (a l : ℕ) (x : List A) → take l (drop a x) ≡ drop a (take (a + l) x)
-take-drop zero l x = let e : l ≡ 0 + l = omega arith in ap (λ (k : ℕ). take k x) e
-take-drop (suc a) l [] = take-nil l ∙ sym (ap (drop (suc a)) (take-nil (suc a + l)))
-take-drop (suc a) l (y ∷ x) = let e : suc (a + l) ≡ suc a + l = omega arith in take-drop a l x ∙ ap (λ (k : ℕ). drop (suc a) (take k (y ∷ x))) e
-
 -- a part that lies within what two lists have alike
 part-alike : {A : Type 0} (a l c : ℕ) (x y : List A) → a + l ≤ c → take c x ≡ take c y → take l (drop a x) ≡ take l (drop a y)
 part-alike a l c x y h e =
-    take-drop a l x ∙ (ap (drop a) (sym (take-take (a + l) c x h) ∙ (ap (take (a + l)) e ∙ take-take (a + l) c y h)) ∙ sym (take-drop a l y))
-
-take-map : {A B : Type 0} (f : A → B) (k : ℕ) (l : List A) → take k (map f l) ≡ map f (take k l)
-take-map f zero l = refl
-take-map f (suc k) [] = refl
-take-map f (suc k) (x ∷ l) = ap (λ m. f x ∷ m) (take-map f k l)
+    sym (drop-take a l x) ∙ (ap (drop a) (sym (take-take (a + l) c x h) ∙ (ap (take (a + l)) e ∙ take-take (a + l) c y h)) ∙ drop-take a l y)
 
 take_within : {A : Type 0} (k : ℕ) (l : List A) {p : A} → Memᴰ p (take k l) → Memᴰ p l
 take_within zero l m = absurd (Memᴰ.not-nil m)
@@ -130,25 +121,24 @@ record Framed (g r : Graph) : Type 0 where
   same : Same g r
   start : r.start ≡ g.start
   len : r.len ≡ g.len
-  faults : g.faults ≤ r.faults
+  faults : g.fault_count ≤ r.fault_count
 
 -- n lookups
 abbrev Looked : Graph → Graph → ℕ → Type 0
-Looked g r n = Framed g r × (r.faults + r.imports ≤ g.faults + g.imports + n)
+Looked g r n = Framed g r × (r.fault_count + r.import_count ≤ g.fault_count + g.import_count + n)
 
 same_none : (g : Graph) → Same g g
 same_none g = record { files = refl; units = refl; ids = refl; count = refl; folders = refl; unread = refl }
 
-framed_looked : (x : Resolution) (mark : ℕ) (g : Graph) → Looked g (looked x mark g) 1
-framed_looked (resolution.File i left) mark g = (record { same = record { files = refl; units = refl; ids = refl; count = refl; folders = refl; unread = refl }; start = refl; len = refl; faults = omega arith }, omega arith)
-framed_looked (resolution.Folder i left) mark g = (record { same = record { files = refl; units = refl; ids = refl; count = refl; folders = refl; unread = refl }; start = refl; len = refl; faults = omega arith }, omega arith)
-framed_looked (resolution.Refused n p) mark g = (record { same = record { files = refl; units = refl; ids = refl; count = refl; folders = refl; unread = refl }; start = refl; len = refl; faults = omega arith }, omega arith)
+framed_looked : (x : Result Found Cause) (mark : ℕ) (g : Graph) → Looked g (looked x mark g) 1
+framed_looked (Ok f) mark g = (record { same = record { files = refl; units = refl; ids = refl; count = refl; folders = refl; unread = refl }; start = refl; len = refl; faults = omega arith }, omega arith)
+framed_looked (Err c) mark g = (record { same = record { files = refl; units = refl; ids = refl; count = refl; folders = refl; unread = refl }; start = refl; len = refl; faults = omega arith }, omega arith)
 
 framed_all : (b : Lists) (file : Text) (us : List Use) (g : Graph) → Looked g (looked_all b file us g) (length us)
 unfolding looked_all
 framed_all b file [] g = (record { same = same_none g; start = refl; len = refl; faults = omega arith }, omega arith)
 framed_all b file (u ∷ us) g =
-    let a = framed_looked (answer b (resolve_path_internal b file u.segments)) u.mark g in
+    let a = framed_looked (answered b (resolve_path_internal b file u.segments)) u.mark g in
     let r = framed_all b file us (looked_use b file u g) in
     let x = a.0.same in
     let y = r.0.same in
@@ -175,26 +165,19 @@ framed_all b file (u ∷ us) g =
 -- WHAT HOLDS AFTER n UNITS
 pub record Invariant (b : Bundle) (n : ℕ) (g : Graph) : Type 0 where
   pub kept : Kept (lists_of b) 0 g
-  pub sized : Sized g
-  pub start_wide : length g.start ≡ file_limit
-  pub len_wide : length g.len ≡ file_limit
   pub some : 0 < g.units
   pub handled : n ≤ g.units
   -- each list lies within the ids
   pub lists : (u : ℕ) → u < n → get_or g.start u 0 + get_or g.len u 0 ≤ g.count
   -- a use gives one id or one fault at most
   pub ids_weigh : g.count ≤ sum_uses b.files (take n (sources_of (lists_of b) g))
-  pub faults_weigh : g.faults ≤ sum_uses b.files (take n (sources_of (lists_of b) g))
+  pub faults_weigh : g.fault_count ≤ sum_uses b.files (take n (sources_of (lists_of b) g))
   -- the turns that are left lead to the definition's graph
   pub left : turns (length b.files - n) (paths_of b) (use_cache b) (graph_to b n g) ≡ discover_dependencies b
 
 kept_from : {b : Lists} {a : ℕ} {g : Graph} (c : ℕ) → Kept b a g → c ≤ g.count → Kept b c g
 kept_from c k h = record {
-  files_wide = k.files_wide;
-  ids_wide = k.ids_wide;
-  folders_wide = k.folders_wide;
-  numbers_wide = k.numbers_wide;
-  places_wide = k.places_wide;
+  wide = k.wide;
   list = h;
   units = k.units;
   units_once = k.units_once;
@@ -206,13 +189,9 @@ kept_from c k h = record {
 }
 
 -- what is the same is kept
-kept_same : {b : Lists} {a : ℕ} {g w : Graph} → Same g w → length w.numbers ≡ use_limit → length w.places ≡ use_limit → Kept b a g → Kept b a w
-kept_same {b} {a} {g} {w} f zn zp k = record {
-  files_wide = ap length f.files ∙ k.files_wide;
-  ids_wide = ap length f.ids ∙ k.ids_wide;
-  folders_wide = ap length f.folders ∙ k.folders_wide;
-  numbers_wide = zn;
-  places_wide = zp;
+kept_same : {b : Lists} {a : ℕ} {g w : Graph} → Same g w → Wide w → Kept b a g → Kept b a w
+kept_same {b} {a} {g} {w} f z k = record {
+  wide = z;
   list = let c = f.count in let l = k.list in omega arith;
   units = λ x m. k.units x (subst (λ (l : List ℕ). Memᴰ x l) units-same m);
   units_once = subst (λ (l : List ℕ). Once l) (sym units-same) k.units_once;
@@ -238,7 +217,7 @@ source_file b g k p m =
 pub sources-count : (b : Bundle) → Roomy b → (n : ℕ) (g : Graph) → Invariant b n g → length (sources_of (lists_of b) g) ≡ g.units
 sources-count b roomy n g v =
     let k = v.kept in
-    let a = k.files_wide in
+    let a = k.wide in
     let u = k.units_fit in
     let r = roomy.files in
     length-map (take g.units g.files) (file_path (lists_of b)) ∙ length-take-le g.units g.files (omega (arith, length-map b.files (λ (f : File). f.path)))
@@ -260,7 +239,7 @@ module _ (b : Bundle) (roomy : Roomy b) (n : ℕ) (g : Graph) (v : Invariant b n
   first-place : FirstOf (paths_of b) place
   first-place =
       let k = v.kept in
-      let a = k.files_wide in
+      let a = k.wide in
       let u = k.units_fit in
       let w = few.files in
       let l = length-take-le g.units g.files (omega arith) in
@@ -330,7 +309,7 @@ module _ (b : Bundle) (roomy : Roomy b) (n : ℕ) (g : Graph) (v : Invariant b n
     pub uses-fit : length its_uses ≤ use_limit
     uses-fit = let w = weight in omega arith
 
-    pub faults-fit : g.faults + length its_uses ≤ use_limit
+    pub faults-fit : g.fault_count + length its_uses ≤ use_limit
     faults-fit = let w = weight in let x = v.faults_weigh in omega arith
 
     -- after the lookups
@@ -349,29 +328,28 @@ module _ (b : Bundle) (roomy : Roomy b) (n : ℕ) (g : Graph) (v : Invariant b n
     means =
         let w = weight in
         let x = v.faults_weigh in
-        lookups_mean (lists_of b) f.path file-listed few.files its_uses (no_imports g)
-        (record { numbers = v.sized.numbers; places = v.sized.places; targets = v.sized.targets; marks = v.sized.marks }) (omega arith) (omega arith)
+        lookups_mean (lists_of b) f.path file-listed its_uses (no_imports g) v.kept.wide (omega arith) (omega arith)
 
     seen-kept : Kept (lists_of b) seen.count seen
     seen-kept =
         kept_from seen.count
-        (kept_same {g = no_imports g} framed.0.same means.sized.numbers means.sized.places
-        (kept_same {g = g} {w = no_imports g} (record { files = refl; units = refl; ids = refl; count = refl; folders = refl; unread = refl }) v.sized.numbers v.sized.places v.kept)) (omega arith)
+        (kept_same {g = no_imports g} framed.0.same means.wide
+        (kept_same {g = g} {w = no_imports g} (record { files = refl; units = refl; ids = refl; count = refl; folders = refl; unread = refl }) v.kept.wide v.kept)) (omega arith)
 
-    seen-targets : Targets (lists_of b) seen
-    seen-targets = means.targets (λ t m. absurd (Memᴰ.not-nil m))
+    seen-aimed : AllAimed (lists_of b) seen
+    seen-aimed = means.aimed (λ i m. absurd (Memᴰ.not-nil m))
 
-    ids-room : seen.count + seen.imports ≤ use_limit
+    ids-room : seen.count + seen.import_count ≤ use_limit
     ids-room = let w = weight in let x = v.ids_weigh in let c = framed.0.same.count in let q = framed.1 in let z = framed.0.faults in omega arith
 
-    faults-room : seen.faults + seen.imports ≤ use_limit
+    faults-room : seen.fault_count + seen.import_count ≤ use_limit
     faults-room = let w = weight in let x = v.faults_weigh in let q = framed.1 in omega arith
 
     pub reads_fit : ReadsRoom seen n
     reads_fit =
         let u = v.kept.units_fit in
         let w = few.files in
-        reads-room (lists_of b) few seen seen-kept means.sized seen-targets ids-room faults-room n (omega arith)
+        reads-room (lists_of b) few seen seen-kept seen-aimed ids-room faults-room n (omega arith)
 
     -- a turn is made
     one-turn : (k : ℕ) → turns (suc k) (paths_of b) (use_cache b) (graph_to b n g) ≡ turns k (paths_of b) (use_cache b) (turn (paths_of b) (use_cache b) (graph_to b n g))
@@ -383,8 +361,8 @@ module _ (b : Bundle) (roomy : Roomy b) (n : ℕ) (g : Graph) (v : Invariant b n
         rw (lt-ltb (length (first_lists n (list_of g))) (length sources) lt)
 
     -- after the readings
-    read : ReadTo (lists_of b) seen seen.imports
-    read = read-to (lists_of b) few seen seen-kept means.sized seen-targets ids-room faults-room seen.imports (omega arith)
+    read : ReadTo (lists_of b) seen seen.import_count
+    read = read-to (lists_of b) few seen seen-kept seen-aimed ids-room faults-room seen.import_count (omega arith)
 
     abbrev out : Graph
     out = read_out seen
@@ -400,7 +378,7 @@ module _ (b : Bundle) (roomy : Roomy b) (n : ℕ) (g : Graph) (v : Invariant b n
     loading_is =
         let s = framed.0.same in
         let k = seen-kept in
-        let a = k.ids_wide in
+        let a = k.wide in
         let c = ids-room in
         let l = length-take-le seen.count seen.ids (omega arith) in
         let e : drop seen.count (take seen.count seen.ids) ≡ [] = drop_of_length-le (take seen.count seen.ids) {i = seen.count} (omega arith) in
@@ -413,7 +391,6 @@ module _ (b : Bundle) (roomy : Roomy b) (n : ℕ) (g : Graph) (v : Invariant b n
         loading_eq p q r s = cc
 
     out-is : loading_of (lists_of b) seen.count out ≡ load_all (paths_of b) (valid_imports resolved) (record { sources = sources; list = []; invalid = invalid_of (lists_of b) g; faults = faults_of g ++ lookup_faults resolved })
-    unfolding imports_in
     out-is =
         read.is ∙ (ap (λ (is : List Import). load_all (paths_of b) is (loading_of (lists_of b) seen.count seen)) means.imports
         ∙ ap (load_all (paths_of b) (valid_imports resolved)) loading_is)
@@ -433,24 +410,17 @@ module _ (b : Bundle) (roomy : Roomy b) (n : ℕ) (g : Graph) (v : Invariant b n
         rw (es, el) (part-alike (get_or g.start u 0) (get_or g.len u 0) g.count out.ids g.ids h
         (read.grown.ids g.count (omega arith) ∙ ap (take g.count) s.same.ids))
 
-    starts : length out.start ≡ file_limit
-    starts = ap length (read.grown.start ∙ framed.0.start) ∙ v.start_wide
-
-    lens : length out.len ≡ file_limit
-    lens = ap length (read.grown.len ∙ framed.0.len) ∙ v.len_wide
-
     list-here : list_of result n ≡ drop seen.count (take out.count out.ids)
     unfolding read_all
     list-here =
-        let a = starts in
-        let l = lens in
+        let a = read.kept.wide in
         let m = unit_small in
         let lt : n < length out.start = omega arith in
         let lu : n < length out.len = omega arith in
         let q = read.grown.more in
         let e : seen.count + (out.count - seen.count) ≡ out.count = omega arith in
         rw (get_or-set_same out.start n seen.count 0 lt, get_or-set_same out.len n (out.count - seen.count) 0 lu)
-        (take-drop seen.count (out.count - seen.count) out.ids ∙ ap (λ (k : ℕ). drop seen.count (take k out.ids)) e)
+        (sym (drop-take seen.count (out.count - seen.count) out.ids) ∙ ap (λ (k : ℕ). drop seen.count (take k out.ids)) e)
 
     turned : graph_to b (suc n) result ≡ turn (paths_of b) (use_cache b) (graph_to b n g)
     unfolding turn first_lists read_all
@@ -482,7 +452,7 @@ module _ (b : Bundle) (roomy : Roomy b) (n : ℕ) (g : Graph) (v : Invariant b n
     unfolding read_all
     out-kept =
         kept_from 0 (kept_same {g = out} {w = with_list out n seen.count (out.count - seen.count)}
-        (record { files = refl; units = refl; ids = refl; count = refl; folders = refl; unread = refl }) read.kept.numbers_wide read.kept.places_wide read.kept) (omega arith)
+        (record { files = refl; units = refl; ids = refl; count = refl; folders = refl; unread = refl }) (wide_list out read.kept.wide n seen.count (out.count - seen.count)) read.kept) (omega arith)
 
     steps_left : length b.files - n ≡ suc (length b.files - suc n)
     steps_left = let u = v.kept.units_fit in omega (arith, length-map b.files (λ (y : File). y.path))
@@ -494,8 +464,7 @@ module _ (b : Bundle) (roomy : Roomy b) (n : ℕ) (g : Graph) (v : Invariant b n
     lists-after : (u : ℕ) → u < suc n → get_or result.start u 0 + get_or result.len u 0 ≤ result.count
     unfolding read_all
     lists-after u lt =
-        let a = starts in
-        let l = lens in
+        let a = read.kept.wide in
         let m = unit_small in
         let q = read.grown.more in
         let c = framed.0.same.count in
@@ -514,14 +483,6 @@ module _ (b : Bundle) (roomy : Roomy b) (n : ℕ) (g : Graph) (v : Invariant b n
     unfolding read_all
     next = record {
       kept = out-kept;
-      sized = record {
-        numbers = read.kept.numbers_wide;
-        places = read.kept.places_wide;
-        targets = ap length read.grown.targets ∙ means.sized.targets;
-        marks = ap length read.grown.marks ∙ means.sized.marks;
-      };
-      start_wide = length-set out.start n seen.count ∙ starts;
-      len_wide = length-set out.len n (out.count - seen.count) ∙ lens;
       some = let m = read.grown.units_more in let e = framed.0.same.units in omega arith;
       handled = let m = read.grown.units_more in let e = framed.0.same.units in omega arith;
       lists = lists-after;
@@ -546,34 +507,12 @@ entry_first : (p : Text) (l : List Text) → position p (p ∷ l) ≡ 0
 unfolding position
 entry_first p l = rw (same_refl p)
 
--- BEFORE THE FIRST UNIT: file 0 is the entry
-abbrev pub no_units : Graph
-no_units = record {
-  files = replicate file_limit 0;
-  start = replicate file_limit 0;
-  len = replicate file_limit 0;
-  units = 1;
-  ids = replicate use_limit 0;
-  count = 0;
-  numbers = replicate use_limit 0;
-  places = replicate use_limit 0;
-  faults = 0;
-  folders = replicate folder_limit 0;
-  unread = 0;
-  targets = replicate use_limit 0;
-  marks = replicate use_limit 0;
-  imports = 0;
-}
-
-pub entry-only : (b : Bundle) → Roomy b → Invariant b 0 no_units
-unfolding first_lists faults_in discover_dependencies
+-- BEFORE THE FIRST UNIT
+pub entry-only : (b : Bundle) → Roomy b → Invariant b 0 entry_alone
+unfolding first_lists discover_dependencies
 entry-only b roomy = record {
   kept = record {
-    files_wide = length-replicate {A = ℕ} file_limit 0;
-    ids_wide = length-replicate {A = ℕ} use_limit 0;
-    folders_wide = length-replicate {A = ℕ} folder_limit 0;
-    numbers_wide = length-replicate {A = ℕ} use_limit 0;
-    places_wide = length-replicate {A = ℕ} use_limit 0;
+    wide = wide_entry;
     list = omega arith;
     units = λ x m. rw (Memᴰ.eq_of_singleton m) (entry_place (paths_of b) some-path);
     units_once = more Memᴰ.not-nil none;
@@ -583,16 +522,13 @@ entry-only b roomy = record {
     unread_once = none;
     unread_fit = omega arith;
   };
-  sized = record { numbers = length-replicate {A = ℕ} use_limit 0; places = length-replicate {A = ℕ} use_limit 0; targets = length-replicate {A = ℕ} use_limit 0; marks = length-replicate {A = ℕ} use_limit 0 };
-  start_wide = length-replicate {A = ℕ} file_limit 0;
-  len_wide = length-replicate {A = ℕ} file_limit 0;
   some = omega arith;
   handled = omega arith;
   lists = λ u lt. absurd (not-suc-le-zero lt);
   ids_weigh = omega arith;
   faults_weigh = omega arith;
   left = let e : length b.files - 0 ≡ length b.files = omega arith in
-      ap (λ (k : ℕ). turns k (paths_of b) (use_cache b) (graph_to b 0 no_units)) e ∙ ap (turns (length b.files) (paths_of b) (use_cache b)) (starts (paths_of b) some-path);
+      ap (λ (k : ℕ). turns k (paths_of b) (use_cache b) (graph_to b 0 entry_alone)) e ∙ ap (turns (length b.files) (paths_of b) (use_cache b)) (starts (paths_of b) some-path);
 }
   where
     some-path : 0 < length (paths_of b)
@@ -618,14 +554,14 @@ pub record Discovers (b : Bundle) (g : Graph) : Type 0 where
   pub some : 0 < g.units
   pub units : g.units ≤ file_limit
   pub ids : g.count ≤ use_limit
-  pub faults : g.faults ≤ use_limit
+  pub faults : g.fault_count ≤ use_limit
   -- each list lies within the ids
   pub lists : (u : ℕ) → u < g.units → get_or g.start u 0 + get_or g.len u 0 ≤ g.count
 
 pub all_units : (b : Bundle) (n : ℕ) (g : Graph) → Invariant b n g → n ≡ g.units → Roomy b → Discovers b g
 all_units b n g v e roomy =
     let k = v.kept in
-    let a = k.files_wide in
+    let a = k.wide in
     let u = k.units_fit in
     let w = roomy.files in
     let m = length-map b.files (λ (y : File). y.path) in

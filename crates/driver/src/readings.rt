@@ -1,89 +1,61 @@
 // The readings of a unit.
-ghost use Rattle.std.specs.Prelude.{◌≡◌, ◌<◌, length};
-ghost use Rattle.driver.specs.Record.{reading_of, LoadRoom, read_all, ReadsRoom};
+ghost use Rattle.std.specs.Prelude.{◌≡◌};
+ghost use Rattle.driver.specs.Record.{reading_of, ReadRoom, read_all, ReadsRoom};
 
-use crate::{Graph, Reading};
-use discovery::{UNITS, holds, index_of};
+use crate::Graph;
+use refusal::Cause;
+use resolution::Target;
 
-// The number of a path that can't be read.
-const UNREADABLE: u8 = 23;
-
-// What the reading of a target comes to, for a unit whose list starts at first: a folder is told once, a known file listed
-// once, a new one gets the next id.
-fn load<'a>(
-    files: &'a [usize],
-    units: usize,
-    ids: &'a [u16],
-    first: usize,
-    count: usize,
-    folders: &'a [usize],
-    unread: usize,
-    target: usize,
-) -> Reading
-    requires { LoadRoom (length files.now) units (length ids.now) first count (length folders.now) unread }
-    ensures { result ≡ reading_of files.now units ids.now first count folders.now unread target }
-{
-    if target < UNITS {
-        let id = index_of(files, units, target);
-        if id < units {
-            if holds(ids, first, count, id as u16) {
-                return Reading::Nothing;
-            }
-            return Reading::Listed(id as u16);
-        }
-        return Reading::New(id as u16);
-    }
-    let folder = target - UNITS;
-    let place = index_of(folders, unread, folder);
-    if place < unread {
-        return Reading::Nothing;
-    }
-    Reading::Told(folder)
+// What a reading comes to: nothing new, a known unit for the list, a file that is a new unit, or a folder to be told.
+#[derive(Clone, Copy, Debug, PartialEq, Eq)]
+pub enum Reading {
+    Nothing,
+    Listed(u16),
+    New(usize),
+    Told(usize),
 }
 
-// All readings of a unit, whose imports were gathered, and its list. What they push is stored here, so that no record is copied
-// for an import.
+// What the reading of a target comes to, for a unit whose list starts at first: a folder is told once, a known file listed
+// once, and any other file is a new unit.
+fn load(g: &Graph, first: usize, target: Target) -> Reading
+    requires { ReadRoom g.now first target }
+    ensures { result ≡ reading_of g.now first target }
+{
+    match target {
+        Target::File(file) => match g.unit_of(file) {
+            Some(id) if g.lists(first, id as u16) => Reading::Nothing,
+            Some(id) => Reading::Listed(id as u16),
+            None => Reading::New(file),
+        },
+        Target::Folder(folder) if g.is_unread(folder) => Reading::Nothing,
+        Target::Folder(folder) => Reading::Told(folder),
+    }
+}
+
+// All readings of a unit, whose imports were gathered, and its list.
 pub fn load_and_parse_dependencies(g: Graph, unit: usize) -> Graph
     requires { ReadsRoom g unit }
     ensures { result ≡ read_all g unit }
 {
     let first = g.count;
-    let n = g.imports;
     let mut w = g;
-    let mut i = 0;
-    while i < n {
-        let target = g.targets[i];
-        let units = w.units;
-        let count = w.count;
-        let unread = w.unread;
-        let faults = w.faults;
-        let read = load(
-            &w.files, units, &w.ids, first, count, &w.folders, unread, target,
-        );
-        match read {
+    for i in 0..g.import_count {
+        let import = g.imports[i];
+        match load(&w, first, import.target) {
             Reading::Nothing => {}
-            Reading::Listed(id) => {
-                w.ids[count] = id;
-                w.count = count + 1;
-            }
-            Reading::New(id) => {
-                w.files[units] = target;
-                w.units = units + 1;
-                w.ids[count] = id;
-                w.count = count + 1;
+            Reading::Listed(id) => w.push_id(id),
+            Reading::New(file) => {
+                let id = w.units as u16;
+                w.push_unit(file);
+                w.push_id(id);
             }
             Reading::Told(folder) => {
-                w.folders[unread] = folder;
-                w.unread = unread + 1;
-                w.numbers[faults] = UNREADABLE;
-                w.places[faults] = g.marks[i];
-                w.faults = faults + 1;
+                w.push_unread(folder);
+                w.push_fault(Cause::NoFile.at(import.mark));
             }
         }
-        i += 1;
     }
-    let end = w.count;
     w.start[unit] = first as u16;
-    w.len[unit] = (end - first) as u16;
+    w.len[unit] = (w.count - first) as u16;
     w
 }

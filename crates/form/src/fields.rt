@@ -36,6 +36,7 @@ pub fn path_end(s: &[u8], at: usize, end: usize) -> Result<usize, Refusal>
     }
 }
 
+// As `path_end`, with another test and cause: with these as parameters, a closure among them, the two would be longer.
 #[tactic(auto, unfolding(bundle::specs::Scan::scan_formed))]
 pub fn name_end(s: &[u8], at: usize, end: usize) -> Result<usize, Refusal>
     requires { end ≤ length s.now }

@@ -5,8 +5,8 @@ ghost use Rattle.bundle.specs.Limits.{item_limit, use_limit};
 ghost use Rattle.bundle.specs.Scan.{uses_after, scan_head, scan_body, scan_item, scan_items, and_then, scan_end};
 
 use crate::fields::{length_end, mark_end, name_end, nothing_left, use_end};
-use bundle::limits::{IGNORED, ITEMS, MODULE, USE, most_uses};
-use bundle::{Passed, byte_at, version_of};
+use bundle::limits::{ITEMS, most_uses};
+use bundle::{Kind, Passed, version_of};
 use refusal::{Cause, Refusal};
 
 // How many uses there are after the item at `at`.
@@ -14,10 +14,10 @@ fn uses_after(s: &[u8], at: usize, uses: usize) -> usize
     requires { (at < 2 ^ 63) × (uses ≤ use_limit) }
     ensures { result ≡ uses_after s.now at uses }
 {
-    if byte_at(s, at + 2) == USE {
-        return uses + 1;
+    match bundle::kind(s, at) {
+        Kind::Use => uses + 1,
+        Kind::Named(_) | Kind::Module | Kind::Ignored => uses,
     }
-    uses
 }
 
 // An item's length, kind, visibility, and the limits on items and uses.
@@ -41,14 +41,11 @@ fn body_end(s: &[u8], at: usize, end: usize) -> Result<usize, Refusal>
     requires { (at + 4 ≤ end) × (end ≤ length s.now) }
     ensures { scanned result ≡ scan_body s.now end at }
 {
-    let kind = byte_at(s, at + 2);
-    if kind == IGNORED {
-        return Ok(at + 4);
+    match bundle::kind(s, at) {
+        Kind::Ignored => Ok(at + 4),
+        Kind::Use => use_end(s, at + 4, end),
+        Kind::Named(_) | Kind::Module => name_end(s, at + 4, end),
     }
-    if kind == USE {
-        return use_end(s, at + 4, end);
-    }
-    name_end(s, at + 4, end)
 }
 
 fn leaf_end(s: &[u8], at: usize, end: usize) -> Result<usize, Refusal>
@@ -66,28 +63,32 @@ pub fn item(s: &[u8], end: usize, depth: usize, w: Passed) -> Result<Passed, Ref
     ensures { walked result ≡ scan_item depth s.now end w.at w.items w.uses }
 {
     let next = head_end(s, end, w)?;
-    if byte_at(s, w.at + 2) == MODULE {
-        if depth == 0 {
-            return Err(Cause::TooMany.at(w.at));
+    match bundle::kind(s, w.at) {
+        Kind::Module => {
+            if depth == 0 {
+                return Err(Cause::TooMany.at(w.at));
+            }
+            let inner = name_end(s, w.at + 4, next)?;
+            items(
+                s,
+                next,
+                depth - 1,
+                Passed {
+                    at: inner,
+                    items: w.items + 1,
+                    uses: w.uses,
+                },
+            )
         }
-        let inner = name_end(s, w.at + 4, next)?;
-        return items(
-            s,
-            next,
-            depth - 1,
-            Passed {
-                at: inner,
+        Kind::Named(_) | Kind::Use | Kind::Ignored => {
+            let past = leaf_end(s, w.at, next)?;
+            Ok(Passed {
+                at: past,
                 items: w.items + 1,
-                uses: w.uses,
-            },
-        );
+                uses: uses_after(s, w.at, w.uses),
+            })
+        }
     }
-    let past = leaf_end(s, w.at, next)?;
-    Ok(Passed {
-        at: past,
-        items: w.items + 1,
-        uses: uses_after(s, w.at, w.uses),
-    })
 }
 
 // The items from `w.at` to `end`.
@@ -96,6 +97,7 @@ pub fn items(s: &[u8], end: usize, depth: usize, w: Passed) -> Result<Passed, Re
     requires { ((w.at ≤ end) × (end ≤ length s.now)) × ((w.items ≤ item_limit) × (w.uses ≤ use_limit)) }
     ensures { walked result ≡ scan_items depth s.now end w.at w.items w.uses }
 {
+    // A `while`: each item says where the next one starts, once its form is told.
     let mut x = w;
     while x.at < end {
         x = item(s, end, depth, x)?;

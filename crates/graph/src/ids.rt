@@ -8,7 +8,7 @@ use crate::UNITS;
 use std::marker::Model;
 
 // Up to UNITS ids; contracts see the list. An array and a count, not a Vec: the linker has no heap. The places behind are 0.
-#[derive(Debug, Drop, PartialEq, Eq)]
+#[derive(Clone, Debug, Drop, PartialEq, Eq)]
 pub struct Ids {
     ids: [u16; UNITS],
     count: usize,

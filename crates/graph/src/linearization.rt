@@ -9,7 +9,8 @@ ghost use Rattle.graph.specs.State.{Ready, Visited};
 use crate::{Graph, IDS, Ids, UNITS, Unordered};
 use refusal::Cause;
 
-// The state of the walk: the units that are being visited, oldest first; those that are done, in order; and which are done.
+// The state of the walk: the units that are being visited, oldest first; those that are done, in order; and which are done,
+// unit by unit, so that it is one look and no search.
 #[derive(Drop)]
 struct Search {
     visiting: Ids,

@@ -1,5 +1,5 @@
 -- Laws for `gontsamy_link`'s code. Assumes nothing.
-use Rattle.std.specs.Prelude.{ℕ, suc, ◌+◌, ◌*◌, ◌≤◌, ◌<◌, ◌≡◌, refl, Bool, false, cond, List, [], ◌∷◌, ◌++◌, leb, ltb, set, take, drop}
+use Rattle.std.specs.Prelude.{ℕ, suc, ◌+◌, ◌*◌, ◌≤◌, ◌<◌, ◌≡◌, refl, Bool, false, cond, List, [], ◌∷◌, ◌++◌, leb, ltb, set, drop}
 use Rattle.std.proofs.Common.{arith, add-one, sym, ◌∙◌, length-append, le-leb, ltb-false}
 use Rattle.std.proofs.Math.Path.{ap}
 use Rattle.std.proofs.Math.Bool.{true}
@@ -7,7 +7,7 @@ use Rattle.std.proofs.Math.ListN.{length}
 use Rattle.std.proofs.lemmas.List.Edits.{sets, sets-eq}
 use Rattle.std.proofs.Math.Seq.{set_out}
 use Rattle.std.proofs.lemmas.Bool.{lt-leb}
-use Rattle.order.specs.declared.Answer.{Answer}
+use Rattle.order.specs.Results.{Answer}
 use Rattle.scope_tree.specs.Flat.{Entry}
 use Rattle.rows.specs.Written.{put_at, written}
 use Rattle.rows.specs.TreeRows.{numbers, all_numbers, Listed}
@@ -37,13 +37,6 @@ rows_whole es l h k =
     written_sets l 0 (all_numbers es) ∙ sets-eq (all_numbers es) l 0 b ∙ ap (λ (j : ℕ). all_numbers es ++ drop j l) e
 
 -- AS THE CODE HAS IT
-pub answer_laid : (a : Answer) (n : ℕ) (l m₁ m₂ m₃ m₄ m₅ m₆ m₇ : List ℕ) → m₁ ≡ set l 0 a.place → m₂ ≡ set m₁ 1 a.report → m₃ ≡ set m₂ 2 a.units → m₄ ≡ set m₃ 3 a.image
-    → m₅ ≡ set m₄ 4 n → m₆ ≡ sets m₅ 5 (take a.units a.files) → m₇ ≡ sets m₆ 69 (take a.units a.ids) → m₇ ≡ answer_of a n l
-answer_laid a n l m₁ m₂ m₃ m₄ m₅ m₆ m₇ e₁ e₂ e₃ e₄ e₅ e₆ e₇ =
-    e₇ ∙ ap (λ (m : List ℕ). sets m 69 (take a.units a.ids))
-    (e₆ ∙ ap (λ (m : List ℕ). sets m 5 (take a.units a.files))
-    (e₅ ∙ ap (λ (m : List ℕ). set m 4 n) (e₄ ∙ ap (λ (m : List ℕ). set m 3 a.image) (e₃ ∙ ap (λ (m : List ℕ). set m 2 a.units) (e₂ ∙ ap (λ (m : List ℕ). set m 1 a.report) e₁)))))
-
 module _ (s report image answer rows : List ℕ) where
   abbrev pub Told : ℕ → List ℕ → List ℕ → List ℕ → List ℕ → Type 0
   Told n report' image' answer' rows' =

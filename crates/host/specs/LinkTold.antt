@@ -3,7 +3,7 @@ use Rattle.std.specs.Prelude.{ℕ, ◌+◌, ◌*◌, Bool, false, cond, List, []
 use Rattle.std.proofs.lemmas.List.Edits.{sets}
 use Rattle.bundle.specs.Limits.{file_limit}
 use Rattle.order.specs.Report.{small_buffer}
-use Rattle.order.specs.declared.Answer.{Answer}
+use Rattle.order.specs.Results.{Answer}
 use Rattle.scope_tree.specs.Flat.{Entry}
 use Rattle.rows.specs.TreeRows.{all_numbers}
 use Rattle.linker.specs.Call.{link_answer, link_report, link_image, link_entries}

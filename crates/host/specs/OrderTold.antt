@@ -5,7 +5,7 @@ use Rattle.std.proofs.Common.{◌∙◌, le-leb}
 use Rattle.std.proofs.lemmas.Bool.{lt-leb}
 use Rattle.order.specs.Report.{small_buffer}
 use Rattle.order.specs.Call.{order_answer, order_report}
-use Rattle.order.specs.declared.Answer.{Answer}
+use Rattle.order.specs.Results.{Answer}
 use Rattle.host.specs.LinkTold.{answer_length, answer_of}
 
 -- WHAT IS TOLD. Of bytes and the two that are lent: the number, and what each holds afterwards. Where the answer is too short: 14, and

@@ -15,14 +15,14 @@ use Rattle.order.specs.Run.{units_of}
 use Rattle.order.specs.Report.{fault, ring, reporting}
 use Rattle.order.specs.Call.{padded, unit_files}
 use Rattle.order.specs.Theorems.{order-count}
-use Rattle.order.specs.declared.Reported.{Reported}
-use Rattle.order.specs.declared.Reported.TheVariants as reported
+use Rattle.order.specs.Results.{Reported}
+use Rattle.order.specs.Results as reported
 use Rattle.assembly.specs.Image.{imaging}
 use Rattle.assembly.specs.Call.{telling, reported_to, imaged_to}
 use Rattle.assembly.specs.Theorems.{few-units}
-use Rattle.assembly.specs.declared.Imaged.{Imaged}
-use Rattle.assembly.specs.declared.Imaged.TheVariants as imaged
-use Rattle.order.specs.declared.Answer.{Answer}
+use Rattle.assembly.specs.Results.{Imaged}
+use Rattle.assembly.specs.Results as imaged
+use Rattle.order.specs.Results.{Answer}
 use Rattle.linker.specs.Link.{Outcome, faulty, closed, ended, result, link_bundle}
 use Rattle.linker.specs.Call.{answering, answer_to, link_answer, link_entries}
 use Rattle.linker.specs.Theorems.{linked-bundle}

@@ -9,13 +9,16 @@ ghost use Rattle.host.specs.OrderTold.{order_number_told, order_report_told, ord
 ghost use Rattle.host.specs.GraphTold.{graph_of, ordered_told, count_told};
 ghost use Rattle.host.specs.LinkTold.{answer_of, number_told, report_told, image_told, answer_told, rows_told};
 ghost use Rattle.graph.specs.Given.{linearize_given};
+ghost use Rattle.order.specs.Told.{told as ordered_answer};
+ghost use Rattle.program.specs.Told.{told as assembled_answer};
 ghost use Rattle.resolution.specs.Call.{resolve};
 ghost use Rattle.remapping_lines.specs.Lines.{lines_answer, lines_buffer};
 ghost use Rattle.host.specs.RemappingsTold.{lines_number, lines_told};
 
 use graph::{Graph, Unordered};
-use order::Answer;
-use refusal::Cause;
+use order::Ordered;
+use program::Assembled;
+use refusal::{Cause, Refusal};
 use resolution::Target;
 
 mod tree;
@@ -146,12 +149,9 @@ pub extern "C" fn gontsamy_order(s: &[u8], report: &mut [u8], answer: &mut [usiz
     ensures answer_after { answer.new ≡ order_told s.now report.old answer.old }
 {
     if answer.len() < ANSWER {
-        return 14;
+        return u8::from(Cause::SmallBuffer);
     }
-    let a = order::order(s, report);
-    let number = a.number;
-    tell_link(answer, a, 0);
-    number
+    tell_link(answer, without_image(order::order(s, report)), 0)
 }
 
 // The linked order of a graph given directly: unit u, below `units`, lists the ids from start[u] on, len[u] of them, among the first
@@ -188,18 +188,42 @@ pub extern "C" fn gontsamy_linearize(
     number
 }
 
-// What `gontsamy_link` tells of an answer and of how many entries the tree has.
-fn tell_link(answer: &mut [usize], a: Answer, entries: usize)
-    ensures { answer.new ≡ answer_of a entries answer.old }
+// The answer of steps 3 and 4 in the form of that of all steps: with no image.
+fn without_image(answer: Result<Ordered, Refusal>) -> Result<Assembled, Refusal>
+    ensures { assembled_answer result ≡ ordered_answer answer }
 {
-    let units = a.units;
-    steps_c::tell(answer, ANSWER_PLACE, a.place);
-    steps_c::tell(answer, ANSWER_REPORT, a.report);
-    steps_c::tell(answer, ANSWER_UNITS, units);
-    steps_c::tell(answer, ANSWER_IMAGE, a.image);
-    steps_c::tell(answer, ANSWER_ENTRIES, entries);
-    steps_c::tell_places(answer, ANSWER_FILES, &a.files, units);
-    steps_c::tell_ids(answer, ANSWER_IDS, &a.ids, units);
+    match answer {
+        Err(e) => Err(e),
+        Ok(Ordered::Report(n)) => Ok(Assembled::Report(n)),
+        Ok(Ordered::Units(linked)) => Ok(Assembled::Image(linked, 0)),
+    }
+}
+
+// What `gontsamy_link` tells of an answer and of how many entries the tree has.
+fn tell_link(answer: &mut [usize], a: Result<Assembled, Refusal>, entries: usize) -> u8
+    ensures number { result ≡ (assembled_answer a).number }
+    ensures answer_after { answer.new ≡ answer_of (assembled_answer a) entries answer.old }
+{
+    match a {
+        Err(e) => {
+            steps_c::tell_places(answer, ANSWER_PLACE, &[e.place, 0, 0, 0, entries], 5);
+            u8::from(e.cause)
+        }
+        Ok(told) => {
+            match told {
+                Assembled::Report(n) => {
+                    steps_c::tell_places(answer, ANSWER_PLACE, &[0, n, 0, 0, entries], 5);
+                }
+                Assembled::Image(linked, n) => {
+                    let units = linked.units;
+                    steps_c::tell_places(answer, ANSWER_PLACE, &[0, 0, units, n, entries], 5);
+                    steps_c::tell_places(answer, ANSWER_FILES, &linked.files, units);
+                    steps_c::tell_ids(answer, ANSWER_IDS, &linked.ids, units);
+                }
+            }
+            0
+        }
+    }
 }
 
 // A bundle linked, steps 1 to 6. 14 and nothing written where `answer` is shorter than ANSWER or `rows` than ROWS; otherwise a number
@@ -222,14 +246,11 @@ pub extern "C" fn gontsamy_link(
     ensures rows_after { rows.new ≡ rows_told s.now image.old answer.old rows.old }
 {
     if answer.len() < ANSWER {
-        return 14;
+        return u8::from(Cause::SmallBuffer);
     }
     if rows.len() < ROWS {
-        return 14;
+        return u8::from(Cause::SmallBuffer);
     }
-    let l = linker::link_rows(s, report, image, rows);
-    let a = l.answer;
-    let number = a.number;
-    tell_link(answer, a, l.entries);
-    number
+    let told = linker::link_rows(s, report, image, rows);
+    tell_link(answer, told.answer, told.entries)
 }

@@ -6,7 +6,7 @@ ghost use Rattle.scope_tree.specs.Form.{enters, exits, inserts_alias, inserts_en
 ghost use Rattle.scope_tree.specs.Trees.{packed_in};
 ghost use Rattle.scope_tree.specs.Told.{mark_told};
 ghost use Rattle.commit.specs.Lending.{lent_in, Kept};
-ghost use Rattle.scopes.specs.Meets.{request};
+ghost use Rattle.scopes.specs.Meets.{request_of};
 ghost use Rattle.std.specs.Prelude.{eqb, ◌≡◌};
 
 use crate::{ENTRIES, ROWS, TREE_CELLS, TREE_OPENED};
@@ -14,15 +14,15 @@ use decision::decide;
 use refusal::Cause;
 use scope_tree::Kind;
 use scope_tree::look::View;
-use scopes::lent;
 use scopes::lent::Lent;
+use scopes::{Call, Item, lent};
 
-// A call on the lent arrays, by its code, and its number.
-fn tell_made(tree: &mut Lent, code: u8, bytes: &[u8], public: bool, mark: u16) -> u8
+// A call on the lent arrays, and its number.
+fn tell_made(tree: &mut Lent, call: Call) -> u8
     ensures kept { Kept tree.old tree.new }
-    ensures told { TreeTold (lent_in tree.old) (request code bytes.now public mark) result (lent_in tree.new) }
+    ensures told { TreeTold (lent_in tree.old) (request_of call.entry) result (lent_in tree.new) }
 {
-    scopes::number_of(lent::call(tree, code, bytes, public, mark))
+    scopes::number_of(lent::call(tree, call))
 }
 
 // An answer's number, and its mark where it has one.
@@ -68,7 +68,14 @@ pub extern "C" fn gontsamy_enter(
         n2,
         n3,
     };
-    tell_made(&mut tree, 1, name, public == 1, mark)
+    tell_made(
+        &mut tree,
+        Call::Enter(Item {
+            name,
+            public: public == 1,
+            mark,
+        }),
+    )
 }
 
 // The innermost open module is left. Ruled out: 0 at the root; an entry lost on leaving.
@@ -97,7 +104,7 @@ pub extern "C" fn gontsamy_exit(
         n2,
         n3,
     };
-    tell_made(&mut tree, 2, b"", false, 0)
+    tell_made(&mut tree, Call::Exit)
 }
 
 // A type alias. Ruled out: 0 where the current module holds a type of that name; 51 with a place left.
@@ -129,7 +136,14 @@ pub extern "C" fn gontsamy_insert_alias(
         n2,
         n3,
     };
-    tell_made(&mut tree, 3, name, public == 1, mark)
+    tell_made(
+        &mut tree,
+        Call::Alias(Item {
+            name,
+            public: public == 1,
+            mark,
+        }),
+    )
 }
 
 // An enum, a type. Ruled out: 49 in the place of 48; arrays that differ after a refusal.
@@ -161,7 +175,14 @@ pub extern "C" fn gontsamy_insert_enum(
         n2,
         n3,
     };
-    tell_made(&mut tree, 4, name, public == 1, mark)
+    tell_made(
+        &mut tree,
+        Call::Enum(Item {
+            name,
+            public: public == 1,
+            mark,
+        }),
+    )
 }
 
 // A function. Ruled out: a refusal because a type or a module has the name; an entry in the root and not in the open module.
@@ -193,7 +214,14 @@ pub extern "C" fn gontsamy_insert_function(
         n2,
         n3,
     };
-    tell_made(&mut tree, 5, name, public == 1, mark)
+    tell_made(
+        &mut tree,
+        Call::Function(Item {
+            name,
+            public: public == 1,
+            mark,
+        }),
+    )
 }
 
 // A use in the bundle's form: segment count, segments, element count, each element a name and an alias. Ruled out: 0 with nothing
@@ -225,7 +253,7 @@ pub extern "C" fn gontsamy_resolve_use(
         n2,
         n3,
     };
-    tell_made(&mut tree, 6, decl, public == 1, 0)
+    tell_made(&mut tree, Call::Use(decl, public == 1))
 }
 
 // The mark of the type of that name in the current module. Ruled out: the mark of one in an outer module; 43 where a use imported it.
@@ -311,12 +339,22 @@ pub extern "C" fn gontsamy_rows<'a>(
     ensures count_after { count.new ≡ rows_count (packed_in opened.now cells.now visible.now scopes.now marks.now n0.now n1.now n2.now n3.now) rows.old count.old }
 {
     if rows.len() < ROWS {
-        return 14;
+        return u8::from(Cause::SmallBuffer);
     }
-    if ENTRIES < scopes::count_of(opened) {
-        return 51;
+    let tree = View {
+        opened,
+        cells,
+        visible,
+        scopes,
+        marks,
+        n0,
+        n1,
+        n2,
+        n3,
+    };
+    if ENTRIES < tree.count() {
+        return u8::from(Cause::TreeFull);
     }
-    let entries = rows::put_rows(opened, cells, visible, scopes, marks, n0, n1, n2, n3, rows);
-    *count = entries;
+    *count = rows::put_rows(&tree, rows);
     0
 }

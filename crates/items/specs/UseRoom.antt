@@ -1,5 +1,5 @@
 -- How long a rewritten use can be: what a layer above has to lend for it. Assumes nothing.
-use Rattle.std.specs.Prelude.{ℕ, zero, suc, ◌+◌, ◌-◌, ◌*◌, ◌≤◌, Bool, true, false, ◌||◌, ◌≡◌, refl, List, [], ◌∷◌, ◌++◌, eqb}
+use Rattle.std.specs.Prelude.{ℕ, zero, suc, ◌+◌, ◌-◌, ◌*◌, ◌≤◌, Bool, true, false, ◌||◌, ◌≡◌, refl, List, [], ◌∷◌, ◌++◌, eqb, Option, Some, None}
 use Rattle.std.proofs.Common.{arith, ap, subst, eqb-true}
 use Rattle.std.proofs.Math.Decide.{dec_le}
 use lib.ListN.{length, drop, length-append}
@@ -13,6 +13,7 @@ use Rattle.bundle.specs.Limits.{file_limit, element_limit, use_kind, module_kind
 use Rattle.bundle.specs.Scan.{byte}
 use Rattle.bundle.specs.Decode.{decode}
 use Rattle.bundle.specs.Access.{inside_of, item_use}
+use Rattle.discovery.specs.declared.known.Known.{Known}
 use Rattle.assembly.specs.Assemble.{file_of}
 use Rattle.assembly.specs.Paths.{FormedPath, small_width}
 use Rattle.encoder.specs.Strings.{string-length}
@@ -20,8 +21,7 @@ use Rattle.assembly.specs.Targets.{path_by, Within, UnitOf, some-target}
 use Rattle.encoder.specs.Strings.{crate_length}
 use Rattle.items.specs.Uses.{use_form}
 use Rattle.assembly.specs.Walk.{one_at, segments_at, elements_at, use_bytes}
-use Rattle.assembly.specs.declared.Target.{Target}
-use Rattle.assembly.specs.declared.Target.TheVariants.{Unit, Nothing}
+use Rattle.assembly.specs.declared.targets.Target.{Target}
 
 -- a name has at most 32 bytes
 name-few : (t : Text) → IsName t → length t ≤ 32
@@ -71,23 +71,23 @@ pub unit-few : (id : ℕ) → id ≤ file_limit → length (string (unit_name id
 unfolding unit_name ascii
 unit-few id h = let w = small_width id (omega arith) in omega (arith, string-length (unit_name id), length-append (ascii "unit_") (decimal id))
 
-path-few : (segments : List Text) (t : Target) → Within segments t → FormedPath segments → length (counted string (path_by segments t)) ≤ 568
+path-few : (segments : List Text) (t : Option Target) → Within segments t → FormedPath segments → length (counted string (path_by segments t)) ≤ 568
 unfolding counted joined
-path-few segments Nothing w f = omega arith
-path-few segments (Unit id left) w f =
-    let rest = drop (length segments - left) segments in
-    let d = drop-few (length segments - left) segments in
-    let n = names-few rest (every_drop (length segments - left) segments f.1) in
-    let u = unit-few id w.1 in
+path-few segments None w f = omega arith
+path-few segments (Some t) w f =
+    let rest = drop (length segments - t.left) segments in
+    let d = drop-few (length segments - t.left) segments in
+    let n = names-few rest (every_drop (length segments - t.left) segments f.1) in
+    let u = unit-few t.id w.1 in
     let c = f.0 in
-    omega (arith, crate_length, length-append (string (ascii "crate")) (string (unit_name id) ++ joined string rest), length-append (string (unit_name id)) (joined string rest))
+    omega (arith, crate_length, length-append (string (ascii "crate")) (string (unit_name t.id) ++ joined string rest), length-append (string (unit_name t.id)) (joined string rest))
 
 -- at most 2,681 bytes
-pub use_few : (s files : List ℕ) (units id mark : ℕ) → UnitOf s files units id
+pub use_few : (s : List ℕ) (known : Known) (units id mark : ℕ) → UnitOf s known units id
     → FormedPath (segments_at s mark) → (length (elements_at s mark) ≤ element_limit) × Every FormedElement (elements_at s mark) → length (use_bytes s (file_of (decode s) id) mark) ≤ 2681
 unfolding counted
-use_few s files units id mark u f g =
-    let t = some-target s files units id u (segments_at s mark) in
+use_few s known units id mark u f g =
+    let t = some-target s known units id u (segments_at s mark) in
     let e = ap length (use_form s mark (file_of (decode s) id) t.0 t.1.0) in
     let p = path-few (segments_at s mark) t.0 t.1.1 f in
     let k = elements-few (elements_at s mark) g.1 in

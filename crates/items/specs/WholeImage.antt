@@ -14,7 +14,7 @@ use Rattle.assembly.specs.Assemble.{assembled}
 use Rattle.assembly.specs.Image.{image_limit, length_cap, small_buffer, long_image, image_bytes, items_length, image_length, imaging, lent_image, items-length, small, long}
 use Rattle.encoder.specs.Parts.{started-length, then-filled, kept-start, headed, set_three}
 use Rattle.assembly.specs.Given.{program_bytes}
-use Rattle.assembly.specs.declared.Imaged.TheVariants as imaged
+use Rattle.assembly.specs.Results as imaged
 
 module _ (b : Bundle) (o out : List ℕ) where
   abbrev p : Items

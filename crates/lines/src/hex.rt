@@ -1,6 +1,7 @@
 // Bytes in hexadecimal.
-ghost use Rattle.std.specs.Prelude.{◌≡◌, ◌/◌, length, Some, IfOk, vec_len};
-ghost use Rattle.lines.specs.Hex.{hex};
+ghost use Rattle.std.specs.Prelude.{◌≡◌, ◌/◌, ◌<◌, ◌≤◌, length, min, Some, IfOk, IfSome, OnOk, vec_len};
+ghost use Rattle.std.specs.Fmt.{HasWritten, IsPlainFormatter};
+ghost use Rattle.lines.specs.Hex.{hex, pair};
 
 use std::alloc::Global;
 use std::{fmt, io};
@@ -9,27 +10,51 @@ use std::{fmt, io};
 #[derive(Clone, Copy)]
 pub struct Hex<'a>(pub &'a [u8]);
 
+// A byte's two digits, the high one first.
+fn put_pair<W: fmt::Write>(f: &mut fmt::Formatter<W>, b: u8) -> fmt::Result
+    ensures { IsPlainFormatter f.old → OnOk result (HasWritten W.write_str_gives f.old (pair b) f.new) }
+{
+    write!(f, "{b:02x}")
+}
+
 impl fmt::Display for Hex<'_> {
     ghost output = { λ h. Some (hex h.0.now) };
 
     fn fmt<W: fmt::Write>(&self, f: &mut fmt::Formatter<W>) -> fmt::Result {
         for b in self.0 {
-            write!(f, "{b:02x}")?;
+            put_pair(f, *b)?;
         }
         Ok(())
     }
 }
 
+// The value of a digit.
+fn digit(b: u8) -> Option<u8>
+    ensures { IfSome result (λ d. d < 16) }
+{
+    Some(char::from(b).to_digit(16)? as u8)
+}
+
 // The byte of two digits.
 fn byte(high: u8, low: u8) -> Option<u8> {
-    let high = char::from(high).to_digit(16)?;
-    let low = char::from(low).to_digit(16)?;
-    Some((high * 16 + low) as u8)
+    Some(digit(high)? * 16 + digit(low)?)
+}
+
+// The bytes that digits spell, two for each, at the start of the buffer, as many as there is room for; answers how many. What is
+// no digit counts as 0.
+pub fn unhex(s: &[u8], out: &mut [u8]) -> usize
+    ensures room { result ≤ length out.old }
+    ensures count { result ≡ min (length out.old) (length s.now / 2) }
+{
+    for (slot, pair) in out.iter_mut().zip(s.chunks_exact(2)) {
+        *slot = digit(pair[0]).unwrap_or(0) * 16 + digit(pair[1]).unwrap_or(0);
+    }
+    out.len().min(s.len() / 2)
 }
 
 // The bytes that a word's digits spell, two for each; one digit more spells none, and neither does `-`. Another word is an error.
 // Ruled out: a byte for each digit.
-pub fn unhex(alloc: Global, word: &str) -> io::Result<Vec<u8>>
+pub fn unhexed(alloc: Global, word: &str) -> io::Result<Vec<u8>>
     ensures { IfOk result (λ v. vec_len v ≡ length word.now / 2) }
 {
     word.as_bytes()

@@ -13,7 +13,7 @@ ghost use Rattle.std.specs.Prelude.{◌<◌, ◌≤◌, length, take, IfOk};
 ghost use Rattle.std.specs.Io.KnownBytes.{Consumes, IsAtEnd};
 
 pub use frames::Frames;
-pub use hex::{Hex, unhex};
+pub use hex::{Hex, unhex, unhexed};
 pub use report::{ring, tell_faults, tell_refusal, tell_ring};
 use std::io;
 use std::io::{BufRead, BufReader, BufWriter, Printer, Read, Write};
@@ -60,7 +60,7 @@ pub fn fill<R: Read>(reader: &mut R, buffer: &mut [u8]) -> io::Result<usize>
     ensures bytes { IfOk result (λ n. Consumes (R.remaining reader.old) (R.remaining reader.new) (take n buffer.new)) }
     ensures end { IfOk result (λ n. n < length buffer.new → IsAtEnd (R.remaining reader.new)) }
 {
-    // A `while`: each read comes as far as the reader says.
+    // A `while`: only the reader says how far a read comes, so no count or list of turns stands before them.
     let mut n = 0;
     while n < buffer.len() {
         let more = reader.read(&mut buffer[n..])?;

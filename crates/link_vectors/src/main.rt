@@ -3,6 +3,7 @@
 #![tactic(auto)]
 
 use printing::{IMAGE, REPORT};
+use program::Assembled;
 use std::alloc::Global;
 use std::io;
 use std::io::{BufWriter, Read, Write};
@@ -28,10 +29,9 @@ fn tell_image<W: Write>(out: &mut W, s: &[u8]) -> io::Result<()> {
     let mut report = [0u8; REPORT];
     let mut image = [0u8; IMAGE];
     let linked = linker::link(s, &mut report, &mut image, scopes::empty());
-    let n = linked.answer.image;
-    if n == 0 {
+    let Ok(Assembled::Image(_, n)) = linked.answer else {
         return Ok(());
-    }
+    };
     out.write_all(b"image ")?;
     for b in image.iter().take(n) {
         write!(out, "{b:02x}")?;

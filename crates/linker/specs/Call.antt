@@ -3,13 +3,13 @@ use Rattle.std.specs.Prelude.{ℕ, ◌≡◌, List, [], length}
 use Rattle.bundle.specs.Read.{Reading, value, refused, read}
 use Rattle.order.specs.Outcome.{result_or, ResultOr}
 use Rattle.order.specs.Call.{unit_files, answer_by, answer_from, report_from, held_from, KeptFrom}
-use Rattle.order.specs.declared.Answer.{Answer}
+use Rattle.order.specs.Results.{Answer}
 pub use Rattle.order.specs.Report.{records_of}
 use Rattle.assembly.specs.Image.{imaging, lent_image}
 use Rattle.assembly.specs.Assemble.{Built}
 use Rattle.assembly.specs.Call.{with_image}
-use Rattle.assembly.specs.declared.Imaged.{Imaged}
-use Rattle.assembly.specs.declared.Imaged.TheVariants as imaged
+use Rattle.assembly.specs.Results.{Imaged}
+use Rattle.assembly.specs.Results as imaged
 use Rattle.scope_tree.specs.Flat.{Flat, Entry}
 use Rattle.scope_tree.specs.Trees.{Good, flat_of}
 use Rattle.scope_tree.specs.declared.Tree.{Tree}

@@ -33,7 +33,7 @@ use Rattle.scope_tree.specs.Form.{after_strings, names_from, local_name, element
 use Rattle.scope_tree.specs.Form as request
 use Rattle.assembly.specs.Assemble.{rewrite_use, rewrite_items, local_items, assembled, enum_declarations, forbid_enum_dec_in_deps, has_main, main_faults, assembly_faults, linearize_and_assemble}
 use Rattle.assembly.specs.Image.{image_bytes, items_length, segments_length, elements_length, imaging}
-use Rattle.order.specs.declared.Answer.{Answer}
+use Rattle.order.specs.Results.{Answer}
 use Rattle.scope_walk.specs.Scopes.{scope_calls, walk_from, scope_walk}
 use Rattle.linker.specs.Call.{link_answer}
 use Rattle.linker.specs.Link.{Outcome, faulty, closed, ended, result, link_bundle}

@@ -18,7 +18,7 @@ use Rattle.order.specs.Report as report
 use Rattle.order.specs.Exact.{fault-numbers}
 use Rattle.order.specs.Call.{padded, unit_files, paths_of_ids, Wrote}
 use Rattle.order.specs.Demand.{ReportEnds, too_small, whole, report-ends, report-told, wrote, fault-some, ring-some, files-linked}
-use Rattle.order.specs.declared.Reported.{Reported}
+use Rattle.order.specs.Results.{Reported}
 use Rattle.scope_tree.specs.Flat.{Flat, flat, first_flat}
 use Rattle.scope_tree.specs.Trees.{Good, flat_of}
 use Rattle.scope_tree.specs.declared.Tree.{Tree}
@@ -29,9 +29,9 @@ use Rattle.assembly.specs.Call.{telling, refusing, reported_to, imaged_to, Image
 use Rattle.assembly.specs.Demand.{ImageEnds, none, some, image-ends, image-written}
 use Rattle.assembly.specs.Faults.{step5-numbers}
 use Rattle.assembly.specs.Theorems.{Program, program-only, FaultsFrom, of_discovery, of_step5, FaultsMet, never_refused}
-use Rattle.order.specs.declared.Answer.{Answer}
-use Rattle.assembly.specs.declared.Imaged.{Imaged}
-use Rattle.assembly.specs.declared.Imaged.TheVariants as imaged
+use Rattle.order.specs.Results.{Answer}
+use Rattle.assembly.specs.Results.{Imaged}
+use Rattle.assembly.specs.Results as imaged
 use Rattle.scope_walk.specs.Scopes.{Walked, done, stopped, scope_calls, scope_walk}
 use Rattle.linker.specs.Link.{Outcome, faulty, closed, ended, result, linked, step6, link_after, link_bundle}
 use Rattle.linker.specs.Call.{records_of, answering, image_after, TreeOf, TreeWith, TreeAfter, answer_to, report_to, image_to, TreeTo, link_answer, link_report, link_image, LinkTree}

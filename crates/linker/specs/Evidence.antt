@@ -34,8 +34,8 @@ use Rattle.assembly.specs.Image.{small_buffer, image_limit, items_length, image_
 use Rattle.assembly.specs.Image as image
 use Rattle.assembly.specs.Call.{refusing, imaged_to, NoImage, too_long, too_small}
 use Rattle.assembly.specs.Theorems.{Program}
-use Rattle.order.specs.declared.Answer as answers
-use Rattle.assembly.specs.declared.Imaged.TheVariants as imaged
+use Rattle.order.specs.Results as answers
+use Rattle.assembly.specs.Results as imaged
 use Rattle.scope_walk.specs.Scopes.{Asked, scope_calls, walk_from, done}
 use Rattle.linker.specs.Link.{linked, link_bundle}
 use Rattle.linker.specs.Call.{records_of, link_answer, link_report, link_image, LinkTree}

@@ -1,6 +1,7 @@
 -- DEFINITIONS: what contracts and theorems speak of
 pub mod Link
 pub mod Call
+pub mod Told
 -- THEOREMS to cite
 pub mod Theorems
 pub mod Demand
@@ -9,5 +10,4 @@ pub mod Cases
 -- LAWS for code and proofs
 pub mod Refusals
 pub mod InForm
-pub mod Ends
 pub mod Join

@@ -9,15 +9,18 @@ mod packed;
 mod path;
 mod unit;
 
-pub use bytes::{after, has_prefix, same_bytes};
+pub use bytes::after;
 pub use identifier::is_identifier;
 pub use keyword::{is_crate, is_keyword, is_main};
-pub use packed::{name_of, same_name};
-pub use path::{is_child, is_child_file, is_directly_in, is_path, parent_len, starts_with};
+pub use packed::name_of;
+pub use path::{
+    is_child, is_child_file, is_directly_in, is_path, is_root, parent_len, starts_with,
+};
 pub use unit::{UnitName, unit_name};
 
 // A name as a value: at most 32 bytes in four words, big-endian, zero past the end. Fields, not an array: the tree's arrays have one
-// word of a name each (document 01, "Form by location"), and so the C interface tells a name.
+// word of a name each (document 01, "Form by location"), and so the C interface tells a name. `==` is derived: specs/Packed.antt says that
+// it is `same_name`.
 #[derive(Clone, Copy, Debug, PartialEq, Eq)]
 pub struct Name {
     pub w0: u64,

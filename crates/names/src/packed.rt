@@ -1,10 +1,10 @@
 // Names as values.
 ghost use Rattle.std.specs.Prelude.{◌≡◌, ◌≤◌};
-ghost use Rattle.names.specs.Packed.{word, packed, same_name};
+ghost use Rattle.names.specs.Packed.{word, packed};
 
 use crate::Name;
 
-// Eight bytes from k on, zero past the end.
+// Eight bytes from k on, zero past the end. Not `from_be_bytes`: it takes eight bytes, and of the last there may be fewer.
 #[tactic(auto, unfolding(crate::specs::Packed::word, crate::specs::Packed::limit), using(crate::specs::Packed::limit_7))]
 fn word_at(s: &[u8], k: usize) -> u64
     requires { k ≤ 24 }
@@ -29,12 +29,4 @@ pub fn name_of(s: &[u8]) -> Name
         w2: word_at(s, 16),
         w3: word_at(s, 24),
     }
-}
-
-// Whether two names are equal. Ruled out: `true` of names that differ in their last word alone; `false` of one name twice.
-#[tactic(auto, unfolding(crate::specs::Packed::same_name))]
-pub fn same_name(a: Name, b: Name) -> bool
-    ensures { result ≡ same_name a b }
-{
-    a == b
 }

@@ -6,20 +6,29 @@ ghost use Rattle.names.specs.Path.{split as path_split};
 ghost use Rattle.names.specs.Prefix.{begins, child, child_file, directly_in, parent, starts_with, stem_of};
 ghost use Rattle.names.specs.Pieces.{first_slash};
 
-use crate::bytes::{after, same_bytes};
+use crate::bytes::after;
 use crate::identifier::NAME;
 
 const SLASH: u8 = b'/';
+
+const ROOT: &[u8] = b"/";
+
+// Of no file and no folder.
+const DOT: &[u8] = b".";
+
+const DOTS: &[u8] = b"..";
 
 // The longest path and the most components, as specs/Path.antt has them.
 const PATH: usize = 255;
 
 const COMPONENTS: usize = 16;
 
-fn is_root(s: &[u8]) -> bool
+// Whether the bytes are `/`. Ruled out: `true` of `/r`.
+#[tactic(auto, using(crate::specs::Bytes::equals))]
+pub fn is_root(s: &[u8]) -> bool
     ensures { result ≡ same s.now root }
 {
-    same_bytes(s, b"/")
+    s == ROOT
 }
 
 // Whether a byte may stand in a component.
@@ -36,15 +45,11 @@ fn all_printable(c: &[u8]) -> bool
     c.iter().all(|b| is_printable(*b))
 }
 
-#[tactic(auto, unfolding(crate::specs::Path::is_component, crate::specs::Bytes::ascii))]
+#[tactic(auto, unfolding(crate::specs::Path::is_component, crate::specs::Bytes::ascii), using(crate::specs::Bytes::equals))]
 fn is_component(c: &[u8]) -> bool
     ensures { result ≡ is_component c.now }
 {
-    !c.is_empty()
-        && c.len() <= NAME
-        && all_printable(c)
-        && !same_bytes(c, b".")
-        && !same_bytes(c, b"..")
+    !c.is_empty() && c.len() <= NAME && all_printable(c) && c != DOT && c != DOTS
 }
 
 // Where the first slash is, or the length where there is none.
@@ -143,14 +148,14 @@ fn stem(d: &[u8]) -> &[u8]
 
 // Whether p is the path of the name below the folder d, with the ending after it: from its end on, since paths of one folder begin
 // alike.
-#[tactic(auto, using(crate::specs::PathSteps::from_the_end))]
+#[tactic(auto, using(crate::specs::PathSteps::from_the_end, crate::specs::Bytes::equals))]
 fn is_child_with(p: &[u8], d: &[u8], name: &[u8], ending: &[u8]) -> bool
     ensures { result ≡ same p.now (child d.now (name.now ++ ending.now)) }
 {
     p.strip_suffix(ending)
         .and_then(|p| p.strip_suffix(name))
         .and_then(|p| p.strip_suffix(b"/"))
-        .is_some_and(|p| same_bytes(p, stem(d)))
+        .is_some_and(|p| p == stem(d))
 }
 
 // Whether p is the path of the name below the folder d. Ruled out: `true` of `//a` for `a` below `/`; `false` of `/r/a` for

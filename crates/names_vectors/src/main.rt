@@ -3,7 +3,7 @@
 // stdout.
 #![tactic(auto)]
 
-use lines::{Hex, unhex};
+use lines::{Hex, unhexed};
 use std::alloc::Global;
 use std::io;
 use std::io::Write;
@@ -34,7 +34,7 @@ fn holds(word: &str, a: &[u8], b: &[u8], c: &[u8]) -> Option<bool> {
         "in" => names::is_directly_in(a, b),
         "child" => names::is_child(a, b, c),
         "simf" => names::is_child_file(a, b, c),
-        "same" => names::same_name(names::name_of(a), names::name_of(b)),
+        "same" => names::name_of(a) == names::name_of(b),
         _ => return None,
     })
 }
@@ -47,7 +47,7 @@ fn answer<W: Write>(alloc: Global, out: &mut W, line: &str) -> io::Result<()> {
         return tell_unit(out, operands.parse().unwrap_or(0));
     }
     let mut operands = operands.split(' ');
-    let mut next = || unhex(alloc, operands.next().unwrap_or(""));
+    let mut next = || unhexed(alloc, operands.next().unwrap_or(""));
     let a = next()?;
     if word == "parent" {
         return tell_parent(out, &a);

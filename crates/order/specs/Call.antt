@@ -9,9 +9,8 @@ use Rattle.order.specs.Outcome.{faulty, closed, ended, result, result_or, Result
 use Rattle.order.specs.Outcome as steps
 use Rattle.order.specs.Run.{Outcome, ordered, units_of}
 use Rattle.order.specs.Report.{Record, fault, ring, records_of, report_bytes, report_length, lent_report, reporting}
-use Rattle.order.specs.declared.Answer.{Answer}
-use Rattle.order.specs.declared.Reported.{Reported}
-use Rattle.order.specs.declared.Reported.TheVariants as reported
+use Rattle.order.specs.Results.{Reported, Answer}
+use Rattle.order.specs.Results as reported
 
 -- numbers at the start of cleared places, one for each unit that there may be
 abbrev pub padded : List ℕ → List ℕ

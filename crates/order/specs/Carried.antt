@@ -17,9 +17,8 @@ use Rattle.order.specs.Run.{ordered, units_of}
 use Rattle.order.specs.Units.{some-unit}
 use Rattle.order.specs.Report.{fault, ring, records_of, lent_report, reporting}
 use Rattle.order.specs.Call.{refusing, reported_to, answering, answer_by, unit_files, answer_from, report_from, held_from, KeptFrom, order_answer, order_report}
-use Rattle.order.specs.declared.Answer.{Answer}
-use Rattle.order.specs.declared.Reported.{Reported}
-use Rattle.order.specs.declared.Reported.TheVariants as reported
+use Rattle.order.specs.Results.{Reported, Answer}
+use Rattle.order.specs.Results as reported
 
 -- a bundle with a file has a unit
 pub some-file-unit : (b : Bundle) → 0 < length b.files → 0 < length (units_of b)

@@ -25,8 +25,8 @@ use Rattle.graph.specs.Linearize.{linearize, visit, memb, from}
 use Rattle.graph.specs.Linearize as graph
 use Rattle.order.specs.Run.{Outcome, faulty, closed, ended, result, linked, ordered, files_of}
 use Rattle.order.specs.Report.{Record, fault, ring, records_of, record_bytes, report_bytes, record_length, report_length, lent_report, reporting}
-use Rattle.order.specs.declared.Reported.{Reported}
-use Rattle.order.specs.declared.Reported.TheVariants as reported
+use Rattle.order.specs.Results.{Reported}
+use Rattle.order.specs.Results as reported
 
 -- what is told of bytes: the outcome, the files of its ids, and the bytes of the report
 pub data OrderCase : Type 0 where

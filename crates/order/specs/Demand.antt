@@ -20,9 +20,8 @@ use Rattle.order.specs.Theorems.{faults_of, LinkedIds, RingMet, FirstHalf, first
 use Rattle.order.specs.Report.{Record, fault, ring, small_buffer, records_of, report_length, lent_report, reporting, fits, exceeds, nothing_lent}
 use Rattle.order.specs.Report as report
 use Rattle.order.specs.Call.{paths_of_ids, Wrote, padded, refusing, reported_to, linking, answering, unit_files, answer_to, report_to, order_answer, order_report}
-use Rattle.order.specs.declared.Answer.{Answer}
-use Rattle.order.specs.declared.Reported.{Reported}
-use Rattle.order.specs.declared.Reported.TheVariants as reported
+use Rattle.order.specs.Results.{Reported, Answer}
+use Rattle.order.specs.Results as reported
 
 pub data OrderTold (s out final : List ℕ) (a : Answer) : Type 0 where
   -- 1 to 13: number and place, and no byte is changed

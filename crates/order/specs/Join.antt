@@ -21,7 +21,7 @@ use Rattle.bundle.specs.Read.{verdict}
 use Rattle.bundle.specs.Theorems.{sound, accepted, told}
 use Rattle.bundle.specs.Results.{Ok, Refused}
 use Rattle.resolution.specs.Call.{position}
-use Rattle.driver.specs.declared.Graph.{Graph}
+use Rattle.driver.specs.declared.record.Graph.{Graph}
 use Rattle.discovery.specs.Discovery.{Fault, discover_dependencies, paths_of}
 use Rattle.discovery.specs.Weight.{reached-file}
 use Rattle.discovery.specs.Right.{discovered}
@@ -40,7 +40,7 @@ use Rattle.order.specs.Listed.{placed}
 use Rattle.order.specs.Report.{records_of, lent_report}
 use Rattle.order.specs.Call.{refusing, answering, unit_files, order_answer, order_report}
 use Rattle.order.specs.Steps.{given_of, Found, outcome_of, answer_of}
-use Rattle.order.specs.declared.Answer.{Answer}
+use Rattle.order.specs.Results.{Answer}
 
 -- THE WALK LOOKS AT UNITS ALONE: where the lists of the n units are the same, the answer is
 module _ (deps deps' : ℕ → List ℕ) (n : ℕ) (w : Within deps n) (same : (u : ℕ) → u < n → deps u ≡ deps' u) where
@@ -96,7 +96,7 @@ pub record Stands (b : Bundle) (g : Graph) : Type 0 where
   pub faults : faults_of g ≡ (discover_dependencies b).faults
   -- within the arrays
   pub small : g.units ≤ file_limit
-  pub few : g.faults ≤ use_limit
+  pub few : g.fault_count ≤ use_limit
   pub ids : g.count ≤ use_limit
   pub fit : (u : ℕ) → u < g.units → get_or g.start u 0 + get_or g.len u 0 ≤ g.count
 

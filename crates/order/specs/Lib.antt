@@ -2,8 +2,10 @@
 pub mod Outcome
 pub mod Run
 pub mod Files
+pub mod Results
 pub mod Report
 pub mod Call
+pub mod Told
 -- theorems to cite
 pub mod Theorems
 pub mod Demand

@@ -12,8 +12,8 @@ use Rattle.bundle.specs.declared.Width.TheVariants.{Word}
 use Rattle.bundle.specs.Encode.{two, joined}
 use Rattle.discovery.specs.Discovery.{Fault}
 use Rattle.order.specs.Outcome.{Outcome, faulty, closed, ended, result}
-use Rattle.order.specs.declared.Reported.{Reported}
-use Rattle.order.specs.declared.Reported.TheVariants as reported
+use Rattle.order.specs.Results.{Reported}
+use Rattle.order.specs.Results as reported
 
 -- the specification's numbers
 abbrev pub small_buffer : ℕ

@@ -1,17 +1,17 @@
 -- What the code makes of the record that discovery left. Assumes nothing.
 use Rattle.std.specs.Prelude.{ℕ, ◌+◌, ◌<◌, ◌≤◌, ◌≡◌, refl, List, [], ◌∷◌, ◌++◌, length, get_or, set, take, drop, Ok, Err}
 use Rattle.std.proofs.Common.{add-one, arith, sym, ap, ◌∙◌, length-take-le, take-suc}
-use Rattle.std.proofs.lemmas.List.{length-replicate}
+use Rattle.std.proofs.lemmas.List.{length-replicate, length-map}
 use Rattle.std.proofs.Math.Seq.{take-length}
 use Rattle.bundle.specs.Limits.{file_limit, use_limit}
-use Rattle.driver.specs.declared.Graph.{Graph}
+use Rattle.driver.specs.declared.record.Graph.{Graph}
 use Rattle.discovery.specs.Discovery.{Fault}
-use Rattle.driver.specs.Meaning.{faults_in, faults-counted, faults_of}
+use Rattle.driver.specs.Meaning.{fault_told, faults_of}
 use Rattle.graph.specs.declared.Graph as given
 use Rattle.graph.specs.declared.Unordered.TheVariants.{Ring}
 use Rattle.graph.specs.Linearize.{Out, order, ring, linearize}
 use Rattle.graph.specs.Given.{deps_of, refusal, linearize_given}
-use Rattle.graph.specs.GivenFacts.{sound-of}
+use Rattle.graph.specs.GivenFacts.{sound-of, within_of}
 use Rattle.graph.specs.Padded.{padded}
 use Rattle.graph.specs.Told.{told}
 use Rattle.graph.specs.ToldTheorems.{order-told, ring-told}
@@ -20,16 +20,15 @@ use Rattle.order.specs.Report.{records_of, lent_report, reporting, nothing_lent}
 use Rattle.order.specs.Writing.{fault_records, ring_records}
 use Rattle.encoder.specs.Started.{put_one}
 use Rattle.order.specs.Call.{cleared, reported_to, linking, answering}
-use Rattle.order.specs.declared.Reported.{Reported}
-use Rattle.order.specs.declared.Answer.{Answer}
+use Rattle.order.specs.Results.{Reported, Answer}
 
 -- its lists as a graph given directly
 abbrev pub given_of : Graph → given.Graph
 given_of g = record { start = g.start; len = g.len; ids = g.ids; units = g.units; count = g.count }
 
--- the faults are within their arrays, and the graph is not refused
+-- the faults are within their array, and the graph is not refused
 pub record Found (g : Graph) : Type 0 where
-  pub few : g.faults ≤ use_limit
+  pub few : g.fault_count ≤ use_limit
   pub sound : refusal (given_of g) ≡ 0
 
 abbrev pub outcome_of : Graph → Outcome
@@ -80,19 +79,22 @@ module _ (g : Graph) (f : Found g) where
   pub units-few : g.units ≤ file_limit
   units-few = (sound-of (given_of g) f.sound).small
 
+  pub some-units : 0 < g.units
+  some-units = (within_of (given_of g) f.sound).some
+
   module _ (out : List ℕ) (a : Answer) where
-    pub told-faults : (r : Reported) (final : List ℕ) → 0 < g.faults → g.faults ≤ length g.numbers → g.faults ≤ length g.places
-        → r ≡ reporting (fault_records g.numbers g.places g.faults) (length out) → a ≡ reported_to r
-        → final ≡ lent_report (fault_records g.numbers g.places g.faults) out
+    pub told-faults : (r : Reported) (final : List ℕ) → 0 < g.fault_count → g.fault_count ≤ length g.faults
+        → r ≡ reporting (fault_records (take g.fault_count g.faults)) (length out) → a ≡ reported_to r
+        → final ≡ lent_report (fault_records (take g.fault_count g.faults)) out
         → (a ≡ answer_of g (length out)) × (final ≡ lent_report (records_of (outcome_of g)) out)
-    told-faults r final some hn hp e k m =
-        let n = faults-counted g.faults g.numbers g.places hn hp in
+    told-faults r final some h e k m =
+        let n = length-map (take g.fault_count g.faults) fault_told in
+        let w = length-take-le g.fault_count g.faults h in
         let q = some-faulty (faults_of g) walk (omega arith) in
         (k ∙ (ap reported_to e ∙ ap (answering (take g.units g.files) (length out)) (sym q)), m ∙ ap (λ (x : Outcome). lent_report (records_of x) out) (sym q))
 
-    module _ (none : g.faults ≡ 0) where
+    module _ (none : g.fault_count ≡ 0) where
       ended_by : (x : Out) → walk ≡ x → outcome_of g ≡ step4 x
-      unfolding faults_in
       ended_by x e = rw (none, e)
 
       pub told-order : (o : List ℕ) → told (Ok o) ≡ linearize_given (given_of g) → a ≡ linking (take g.units g.files) (padded o)
@@ -102,8 +104,8 @@ module _ (g : Graph) (f : Found g) where
           (rw q k, rw q (sym (nothing_lent out)))
 
       pub told-ring : (ids : List ℕ) (r : Reported) (final : List ℕ) → told (Err (Ring ids)) ≡ linearize_given (given_of g)
-          → r ≡ reporting (ring_records ids (length ids)) (length out) → a ≡ reported_to r → final ≡ lent_report (ring_records ids (length ids)) out
+          → r ≡ reporting (ring_records ids) (length out) → a ≡ reported_to r → final ≡ lent_report (ring_records ids) out
           → (a ≡ answer_of g (length out)) × (final ≡ lent_report (records_of (outcome_of g)) out)
       told-ring ids r final w e k m =
           let q = ended_by (ring ids) (ring-told (given_of g) f.sound ids w) in
-          (rw q (k ∙ ap reported_to (rw take-length at e)), rw q (rw take-length at m))
+          (rw q (k ∙ ap reported_to e), rw q m)

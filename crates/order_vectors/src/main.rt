@@ -2,12 +2,10 @@
 // bytes, big-endian. For each the units with their lists and the linked order or the ring are written, or a line for each fault.
 #![tactic(auto)]
 
-ghost use Rattle.std.specs.Prelude.{◌≡◌};
-ghost use Rattle.bundle.specs.Read.{verdict};
-ghost use Rattle.bundle.specs.Results.{Ok};
-
 use bundle::limits::FILES;
+use card::{Card, Carded};
 use discovery::UNITS;
+use order::Ordered;
 use std::io;
 use std::io::Write;
 
@@ -28,14 +26,12 @@ fn path_of(bundle: &[u8], index: usize) -> &[u8] {
     }
 }
 
-// The units of a checked bundle, by id, with their lists.
-fn tell_units<W: Write>(out: &mut W, bundle: &[u8]) -> io::Result<()>
-    requires { verdict bundle.now ≡ Ok }
-{
-    let g = driver::discover_dependencies(bundle);
+// The units of a bundle, by id, with their lists.
+fn tell_units<W: Write>(out: &mut W, b: &Carded<'_>) -> io::Result<()> {
+    let g = driver::discover_dependencies(b);
     for u in 0..g.units.min(UNITS) {
         write!(out, "unit {u} ")?;
-        out.write_all(path_of(bundle, g.files[u]))?;
+        out.write_all(path_of(b.bytes, g.files[u]))?;
         let first = usize::from(g.start[u]);
         let list = g.ids.get(first..first + usize::from(g.len[u]));
         tell_ids(out, list.unwrap_or(&[]))?;
@@ -43,31 +39,30 @@ fn tell_units<W: Write>(out: &mut W, bundle: &[u8]) -> io::Result<()>
     Ok(())
 }
 
-// What the order of a checked bundle's units is.
-fn tell_order<W: Write>(out: &mut W, bundle: &[u8]) -> io::Result<()>
-    requires { verdict bundle.now ≡ Ok }
-{
+// What the order of a bundle's units is.
+fn tell_order<W: Write>(out: &mut W, b: &Carded<'_>) -> io::Result<()> {
     let mut report = [0u8; 1024];
-    let a = order::order(bundle, &mut report);
-    if a.number != 0 {
-        return lines::tell_refusal(out, a.number, a.place);
+    match order::order(b.bytes, &mut report) {
+        Err(refusal) => writeln!(out, "{refusal}"),
+        Ok(Ordered::Report(n)) => {
+            let told = report.get(..n).unwrap_or(&[]);
+            let Some(ids) = lines::ring(told) else {
+                return lines::tell_faults(out, told);
+            };
+            tell_units(out, b)?;
+            lines::tell_ring(out, ids)
+        }
+        Ok(Ordered::Units(linked)) => {
+            tell_units(out, b)?;
+            write!(out, "order")?;
+            tell_ids(out, linked.ids.get(..linked.units).unwrap_or(&[]))
+        }
     }
-    let told = report.get(..a.report).unwrap_or(&[]);
-    if let Some(ids) = lines::ring(told) {
-        tell_units(out, bundle)?;
-        return lines::tell_ring(out, ids);
-    }
-    if !told.is_empty() {
-        return lines::tell_faults(out, told);
-    }
-    tell_units(out, bundle)?;
-    write!(out, "order")?;
-    tell_ids(out, a.ids.get(..a.units).unwrap_or(&[]))
 }
 
 fn tell<W: Write>(out: &mut W, bundle: &[u8]) -> io::Result<()> {
-    match reader::check(bundle) {
-        Ok(_) => tell_order(out, bundle),
+    match reader::read(bundle, &mut Card::empty()) {
+        Ok(b) => tell_order(out, &b),
         Err(refusal) => writeln!(out, "{refusal}"),
     }
 }

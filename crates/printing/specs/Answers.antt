@@ -4,16 +4,22 @@ use Rattle.std.proofs.Common.{sym, subst}
 use Rattle.names.specs.Bytes.{ascii}
 use Rattle.names.specs.Decimal.{decimal}
 use Rattle.text.specs.Words.{Text, lines, no_line}
+use Rattle.text.specs.Writing.{shown, reach}
 use Rattle.bundle.specs.Decode.{decode}
 use Rattle.order.specs.Run.{units_of}
 use Rattle.assembly.specs.Given.{OneUnit}
-use Rattle.order.specs.declared.Answer.{Answer}
+use Rattle.order.specs.Report.{ring_met}
+use Rattle.order.specs.Results.{Answer}
 use Rattle.scope_tree.specs.Trees.{flat_of}
 use Rattle.scope_tree.specs.declared.Tree.{Tree}
 use Rattle.linker.specs.Call.{link_answer, link_report, LinkTree}
 use Rattle.printing.specs.Lines.{unit_line}
 use Rattle.tree_lines.specs.Entries.{has_lines}
 use Rattle.printing.specs.Reports.{report_lines}
+
+-- THE BUFFER o shows the lines, up to r
+abbrev pub Shows : List (List Text) → List ℕ → List ℕ → ℕ → Type 0
+Shows ls o o₁ r = (o₁ ≡ shown (lines ls) o) × (r ≡ reach (lines ls) o)
 
 -- an answer with an image: its units are listed, and the lines are theirs and the tree's
 pub record LinkedLines (s : List ℕ) (a : Answer) (u : Tree) (ls : List (List Text)) : Type 0 where
@@ -24,6 +30,8 @@ pub record LinkedLines (s : List ℕ) (a : Answer) (u : Tree) (ls : List (List T
 -- a report of n bytes, at the start of its buffer
 pub record ReportLines (rep₁ : List ℕ) (n : ℕ) (ls : List (List Text)) : Type 0 where
   pub fits : n ≤ length rep₁
+  -- one that begins as a ring's has a ring's four bytes at least
+  pub whole : get_or rep₁ 0 0 ≡ ring_met → 4 ≤ n
   pub is : report_lines (take n rep₁) ≡ ls
 
 -- THE LINES of an answer, of a report buffer and of a tree of which T holds: those of a linked program, of a report, or of a number

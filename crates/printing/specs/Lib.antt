@@ -15,4 +15,5 @@ pub mod Reports
 pub mod Reported
 pub mod Units
 pub mod Answers
+pub mod Told
 pub mod Lengths

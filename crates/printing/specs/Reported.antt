@@ -1,5 +1,5 @@
 -- The bytes of a report have the lines of its faults, or of its ring. Assumes nothing.
-use Rattle.std.specs.Prelude.{ℕ, suc, ◌+◌, ◌*◌, ◌/◌, ◌≤◌, ◌<◌, ◌≡◌, refl, length}
+use Rattle.std.specs.Prelude.{ℕ, suc, ◌+◌, ◌*◌, ◌/◌, ◌≤◌, ◌<◌, ◌≡◌, refl, length, get_or}
 use Rattle.std.proofs.Common.{mod-eq_of_lt, div-lt_iff_lt-mul, arith, ap, ◌∙◌, ne_eqb, le-leb}
 use Rattle.std.proofs.Math.Bool.{and-false}
 use mathlib.Core.List.{List, [], ◌∷◌, map, append-nil, Memᴰ}
@@ -46,6 +46,11 @@ by_first (f ∷ l) h e = rw (ne_eqb f.number ring_met (h f (Memᴰ.head refl)).n
 
 pub faults_reported : (l : List Fault) → ((f : Fault) → Memᴰ f l → Tellable f) → report_lines (report_bytes (map fault l)) ≡ map fault_line l
 faults_reported l h = by_first l h (faults_lines l h)
+
+pub first-no_ring : (l : List Fault) → 0 < length l → ((f : Fault) → Memᴰ f l → Tellable f) → get_or (report_bytes (map fault l)) 0 0 ≡ ring_met → ⊥
+unfolding report_bytes joined record_bytes
+first-no_ring [] some h e = elim some [ ]
+first-no_ring (f ∷ l) some h e = (h f (Memᴰ.head refl)).number e
 
 -- A RING
 pub ring-length : (r : List ℕ) → report_length (ring r ∷ []) ≡ 4 + length r

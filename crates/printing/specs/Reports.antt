@@ -1,6 +1,6 @@
 -- THE LINES OF A REPORT, by its bytes. Assumes nothing.
-use Rattle.std.specs.Prelude.{ℕ, ◌+◌, ◌/◌, ◌<◌, ◌≡◌, refl, cond, ◌&&◌, eqb, leb, List, [], ◌∷◌, ◌++◌, map, length, get_or, take, drop}
-use Rattle.std.proofs.Common.{arith, add-one, sym, ap, ◌∙◌, append_assoc, append-nil, take_all, take-suc}
+use Rattle.std.specs.Prelude.{ℕ, ◌+◌, ◌/◌, ◌<◌, ◌≤◌, ◌≡◌, refl, cond, ◌&&◌, eqb, leb, List, [], ◌∷◌, ◌++◌, map, length, get_or, take, drop}
+use Rattle.std.proofs.Common.{add-one, sym, ap, ◌∙◌, append_assoc, append-nil, take_all, take-suc}
 use Rattle.std.specs.Int.{from_be_bytes, w16}
 use Rattle.std.specs.Simd.{first_chunks}
 use Rattle.std.specs.List.{flat_map}
@@ -39,8 +39,20 @@ unfolding line
 ids_line w [] = refl
 ids_line w (u ∷ r) = ap (λ (t : Text). w ++ (32 ∷ t)) (ids_line (decimal u) r ∙ sym (append_assoc (decimal u) (ids_after r) (10 ∷ [])))
 
-pub ring_is : (r : List ℕ) → lines (ring_lines r) ≡ line (no_line ring_met 0) ++ (114 ∷ 105 ∷ 110 ∷ 103 ∷ (ids_after r ++ (10 ∷ [])))
+ring_is : (r : List ℕ) → lines (ring_lines r) ≡ line (no_line ring_met 0) ++ (114 ∷ 105 ∷ 110 ∷ 103 ∷ (ids_after r ++ (10 ∷ [])))
 unfolding lines ascii
 ring_is r = ap (λ (t : Text). line (no_line ring_met 0) ++ t) (append-nil (line (ascii "ring" ∷ map decimal r)) ∙ ids_line (ascii "ring") r)
 
-pub ruleset reports = (records_more, ids_more, ring_is, take_all)
+-- THE LINES, piece by piece
+pub record_told : (r : List ℕ) (n p : ℕ) → n ≡ get_or r 0 0 → p ≡ from_be_bytes w16 (get_or r 1 0 ∷ get_or r 2 0 ∷ []) → line (no_line n p) ≡ line (record_line r)
+record_told r n p e f = ap (λ m. line (no_line m p)) e ∙ ap (λ m. line (no_line (get_or r 0 0) m)) f
+
+abbrev ring_pieces : ℕ → List ℕ → Text
+ring_pieces n ids = ((line (no_line n 0) ++ (114 ∷ 105 ∷ 110 ∷ 103 ∷ [])) ++ ids_after ids) ++ (10 ∷ [])
+
+pub ring_told : (ids : List ℕ) (i n : ℕ) → n ≡ ring_met → length ids ≤ i → ring_pieces n (take i ids) ≡ lines (ring_lines ids)
+ring_told ids i n e h =
+    ap (λ m. ring_pieces m (take i ids)) e
+    ∙ (ap (ring_pieces ring_met) (take_all i ids h)
+    ∙ (append_assoc (line (no_line ring_met 0) ++ (114 ∷ 105 ∷ 110 ∷ 103 ∷ [])) (ids_after ids) (10 ∷ [])
+    ∙ (append_assoc (line (no_line ring_met 0)) (114 ∷ 105 ∷ 110 ∷ 103 ∷ []) (ids_after ids ++ (10 ∷ [])) ∙ sym (ring_is ids))))

@@ -4,15 +4,12 @@ use Rattle.std.proofs.Common.{arith, ap, subst, ◌∙◌, length-append, length
 use Rattle.std.proofs.lemmas.List.{length-replicate, take-append-le}
 use Rattle.bundle.specs.Read.{Bytes, Reading, read}
 use Rattle.text.specs.Words.{Text, lines}
-use Rattle.text.specs.Writing.{shown, reach, shown-all}
+use Rattle.text.specs.Writing.{shown-all}
+use Rattle.printing.specs.Answers.{Shows}
 use Rattle.printing.specs.Lines.{reading_lines, printed}
 use Rattle.printing.specs.ReadTheorems.{read_enough}
 use Rattle.printing.specs.LengthTheorems.{printed-fits}
 use Rattle.printing.specs.Sizes.{text_size, read_size}
-
--- the buffer o then shows the lines, up to r
-abbrev pub Shows : List (List Text) → List ℕ → List ℕ → ℕ → Type 0
-Shows ls o o₁ r = (o₁ ≡ shown (lines ls) o) × (r ≡ reach (lines ls) o)
 
 -- there are so many
 pub told-counts : (ls : List (List Text)) (o o₁ : List ℕ) (r : ℕ) → Shows ls o o₁ r → (r ≤ length o₁) × (r ≡ length (take r o₁))

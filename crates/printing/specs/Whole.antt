@@ -29,9 +29,9 @@ use Rattle.order.specs.Run.{ordered, units_of}
 use Rattle.order.specs.Run as order
 use Rattle.order.specs.Theorems.{first_half, ring-met_always}
 use Rattle.order.specs.Exact.{fault-numbers, place-small, ring_exact}
-use Rattle.order.specs.Report.{Record, fault, ring, report_bytes, report_length, reporting, lent_report}
+use Rattle.order.specs.Report.{Record, fault, ring, ring_met, report_bytes, report_length, reporting, lent_report}
 use Rattle.order.specs.Report as report
-use Rattle.order.specs.declared.Reported.{Reported}
+use Rattle.order.specs.Results.{Reported}
 use Rattle.order.specs.Call.{unit_files, padded, order_answer, order_report}
 use Rattle.order.specs.Call as call
 use Rattle.scope_tree.specs.Flat.{Flat, Entry}
@@ -46,9 +46,9 @@ use Rattle.assembly.specs.Given.{FilesGiven, OrderedFilesGiven, OneUnit}
 use Rattle.assembly.specs.GivenLaws.{unit-there}
 use Rattle.assembly.specs.Join.{units-linked}
 use Rattle.assembly.specs.Theorems.{assembly, program-only, ring-first, FaultsFrom, of_discovery, of_step5}
-use Rattle.order.specs.declared.Answer.{Answer}
-use Rattle.assembly.specs.declared.Imaged.{Imaged}
-use Rattle.assembly.specs.declared.Imaged.TheVariants as imaged
+use Rattle.order.specs.Results.{Answer}
+use Rattle.assembly.specs.Results.{Imaged}
+use Rattle.assembly.specs.Results as imaged
 use Rattle.scope_walk.specs.Steps.{Plain}
 use Rattle.scope_walk.specs.Fit.{unit-plain}
 use Rattle.linker.specs.Link.{Outcome, faulty, closed, ended, result, linked, link_after, link_bundle}
@@ -59,7 +59,7 @@ use Rattle.printing.specs.Lines.{unit_line, linked_lines, fault_line, ring_lines
 use Rattle.tree_lines.specs.Entries.{has_lines}
 use Rattle.printing.specs.Reports.{report_lines}
 use Rattle.text.specs.LineLaws.{lines-append}
-use Rattle.printing.specs.Reported.{Tellable, faults-length, faults_reported, ring-length, ring_reported}
+use Rattle.printing.specs.Reported.{Tellable, faults-length, faults_reported, first-no_ring, ring-length, ring_reported}
 use Rattle.printing.specs.Room.{report-fits}
 use Rattle.printing.specs.Answers.{LinkedLines, Lined, AnswerLines}
 use Rattle.printing.specs.Sizes.{report_size, image_size}
@@ -166,13 +166,14 @@ tellable b w l (of_step5 o e q) f m =
 
 -- A REPORT THAT FITS
 reported_lines : (s : List ℕ) (rs : List Record) (rep : List ℕ) (T : Tree → Type 0) (ls : List (List Text)) → report_length rs ≤ length rep → 0 < report_length rs
-    → report_lines (report_bytes rs) ≡ ls → Lined s (reported_to (reporting rs (length rep))) (lent_report rs rep) T ls
-reported_lines s rs rep T ls h some x =
+    → (get_or (report_bytes rs) 0 0 ≡ ring_met → 4 ≤ report_length rs) → report_lines (report_bytes rs) ≡ ls → Lined s (reported_to (reporting rs (length rep))) (lent_report rs rep) T ls
+reported_lines s rs rep T ls h some whole x =
     let f = report.fits rs rep h in
+    let first : get_or (report_bytes rs) 0 0 ≡ get_or (lent_report rs rep) 0 0 = ap (λ (l : List ℕ). get_or l 0 0) (sym f.written) ∙ get_or-take (report_length rs) (lent_report rs rep) 0 0 some in
     subst (λ (r : Reported). Lined s (reported_to r) (lent_report rs rep) T ls) (sym f.answered)
     (record {
       linked = λ k. absurd (k refl);
-      report = λ e k. record { fits = rw (report.same_length rs rep) h; is = ap report_lines f.written ∙ x };
+      report = λ e k. record { fits = rw (report.same_length rs rep) h; whole = λ q. whole (first ∙ q); is = ap report_lines f.written ∙ x };
       number = λ e k. absurd (omega arith);
     })
 
@@ -197,7 +198,7 @@ module _ (s : List ℕ) (B : Bytes s) (rep img : List ℕ) (rep-size : length re
       let few = x.1 in
       let n = ring-length r in
       let fit : report_length (ring r ∷ []) ≤ length rep = omega arith in
-      reported_lines s (ring r ∷ []) rep (λ u. u ≡ t) (ring_lines r) fit (omega arith) (ring_reported r x.0)
+      reported_lines s (ring r ∷ []) rep (λ u. u ≡ t) (ring_lines r) fit (omega arith) (λ q. omega arith) (ring_reported r x.0)
 
   -- 20 to 25, 27, 28
   faults-due : (l : List Fault) → link_bundle (decode s) ≡ faulty l → Due (faulty l)
@@ -207,7 +208,7 @@ module _ (s : List ℕ) (B : Bytes s) (rep img : List ℕ) (rep-size : length re
       let n = faults-length l in
       let k = report-fits s B (decode s) (accepted s v) l e in
       let fit : report_length (map fault l) ≤ length rep = omega arith in
-      reported_lines s (map fault l) rep (λ u. u ≡ t) (map fault_line l) fit (omega (arith, some l met.some)) (faults_reported l (tellable (decode s) well l met.from))
+      reported_lines s (map fault l) rep (λ u. u ≡ t) (map fault_line l) fit (omega (arith, some l met.some)) (λ q. absurd (first-no_ring l (some l met.some) (tellable (decode s) well l met.from) q)) (faults_reported l (tellable (decode s) well l met.from))
     where
       some : (l : List Fault) → (l ≡ [] → ⊥) → 0 < length l
       some [] h = absurd (h refl)

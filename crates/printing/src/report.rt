@@ -1,18 +1,16 @@
 // The lines of a report.
-ghost use Rattle.std.specs.Prelude.{OnOk};
-ghost use Rattle.std.specs.Io.KnownBytes.{Appends};
+ghost use Rattle.std.specs.Prelude.{◌∷◌};
+ghost use Rattle.names.specs.Decimal.{decimal};
 ghost use Rattle.text.specs.Words.{lines};
 ghost use Rattle.printing.specs.Lines.{ring_lines};
 ghost use Rattle.printing.specs.Reports.{fault_lines, report_lines};
 
 use refusal::Cause;
-use std::io;
-use std::io::Write;
+use text::Sink;
 
 // A line for each of the faults.
-#[tactic(auto, using(text::specs::Spelling::written, crate::specs::Reports::reports), unfolding(text::specs::Words::lines, crate::specs::Reports::fault_lines))]
-fn put_faults<W: Write>(out: &mut W, report: &[u8]) -> io::Result<()>
-    ensures { OnOk result (Appends (W.contents out.old) (W.contents out.new) (lines (fault_lines report.now))) }
+fn put_faults<S: Sink>(out: &mut S, report: &[u8])
+    ensures { S.tells out.old (lines (fault_lines report.now)) out.new }
 {
     let (records, _) = report.as_chunks::<3>();
     for [number, high, low] in records {
@@ -20,28 +18,34 @@ fn put_faults<W: Write>(out: &mut W, report: &[u8]) -> io::Result<()>
             out,
             u64::from(*number),
             u64::from(u16::from_be_bytes([*high, *low])),
-        )?;
+        );
     }
-    Ok(())
+}
+
+// A blank and an id.
+fn put_id<S: Sink>(out: &mut S, id: u8)
+    ensures { S.tells out.old (32 ∷ decimal id) out.new }
+{
+    out.put(b" ");
+    text::put_decimal(out, u64::from(id));
 }
 
 // The line `ring` and the ids, after `no 26 0`.
-#[tactic(auto, using(text::specs::Spelling::written, crate::specs::Reports::reports), unfolding(text::specs::Words::lines, names::specs::Bytes::ascii))]
-fn put_ring<W: Write>(out: &mut W, ids: &[u8]) -> io::Result<()>
-    ensures { OnOk result (Appends (W.contents out.old) (W.contents out.new) (lines (ring_lines ids.now))) }
+fn put_ring<S: Sink>(out: &mut S, ids: &[u8])
+    ensures { S.tells out.old (lines (ring_lines ids.now)) out.new }
 {
-    text::put_no(out, u64::from(u8::from(Cause::Ring)), 0)?;
-    out.write_all(b"ring")?;
+    text::put_no(out, u64::from(u8::from(Cause::Ring)), 0);
+    out.put(b"ring");
     for id in ids {
-        write!(out, " {id}")?;
+        put_id(out, *id);
     }
-    out.write_all(b"\n")
+    out.put(b"\n");
 }
 
 // A line for each record.
 #[tactic(auto, unfolding(crate::specs::Reports::report_lines))]
-pub fn put_report<W: Write>(out: &mut W, report: &[u8]) -> io::Result<()>
-    ensures { OnOk result (Appends (W.contents out.old) (W.contents out.new) (lines (report_lines report.now))) }
+pub fn put_report<S: Sink>(out: &mut S, report: &[u8])
+    ensures { S.tells out.old (lines (report_lines report.now)) out.new }
 {
     match report {
         [number, _, _, _, ids @ ..] if *number == u8::from(Cause::Ring) => put_ring(out, ids),

@@ -1,6 +1,5 @@
 // The line `ok` and the units in linked order: id and path.
-ghost use Rattle.std.specs.Prelude.{OnOk, ◌∷◌, [], map, length, EachIndex, slice_index};
-ghost use Rattle.std.specs.Io.KnownBytes.{Appends};
+ghost use Rattle.std.specs.Prelude.{◌∷◌, [], map, length, EachIndex, slice_index};
 ghost use Rattle.names.specs.Bytes.{ascii};
 ghost use Rattle.names.specs.Decimal.{decimal};
 ghost use Rattle.text.specs.Words.{line, lines};
@@ -9,30 +8,31 @@ ghost use Rattle.order.specs.Run.{units_of};
 ghost use Rattle.assembly.specs.Given.{OneUnit};
 ghost use Rattle.printing.specs.Lines.{unit_line};
 
-use std::io;
-use std::io::Write;
+use text::Sink;
 
 // The line of a unit.
-#[tactic(auto, using(text::specs::Spelling::written, crate::specs::Units::units), unfolding(text::specs::Words::line, names::specs::Bytes::ascii))]
-fn put_unit<W: Write>(out: &mut W, s: &[u8], files: &[usize], unit: u16) -> io::Result<()>
+#[tactic(auto, using(crate::specs::Units::units))]
+fn put_unit<S: Sink>(out: &mut S, s: &[u8], files: &[usize], unit: u16)
     requires { OneUnit s.now files.now unit }
-    ensures { OnOk result (Appends (W.contents out.old) (W.contents out.new) (line (unit_line (units_of (decode s.now)) unit))) }
+    ensures { S.tells out.old (line (unit_line (units_of (decode s.now)) unit)) out.new }
 {
-    write!(out, "unit {unit} ")?;
+    out.put(b"unit ");
+    text::put_decimal(out, u64::from(unit));
+    out.put(b" ");
     let file = bundle::file_at(s, files[usize::from(unit)]);
-    out.write_all(bundle::file_path(s, file))?;
-    out.write_all(b"\n")
+    out.put(bundle::file_path(s, file));
+    out.put(b"\n");
 }
 
-#[tactic(auto, using(text::specs::Spelling::written, crate::specs::Units::units), unfolding(text::specs::Words::lines, text::specs::Words::line, names::specs::Bytes::ascii))]
-pub fn put_units<W: Write>(out: &mut W, s: &[u8], files: &[usize], units: &[u16]) -> io::Result<()>
+pub fn put_units<S: Sink>(out: &mut S, s: &[u8], files: &[usize], units: &[u16])
     requires { EachIndex units.now (λ i. OneUnit s.now files.now (slice_index units.now i)) }
-    ensures { OnOk result (Appends (W.contents out.old) (W.contents out.new)
-        (lines ((ascii "ok" ∷ decimal (length units.now) ∷ []) ∷ map (unit_line (units_of (decode s.now))) units.now))) }
+    ensures { S.tells out.old
+        (lines ((ascii "ok" ∷ decimal (length units.now) ∷ []) ∷ map (unit_line (units_of (decode s.now))) units.now)) out.new }
 {
-    writeln!(out, "ok {}", units.len())?;
+    out.put(b"ok ");
+    text::put_decimal(out, units.len() as u64);
+    out.put(b"\n");
     for unit in units {
-        put_unit(out, s, files, *unit)?;
+        put_unit(out, s, files, *unit);
     }
-    Ok(())
 }

@@ -1,8 +1,9 @@
 -- 7 and 8, index by index, and the parents. Assumes nothing.
-use Rattle.std.specs.Prelude.{ℕ, zero, suc, ◌+◌, ◌-◌, ◌%◌, ◌/◌, ◌≤◌, ◌<◌, Bool, true, false, ◌≡◌, refl, Option, Some, None, is_some, leb, length, get_or, set, drop}
+use Rattle.std.specs.Prelude.{ℕ, zero, suc, ◌+◌, ◌-◌, ◌≤◌, ◌<◌, Bool, true, false, ◌≡◌, refl, Option, Some, None, is_some, leb, length, get_or, set, drop}
 use native.Mathlib.Omega.{arith}
 use Rattle.std.proofs.Common.{add-one, sym, ap, ◌∙◌, length-append, length-set, length-take, drop_of_length-le, get_or-set_same, get_or-set_other, drop-cons, take-suc, get_or-take, le-leb}
 use Rattle.std.proofs.Math.Decide.{dec_lt}
+use Rattle.std.proofs.lemmas.List.{map-append}
 use mathlib.Core.List.{List, [], ◌∷◌, ◌++◌, map, Memᴰ}
 use Rattle.std.proofs.Math.ListN.{take, length-map, get_or-append}
 use Rattle.names.specs.Bytes.{same, same-eq, equal-same, different, member, member-found, member-none, and_right, false_true, not_true}
@@ -14,12 +15,16 @@ use Rattle.bundle.specs.Scan.{text}
 use Rattle.bundle.specs.Decode.{each, after, after_file, file_at, folder_count, folder_first, file_count, file_first, decode}
 use Rattle.bundle.specs.Conflicts.{placed_at, any, listed, folders, files}
 use Rattle.bundle.specs.Members.{mem_get_d, any_true, mem_any, mem_member, get_d_mem}
+use Rattle.bundle.specs.Answers.{refused-ok}
 use Rattle.bundle.specs.Results.{Checked}
 use Rattle.bundle.specs.Results.{Ok, Refused}
-use Rattle.card.specs.Layout.{node_limit, bucket_limit, card_size, starts_at, hashes_at, nexts_at, heads_at, key_at, parent_at, start_at, hash_at, next_at, key_of}
+use Rattle.card.specs.declared.parts.Node.{Node}
+use Rattle.card.specs.declared.parts.Link.{Link}
+use Rattle.card.specs.declared.parts.Card.{Card}
+use Rattle.card.specs.Layout.{node_limit, bucket_of, no_node, no_link, node_at, parent_at, start_at, hash_at, next_at, root_at}
 use Rattle.card.specs.Index.{dec_eq, last_in, last_agree, last-below, last_key, last-above, Looked}
-use Rattle.card.specs.Card.{nodes_in, hash_of, bucket_at, IndexOf, FolderAt, InFolder, is_at, is_up_to, Chain}
-use Rattle.reader.specs.Build.{nodes_at, itself, Holds}
+use Rattle.card.specs.Card.{nodes_in, hash_of, bucket_at, Sized, IndexOf, FolderAt, InFolder, is_at, is_up_to, Chain}
+use Rattle.reader.specs.Build.{nodes_at, itself, Bare, Holds}
 
 -- THE POSITIONS of the listed paths
 abbrev pub spots : List ℕ → List ℕ
@@ -29,10 +34,6 @@ pub each_map : {A : Type 0} (next : ℕ → ℕ) (get : ℕ → A) (n at : ℕ) 
 unfolding each
 each_map next get zero at = refl
 each_map {A} next get (suc n) at = ap (λ (l : List A). get at ∷ l) (each_map next get n (next at))
-
-pub map-append : {A : Type 0} (f : ℕ → A) (l k : List ℕ) → map f (l ++ k) ≡ map f l ++ map f k
-map-append f [] k = refl
-map-append {A} f (a ∷ l) k = ap (λ (x : List A). f a ∷ x) (map-append f l k)
 
 file-paths : (s : List ℕ) (n at : ℕ) → each (after_file s) (text s) n at ≡ map (λ (f : File). f.path) (each (after_file s) (file_at s) n at)
 unfolding each file_at
@@ -52,26 +53,60 @@ placed-spots s =
     ∙ rw (each_map (after s) (placed_at s) (folder_count s) (folder_first s), each_map (after_file s) (placed_at s) (file_count s) (file_first s))
 
 -- THE SAME INDEX in a card that differs elsewhere
-pub index_agree : {s : List ℕ} {ps : List Text} {c : List ℕ} → IndexOf s ps c → (d : List ℕ) → length d ≡ card_size → ((j : ℕ) → starts_at ≤ j → j ≤ key_at → get_or d j 0 ≡ get_or c j 0) → IndexOf s ps d
-index_agree {s} {ps} {c} I d z e = record {
-  size = z;
+pub record SameIndex (c d : Card) : Type 0 where
+  pub size : Sized c → Sized d
+  pub starts : (i : ℕ) → start_at d i ≡ start_at c i
+  pub links : d.links ≡ c.links
+  pub heads : d.heads ≡ c.heads
+  pub key : d.key ≡ c.key
+  pub folders : d.folders ≡ c.folders
+  pub files : d.files ≡ c.files
+
+pub same-refl : (c : Card) → SameIndex c c
+same-refl c = record { size = λ z. z; starts = λ i. refl; links = refl; heads = refl; key = refl; folders = refl; files = refl }
+
+pub same-on : (c d e : Card) → SameIndex c d → SameIndex d e → SameIndex c e
+same-on c d e p q = record {
+  size = λ z. q.size (p.size z);
+  starts = λ i. q.starts i ∙ p.starts i;
+  links = q.links ∙ p.links;
+  heads = q.heads ∙ p.heads;
+  key = q.key ∙ p.key;
+  folders = q.folders ∙ p.folders;
+  files = q.files ∙ p.files;
+}
+
+-- a field that a node keeps where it is written anew
+pub field_kept : {A : Type 0} (p : Node → A) (ns : List Node) (k : ℕ) (x : Node) → k < length ns → p x ≡ p (get_or ns k no_node) → (i : ℕ) → p (get_or (set ns k x) i no_node) ≡ p (get_or ns i no_node)
+field_kept {A} p ns k x l e i = at (dec_eq i k)
+  where
+    at : Dec (i ≡ k) → p (get_or (set ns k x) i no_node) ≡ p (get_or ns i no_node)
+    at (yes z) = rw (z, get_or-set_same ns k x no_node l) e
+    at (no z) = rw (get_or-set_other ns k i x no_node z)
+
+pub index_agree : {s : List ℕ} {ps : List Text} {c : Card} → IndexOf s ps c → (d : Card) → SameIndex c d → IndexOf s ps d
+index_agree {s} {ps} {c} I d S = record {
+  size = S.size I.size;
   some = I.some;
   count = I.count;
-  multiplier = rw (e key_at (omega arith) (omega arith)) I.multiplier;
-  texts = λ i o n. rw (e (starts_at + i) (omega arith) (omega (arith, I.count))) (I.texts i o n);
-  low = λ i o. rw (e (starts_at + i) (omega arith) (omega (arith, I.count))) (I.low i o);
-  hash = λ i o. rw (e (hashes_at + i) (omega arith) (omega (arith, I.count)), e key_at (omega arith) (omega arith)) (I.hash i o);
+  multiplier = rw S.key I.multiplier;
+  texts = λ i o n. rw (S.starts i) (I.texts i o n);
+  low = λ i o. rw (S.starts i) (I.low i o);
+  hash = λ i o. rw (hashes i, S.key) (I.hash i o);
   chains = record {
-    heads = λ b o. e (heads_at + b) (omega arith) (omega arith) ∙ I.chains.heads b o ∙ last_agree (bucket_at c) (bucket_at d) b (length ps) keys;
-    links = λ i o. e (nexts_at + i) (omega arith) (omega (arith, I.count)) ∙ I.chains.links i o ∙ last_agree (bucket_at c) (bucket_at d) (bucket_at c i) i (λ j k. keys j (omega arith)) ∙ ap (λ (x : ℕ). last_in (bucket_at d) x i) (keys i o);
+    heads = λ b o. ap (λ (l : List ℕ). get_or l b 0) S.heads ∙ I.chains.heads b o ∙ last_agree (bucket_at c) (bucket_at d) b (length ps) keys;
+    links = λ i o. ap (λ (l : List Link). (get_or l i no_link).next) S.links ∙ I.chains.links i o ∙ last_agree (bucket_at c) (bucket_at d) (bucket_at c i) i (λ j k. keys j (omega arith)) ∙ ap (λ (x : ℕ). last_in (bucket_at d) x i) (keys i o);
   };
 }
   where
+    hashes : (i : ℕ) → hash_at d i ≡ hash_at c i
+    hashes i = ap (λ (l : List Link). (get_or l i no_link).hash) S.links
+
     keys : (i : ℕ) → i < length ps → bucket_at c i ≡ bucket_at d i
-    keys i o = ap (λ (x : ℕ). x / 16777216 % bucket_limit) (sym (e (hashes_at + i) (omega arith) (omega (arith, I.count))))
+    keys i o = ap bucket_of (sym (hashes i))
 
 -- 7: WHETHER A PATH IS LISTED BEFORE
-module _ {s : List ℕ} {ps : List Text} {c : List ℕ} (I : IndexOf s ps c) (i : ℕ) (o : i < length ps) (n : i ≡ 0 → ⊥) (p : Text) (pq : p ≡ get_or ps i []) (rooted : get_or ps 0 [] ≡ root) where
+module _ {s : List ℕ} {ps : List Text} {c : Card} (I : IndexOf s ps c) (i : ℕ) (o : i < length ps) (n : i ≡ 0 → ⊥) (p : Text) (pq : p ≡ get_or ps i []) (rooted : get_or ps 0 [] ≡ root) where
   before-long : length (take i ps) ≡ i
   before-long = omega (arith, length-take i ps)
 
@@ -91,7 +126,7 @@ module _ {s : List ℕ} {ps : List Text} {c : List ℕ} (I : IndexOf s ps c) (i 
 
     pub from_next : Chain ps c h p from
     from_next = record {
-      hashes = hq ∙ I.hash i o ∙ ap (hash_of (key_of c)) (sym pq);
+      hashes = hq ∙ I.hash i o ∙ ap (hash_of c.key) (sym pq);
       within = omega (arith, from-below);
       keyed = λ z. rw hq (rw is_last (last_key (bucket_at c) (bucket_at c i) i (λ x. z (is_last ∙ x))));
     }
@@ -107,7 +142,7 @@ module _ {s : List ℕ} {ps : List Text} {c : List ℕ} (I : IndexOf s ps c) (i 
         not_same j l (yes y) d = rw (y, rooted) f
         not_same j l (no y) (yes k) =
             different p (get_or ps j []) (λ e. last-above (bucket_at c) (bucket_at c i) i j (rw is_last at k) l
-            (ap (λ (x : ℕ). x / 16777216 % bucket_limit) (I.hash j (omega arith) ∙ ap (hash_of (key_of c)) (sym e ∙ pq) ∙ sym (I.hash i o))))
+            (ap bucket_of (I.hash j (omega arith) ∙ ap (hash_of c.key) (sym e ∙ pq) ∙ sym (I.hash i o))))
         not_same j l (no y) (no k) =
             let m = L j y (omega arith) in
             different p (get_or ps j []) (λ e. false_true (sym m ∙ rw (le-leb j i (omega arith)) (equal-same _ _ (sym e))))
@@ -190,157 +225,168 @@ module _ (s sp : List ℕ) (F : List Text) where
   told-all i h = rw (drop_of_length-le sp {i = i - 1} (omega (arith, length-map sp (text s))))
 
 -- THE LOOP
--- a card that indexes the listed paths of a bundle in form, its parents 0
-pub record Indexed (s c : List ℕ) (folders n : ℕ) : Type 0 where
-  pub holds : Holds s (spots s) c n
+-- how many paths are listed, `/` among them, as a card counts them
+abbrev pub listed_in : Card → ℕ
+listed_in c = c.folders + c.files + 1
+
+-- a card that indexes the listed paths of a bundle in form, with no parents and no package roots
+pub record Indexed (s : List ℕ) (c : Card) : Type 0 where
+  pub holds : Holds s (spots s) c (listed_in c)
   pub paths : (i : ℕ) → i < length (nodes_in s) → is_path (get_or (nodes_in s) i []) ≡ true
-  pub folder_count_within : folders ≡ length (decode s).folders
-  pub zeros : (j : ℕ) → j < starts_at → get_or c j 0 ≡ 0
+  pub folders : c.folders ≡ length (decode s).folders
+  pub bare : (i : ℕ) → Bare (node_at c i)
 
 -- each path's parent
-pub record Parents (s c : List ℕ) (n : ℕ) : Type 0 where
+pub record Parents (s : List ℕ) (c : Card) (n : ℕ) : Type 0 where
   pub each_one : (j : ℕ) → j < n → (j ≡ 0 → ⊥) → FolderAt (decode s) (parent (get_or (nodes_in s) j [])) (parent_at c j)
   pub top : parent_at c 0 ≡ 0
-  pub small : (j : ℕ) → j < node_limit → parent_at c j < node_limit
+  pub small : (j : ℕ) → parent_at c j < node_limit
 
 abbrev pub all_told : List ℕ → Checked
 all_told s = listed (root ∷ []) (with_slash (decode s).folders) (map (placed_at s) (spots s))
 
 -- what 7 and 8 leave of the card c₀
-pub record Linked (s c₀ c : List ℕ) (r : Checked) : Type 0 where
-  pub size : length c ≡ card_size
-  pub kept : (j : ℕ) → starts_at ≤ j → get_or c j 0 ≡ get_or c₀ j 0
+pub record Linked (s : List ℕ) (c₀ c : Card) (r : Checked) : Type 0 where
+  pub kept : SameIndex c₀ c
+  pub roots : (j : ℕ) → root_at c j ≡ root_at c₀ j
   pub told : r ≡ all_told s
   pub parents : r ≡ Ok → Parents s c (length (nodes_in s))
 
 -- the indices below i are done
-pub record Linking (s c₀ c : List ℕ) (folders n i : ℕ) : Type 0 where
-  pub indexed : Indexed s c₀ folders n
-  pub size : length c ≡ card_size
-  pub kept : (j : ℕ) → starts_at ≤ j → get_or c j 0 ≡ get_or c₀ j 0
-  pub from : 1 ≤ i
-  pub to : i ≤ n
+pub record Linking (s : List ℕ) (c₀ c : Card) (i : ℕ) : Type 0 where
+  pub indexed : Indexed s c₀
+  pub kept : SameIndex c₀ c
+  pub roots : (j : ℕ) → root_at c j ≡ root_at c₀ j
+  pub to : (1 ≤ i) × (i ≤ listed_in c₀)
   pub parents : Parents s c i
   pub told : all_told s ≡ on_from s (spots s) (with_slash (decode s).folders) i
 
-pub linking-start : (s c : List ℕ) (folders n : ℕ) → Indexed s c folders n → Linking s c c folders n 1
-linking-start s c folders n R = record {
+pub linking-start : (s : List ℕ) (c : Card) → Indexed s c → Linking s c c 1
+linking-start s c R = record {
   indexed = R;
-  size = R.holds.index.size;
-  kept = λ j o. refl;
-  from = omega arith;
-  to = omega (arith, R.holds.full);
-  parents = record { each_one = λ j o z. absurd (z (omega arith)); top = R.zeros 0 (omega arith); small = λ j o. let y : get_or c (0 + j) 0 ≡ 0 = R.zeros (0 + j) (omega arith) in rw y (omega arith) };
+  kept = same-refl c;
+  roots = λ j. refl;
+  to = (omega arith, omega arith);
+  parents = record { each_one = λ j o z. absurd (z (omega arith)); top = (R.bare 0).parent; small = λ j. rw (R.bare j).parent (omega arith) };
   told = refl;
 }
 
-refused_not_ok : {k p : ℕ} → Refused k p ≡ Ok → ⊥
-refused_not_ok e = let z : ◌≡◌ {A = ℕ} 0 1 = cc in omega arith
-
-module _ (s c₀ c : List ℕ) (folders n i : ℕ) (w : Linking s c₀ c folders n i) where
-  whole : length (nodes_in s) ≡ n
+module _ (s : List ℕ) (c₀ c : Card) (i : ℕ) (w : Linking s c₀ c i) where
+  whole : length (nodes_in s) ≡ listed_in c₀
   whole = sym (ap length (nodes_at_lem s)) ∙ ap suc (length-map (spots s) (text s)) ∙ sym w.indexed.holds.full
 
-  pub link-end : n ≤ i → Linked s c₀ c Ok
+  pub link-end : listed_in c₀ ≤ i → Linked s c₀ c Ok
   link-end h =
       let z : i ≡ length (nodes_in s) = omega (arith, w.to, whole) in
       record {
-        size = w.size;
         kept = w.kept;
+        roots = w.roots;
         told = sym (w.told ∙ told-all s (spots s) (with_slash (decode s).folders) i (omega (arith, ap length (nodes_at_lem s))));
         parents = λ e. rw z at w.parents;
       }
 
   pub link-index : IndexOf s (nodes_in s) c
-  link-index = rw (nodes_at_lem s) at (index_agree w.indexed.holds.index c w.size (λ j o k. w.kept j o))
+  link-index = rw (nodes_at_lem s) at (index_agree w.indexed.holds.index c w.kept)
 
-  module _ (o : i < n) where
+  pub link-folders : c.folders ≡ length (decode s).folders
+  link-folders = w.kept.folders ∙ w.indexed.folders
+
+  module _ (o : i < listed_in c₀) where
     pub link-within : i < length (nodes_in s)
     link-within = omega (arith, whole)
 
     pub link-first : i ≡ 0 → ⊥
-    link-first z = omega (arith, w.from)
+    link-first z = omega (arith, w.to)
 
     pub link-room : i < node_limit
     link-room = omega (arith, whole, link-index.count)
 
-    module _ (a : ℕ) (aq : a ≡ start_at c i) (p : Text) (pq : p ≡ text s a) where
-      pub link-low : a < 67108864
-      link-low = rw aq (link-index.low i link-within)
+    pub link-low : start_at c i < 67108864
+    link-low = link-index.low i link-within
 
+    module _ (p : Text) (pq : p ≡ text s (start_at c i)) where
       pub link-node : p ≡ get_or (nodes_in s) i []
-      link-node = pq ∙ ap (text s) aq ∙ link-index.texts i link-within link-first
+      link-node = pq ∙ link-index.texts i link-within link-first
 
       pub link-path : is_path p ≡ true
       link-path = rw link-node (w.indexed.paths i link-within)
 
-      link_spot : a ≡ get_or (spots s) (i - 1) 0
+      link_spot : start_at c i ≡ get_or (spots s) (i - 1) 0
       link_spot =
-          let z : suc (i - 1) ≡ i = omega (arith, w.from) in
-          aq ∙ w.kept (starts_at + i) (omega arith) ∙ rw z at (w.indexed.holds.starts (i - 1) (omega (arith, w.indexed.holds.full)))
+          let z : suc (i - 1) ≡ i = omega (arith, w.to) in
+          w.kept.starts i ∙ rw z at (w.indexed.holds.starts (i - 1) (omega (arith, w.indexed.holds.full)))
 
       in_list : i < length (nodes_at s (spots s))
       in_list = omega (arith, link-within, ap length (nodes_at_lem s))
 
-      module _ (u : Bool) (uq : u ≡ member p (take i (nodes_in s))) where
-        seen : {b : Bool} → u ≡ b → member (text s a) (take i (nodes_at s (spots s))) ≡ b
-        seen e = rw (nodes_at_lem s, ← pq) (sym uq ∙ e)
+      seen : {b : Bool} → member p (take i (nodes_in s)) ≡ b → member (text s (start_at c i)) (take i (nodes_at s (spots s))) ≡ b
+      seen e = rw (nodes_at_lem s, ← pq) e
 
-        pub link-twice : u ≡ true → Linked s c₀ c (Refused 7 a)
-        link-twice e = record {
-          size = w.size;
+      pub link-twice : true ≡ member p (take i (nodes_in s)) → Linked s c₀ c (Refused 7 (start_at c i))
+      link-twice e = record {
+        kept = w.kept;
+        roots = w.roots;
+        told = sym (w.told ∙ told-twice s (spots s) (with_slash (decode s).folders) i in_list link-first (start_at c i) link_spot (seen (sym e)));
+        parents = λ q. absurd (refused-ok q);
+      }
+
+      module _ (f : false ≡ member p (take i (nodes_in s))) where
+        not_root : p ≡ root → ⊥
+        not_root e =
+            false_true (f ∙ member-found p (take i (nodes_in s)) 0 (omega (arith, length-take i (nodes_in s), link-within, w.to))
+            (rw (get_or-take i (nodes_in s) 0 [] w.to.0) (equal-same p root e)))
+
+        pub link-orphan : InFolder (decode s) (parent p) None → Linked s c₀ c (Refused 8 (start_at c i))
+        link-orphan R = record {
           kept = w.kept;
-          told = sym (w.told ∙ told-twice s (spots s) (with_slash (decode s).folders) i in_list link-first a link_spot (seen e));
-          parents = λ q. absurd (refused_not_ok q);
+          roots = w.roots;
+          told =
+              sym (w.told ∙ told-orphan s (spots s) (with_slash (decode s).folders) i in_list link-first (start_at c i) link_spot (seen (sym f))
+              (rw (← pq) (no_folder s w.indexed.paths p link-path not_root R)));
+          parents = λ q. absurd (refused-ok q);
         }
 
-        module _ (f : u ≡ false) where
-          not_root : p ≡ root → ⊥
-          not_root e =
-              false_true (sym f ∙ uq ∙ member-found p (take i (nodes_in s)) 0 (omega (arith, length-take i (nodes_in s), link-within, w.from))
-              (rw (get_or-take i (nodes_in s) 0 [] w.from) (equal-same p root e)))
+        module _ (d : ℕ) (found : FolderAt (decode s) (parent p) d) where
+          abbrev x : Node
+          x = record (node_at c i) { parent = d }
 
-          pub link-orphan : InFolder (decode s) (parent p) None → Linked s c₀ c (Refused 8 a)
-          link-orphan R = record {
-            size = w.size;
-            kept = w.kept;
+          small : d < node_limit
+          small = omega (arith, found.folder, length-append (with_slash (decode s).folders) (map (λ (g : File). g.path) (decode s).files), link-index.count)
+
+          inside : i < length c.nodes
+          inside = omega (arith, link-room, link-index.size.nodes)
+
+          pub link-more : Linking s c₀ (record c { nodes = set c.nodes i (record (node_at c i) { parent = d }) }) (i + 1)
+          link-more = record {
+            indexed = w.indexed;
+            kept = same-on c₀ c _ w.kept (record {
+              size = λ z. record { nodes = rw length-set z.nodes; links = z.links; heads = z.heads; maps = z.maps };
+              starts = field_kept (λ n. n.start) c.nodes i x inside refl;
+              links = refl;
+              heads = refl;
+              key = refl;
+              folders = refl;
+              files = refl;
+            });
+            roots = λ j. field_kept (λ n. n.is_root) c.nodes i x inside refl j ∙ w.roots j;
+            to = (omega arith, omega arith);
+            parents = record {
+              each_one = λ j k z. one j k z (dec_eq j i);
+              top = ap (λ (n : Node). n.parent) (get_or-set_other c.nodes i 0 x no_node (λ z. omega (arith, w.to))) ∙ w.parents.top;
+              small = λ j. less j (dec_eq j i);
+            };
             told =
-                sym (w.told ∙ told-orphan s (spots s) (with_slash (decode s).folders) i in_list link-first a link_spot (seen f)
-                (rw (← pq) (no_folder s w.indexed.paths p link-path not_root R)));
-            parents = λ q. absurd (refused_not_ok q);
+                w.told ∙ told-on s (spots s) (with_slash (decode s).folders) i in_list link-first (start_at c i) link_spot (seen (sym f))
+                (rw (← pq) (has-folder s w.indexed.paths p link-path not_root d found));
           }
+            where
+              one : (j : ℕ) → j < i + 1 → (j ≡ 0 → ⊥) → Dec (j ≡ i) → FolderAt (decode s) (parent (get_or (nodes_in s) j [])) (get_or (set c.nodes i (record (node_at c i) { parent = d })) j no_node).parent
+              one j k z (yes y) = rw (y, get_or-set_same c.nodes i x no_node inside, ← link-node) found
+              one j k z (no y) = rw (get_or-set_other c.nodes i j x no_node y) (w.parents.each_one j (omega arith) z)
 
-          module _ (d : ℕ) (found : FolderAt (decode s) (parent p) d) where
-            pub link-small : d < node_limit
-            link-small = omega (arith, found.folder, length-append (with_slash (decode s).folders) (map (λ (g : File). g.path) (decode s).files), link-index.count)
-
-            pub link-more : Linking s c₀ (set c (0 + i) d) folders n (i + 1)
-            link-more = record {
-              indexed = w.indexed;
-              size = rw length-set w.size;
-              kept = λ j k. get_or-set_other c (0 + i) j d 0 (λ z. omega (arith, link-room)) ∙ w.kept j k;
-              from = omega arith;
-              to = omega arith;
-              parents = record {
-                each_one = λ j k z. one j k z (dec_eq j i);
-                top = get_or-set_other c (0 + i) 0 d 0 (λ z. omega (arith, w.from)) ∙ w.parents.top;
-                small = λ j k. less j k (dec_eq j i);
-              };
-              told =
-                  w.told ∙ told-on s (spots s) (with_slash (decode s).folders) i in_list link-first a link_spot (seen f)
-                  (rw (← pq) (has-folder s w.indexed.paths p link-path not_root d found));
-            }
-              where
-                inside : 0 + i < length c
-                inside = omega (arith, link-room, w.size)
-
-                one : (j : ℕ) → j < i + 1 → (j ≡ 0 → ⊥) → Dec (j ≡ i) → FolderAt (decode s) (parent (get_or (nodes_in s) j [])) (parent_at (set c (0 + i) d) j)
-                one j k z (yes y) = rw (y, get_or-set_same c (0 + i) d 0 inside, ← link-node) found
-                one j k z (no y) = rw (get_or-set_other c (0 + i) (0 + j) d 0 (λ x. y (omega arith))) (w.parents.each_one j (omega arith) z)
-
-                less : (j : ℕ) → j < node_limit → Dec (j ≡ i) → parent_at (set c (0 + i) d) j < node_limit
-                less j k (yes y) = rw (y, get_or-set_same c (0 + i) d 0 inside) link-small
-                less j k (no y) = rw (get_or-set_other c (0 + i) (0 + j) d 0 (λ x. y (omega arith))) (w.parents.small j k)
+              less : (j : ℕ) → Dec (j ≡ i) → (get_or (set c.nodes i (record (node_at c i) { parent = d })) j no_node).parent < node_limit
+              less j (yes y) = rw (y, get_or-set_same c.nodes i x no_node inside) small
+              less j (no y) = rw (get_or-set_other c.nodes i j x no_node y) (w.parents.small j)
 
 -- a path's parent is its first bytes
 pub at-parent : (s : List ℕ) (p : Text) → is_path p ≡ true → (k : ℕ) → k ≡ length (parent p) → (r : Option ℕ) → InFolder (decode s) (take k p) r → InFolder (decode s) (parent p) r

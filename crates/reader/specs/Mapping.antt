@@ -12,16 +12,20 @@ use Rattle.names.specs.Bytes.{same-eq, equal-same, different, member, member-fou
 use Rattle.bundle.specs.Bundle.{Text, File, with_slash}
 use Rattle.bundle.specs.Limits.{remapping_limit}
 use Rattle.bundle.specs.Scan.{text}
-use Rattle.bundle.specs.Decode.{each, far, after, after_remapping, decode}
+use Rattle.bundle.specs.Decode.{each, far, after, after_remapping, remapping_count, remapping_first, decode}
 use Rattle.bundle.specs.Conflicts.{placed_at, placed_remapping_at, or_else, any, located, named, same_remapping, remapped}
 use Rattle.bundle.specs.ListLaws.{each_more, far-more}
+use Rattle.bundle.specs.Answers.{refused-ok}
 use Rattle.bundle.specs.Results.{Checked}
 use Rattle.bundle.specs.Results.{Ok, Refused}
-use Rattle.card.specs.Layout.{node_limit, card_size, marks_at, contexts_at, targets_at, places_at, mark_at, context_at, target_at, place_at}
+use Rattle.card.specs.declared.parts.Node.{Node}
+use Rattle.card.specs.declared.parts.Map.{Map}
+use Rattle.card.specs.declared.parts.Card.{Card}
+use Rattle.card.specs.Layout.{node_limit, no_node, no_map, node_at, parent_at, root_at, map_at}
 use Rattle.card.specs.Index.{dec_eq, Looked}
 use Rattle.card.specs.Card.{nodes_in, IndexOf, FolderAt, InFolder, is_at}
 use Rattle.card.specs.Laws.{node-file}
-use Rattle.reader.specs.Linking.{index_agree}
+use Rattle.reader.specs.Linking.{SameIndex, same-on, field_kept, index_agree}
 
 -- `/` and the folders; the files
 abbrev pub folders_in : List ℕ → List Text
@@ -92,6 +96,12 @@ one_told s first j a =
     (or_else (named (placed_at s (after s a)))
     (cond (any (same_remapping (placed_remapping_at s a)) (each (after_remapping s) (placed_remapping_at s) j first)) (Refused 13 a) Ok)))
 
+-- what it maps, if nothing is told
+pub record MapsTo (s : List ℕ) (a : ℕ) (m : Map) : Type 0 where
+  pub place : m.place ≡ a
+  pub context : FolderAt (decode s) (text s a) m.context
+  pub target : FolderAt (decode s) (text s (after s (after s a))) m.target
+
 in_parts : (a b c : Checked) (u : Bool) (p : ℕ) (d : Checked) → or_else a (or_else b (or_else c (cond u (Refused 13 p) d))) ≡ or_else (or_else a (or_else b (or_else c (cond u (Refused 13 p) Ok)))) d
 in_parts (Refused n m) b c u p d = refl
 in_parts Ok (Refused n m) c u p d = refl
@@ -114,218 +124,199 @@ module _ (s : List ℕ) (n i first a : ℕ) where
   unfolding remapped each
   remapping-done h = let z : n - i ≡ 0 = omega arith in rw z
 
--- REMAPPING j with its context, its target and its position
-abbrev pub put : List ℕ → ℕ → ℕ → ℕ → ℕ → List ℕ
-put c j x t a = set (set (set (set c (contexts_at + j) x) (targets_at + j) t) (places_at + j) a) (marks_at + t) 1
+-- INDEX i IS A PACKAGE ROOT
+abbrev pub marked : Card → ℕ → Card
+marked c i = record c { nodes = set c.nodes i (record (node_at c i) { is_root = true }) }
 
-module _ (c : List ℕ) (j x t a : ℕ) (size : length c ≡ card_size) (jl : j < remapping_limit) (tl : t < node_limit) where
-  abbrev c1 : List ℕ
-  c1 = set c (contexts_at + j) x
+module _ (c : Card) (i : ℕ) (l : i < length c.nodes) where
+  abbrev x : Node
+  x = record (node_at c i) { is_root = true }
 
-  abbrev c2 : List ℕ
-  c2 = set c1 (targets_at + j) t
+  pub marked-same : SameIndex c (marked c i)
+  marked-same = record {
+    size = λ z. record { nodes = rw length-set z.nodes; links = z.links; heads = z.heads; maps = z.maps };
+    starts = field_kept (λ n. n.start) c.nodes i x l refl;
+    links = refl;
+    heads = refl;
+    key = refl;
+    folders = refl;
+    files = refl;
+  }
 
-  abbrev c3 : List ℕ
-  c3 = set c2 (places_at + j) a
+  pub marked-parents : (j : ℕ) → parent_at (marked c i) j ≡ parent_at c j
+  marked-parents = field_kept (λ n. n.parent) c.nodes i x l refl
 
-  size1 : length c1 ≡ card_size
-  size1 = rw length-set size
+  pub marked-here : root_at (marked c i) i ≡ true
+  marked-here = ap (λ (n : Node). n.is_root) (get_or-set_same c.nodes i x no_node l)
 
-  size2 : length c2 ≡ card_size
-  size2 = rw length-set size1
+  pub marked-other : (j : ℕ) → (j ≡ i → ⊥) → root_at (marked c i) j ≡ root_at c j
+  marked-other j n = ap (λ (m : Node). m.is_root) (get_or-set_other c.nodes i j x no_node n)
 
-  size3 : length c3 ≡ card_size
-  size3 = rw length-set size2
+  pub marked-stays : (j : ℕ) → root_at c j ≡ true → root_at (marked c i) j ≡ true
+  marked-stays j e = at (dec_eq j i)
+    where
+      at : Dec (j ≡ i) → root_at (marked c i) j ≡ true
+      at (yes z) = rw z marked-here
+      at (no z) = marked-other j z ∙ e
 
-  pub put-size : length (put c j x t a) ≡ card_size
-  put-size = rw length-set size3
-
-  pub put_other : (k : ℕ) → (k ≡ contexts_at + j → ⊥) → (k ≡ targets_at + j → ⊥) → (k ≡ places_at + j → ⊥) → (k ≡ marks_at + t → ⊥) → get_or (put c j x t a) k 0 ≡ get_or c k 0
-  put_other k p q r m =
-      get_or-set_other c3 (marks_at + t) k 1 0 m ∙ get_or-set_other c2 (places_at + j) k a 0 r ∙ get_or-set_other c1 (targets_at + j) k t 0 q ∙ get_or-set_other c (contexts_at + j) k x 0 p
-
-  put-context : context_at (put c j x t a) j ≡ x
-  put-context =
-      get_or-set_other c3 (marks_at + t) (contexts_at + j) 1 0 (λ e. omega arith) ∙ get_or-set_other c2 (places_at + j) (contexts_at + j) a 0 (λ e. omega arith)
-      ∙ get_or-set_other c1 (targets_at + j) (contexts_at + j) t 0 (λ e. omega arith) ∙ get_or-set_same c (contexts_at + j) x 0 (omega (arith, size))
-
-  put-target : target_at (put c j x t a) j ≡ t
-  put-target =
-      get_or-set_other c3 (marks_at + t) (targets_at + j) 1 0 (λ e. omega arith) ∙ get_or-set_other c2 (places_at + j) (targets_at + j) a 0 (λ e. omega arith)
-      ∙ get_or-set_same c1 (targets_at + j) t 0 (omega (arith, size1))
-
-  put-place : place_at (put c j x t a) j ≡ a
-  put-place =
-      get_or-set_other c3 (marks_at + t) (places_at + j) 1 0 (λ e. omega arith) ∙ get_or-set_same c2 (places_at + j) a 0 (omega (arith, size2))
-
-  put-mark : mark_at (put c j x t a) t ≡ 1
-  put-mark = get_or-set_same c3 (marks_at + t) 1 0 (omega (arith, size3))
-
-  module _ (k : ℕ) (l : k < j) where
-    put-contexts : context_at (put c j x t a) k ≡ context_at c k
-    put-contexts = put_other (contexts_at + k) (λ e. omega arith) (λ e. omega arith) (λ e. omega arith) (λ e. omega arith)
-
-    put-targets : target_at (put c j x t a) k ≡ target_at c k
-    put-targets = put_other (targets_at + k) (λ e. omega arith) (λ e. omega arith) (λ e. omega arith) (λ e. omega arith)
-
-    put-places : place_at (put c j x t a) k ≡ place_at c k
-    put-places = put_other (places_at + k) (λ e. omega arith) (λ e. omega arith) (λ e. omega arith) (λ e. omega arith)
-
-  put-marks : (k : ℕ) → k < node_limit → (k ≡ t → ⊥) → mark_at (put c j x t a) k ≡ mark_at c k
-  put-marks k l n = put_other (marks_at + k) (λ e. omega arith) (λ e. omega arith) (λ e. omega arith) (λ e. n (omega arith))
-
-  put_low : (k : ℕ) → k < marks_at → get_or (put c j x t a) k 0 ≡ get_or c k 0
-  put_low k l = put_other k (λ e. omega arith) (λ e. omega arith) (λ e. omega arith) (λ e. omega arith)
+-- REMAPPING j, whose target is a package root
+abbrev pub put : Card → ℕ → Map → Card
+put c j m = marked (record c { maps = set c.maps j m }) m.target
 
 -- what a card has of the first n remappings
-pub record MappedAll (s c : List ℕ) (first n : ℕ) : Type 0 where
-  pub places : (k : ℕ) → k < n → place_at c k ≡ far (after_remapping s) k first
-  pub low : (k : ℕ) → k < n → place_at c k < 67108864
-  pub contexts : (k : ℕ) → k < n → FolderAt (decode s) (text s (place_at c k)) (context_at c k)
-  pub targets : (k : ℕ) → k < n → FolderAt (decode s) (text s (after s (after s (place_at c k)))) (target_at c k)
-  pub marked : (k : ℕ) → k < n → mark_at c (target_at c k) ≡ 1
-  pub only : (i : ℕ) → i < node_limit → mark_at c i ≡ 1 → (k : ℕ) × ((k < n) × (target_at c k ≡ i))
+pub record MappedAll (s : List ℕ) (c : Card) (first n : ℕ) : Type 0 where
+  pub places : (k : ℕ) → k < n → (map_at c k).place ≡ far (after_remapping s) k first
+  pub low : (k : ℕ) → k < n → (map_at c k).place < 67108864
+  pub contexts : (k : ℕ) → k < n → FolderAt (decode s) (text s (map_at c k).place) (map_at c k).context
+  pub targets : (k : ℕ) → k < n → FolderAt (decode s) (text s (after s (after s (map_at c k).place))) (map_at c k).target
+  pub marked : (k : ℕ) → k < n → root_at c (map_at c k).target ≡ true
+  pub only : (i : ℕ) → root_at c i ≡ true → (k : ℕ) × ((k < n) × ((map_at c k).target ≡ i))
 
 -- 9 to 13 leave of the card c₀
-pub record MapsOf (s c₀ c : List ℕ) (first n : ℕ) (r : Checked) : Type 0 where
-  pub size : length c ≡ card_size
-  pub kept : (k : ℕ) → k < marks_at → get_or c k 0 ≡ get_or c₀ k 0
-  pub tells : r ≡ remapped (folders_in s) (files_in s) [] (each (after_remapping s) (placed_remapping_at s) n first)
-  pub maps : r ≡ Ok → MappedAll s c first n
+pub record MapsOf (s : List ℕ) (c₀ c : Card) (r : Checked) : Type 0 where
+  pub kept : SameIndex c₀ c
+  pub parents : (k : ℕ) → parent_at c k ≡ parent_at c₀ k
+  pub count : c.remappings ≡ remapping_count s
+  pub tells : r ≡ remapped (folders_in s) (files_in s) [] (each (after_remapping s) (placed_remapping_at s) (remapping_count s) (remapping_first s))
+  pub maps : r ≡ Ok → MappedAll s c (remapping_first s) (remapping_count s)
 
 -- before: the index is there, and no mark
-pub record Unmapped (s c : List ℕ) (folders first n : ℕ) : Type 0 where
+pub record Unmapped (s : List ℕ) (c : Card) : Type 0 where
   pub index : IndexOf s (nodes_in s) c
-  pub folder_count_within : folders ≡ length (decode s).folders
-  pub few : n ≤ remapping_limit
-  pub low : first < 1048576
-  pub zeros : (i : ℕ) → i < node_limit → mark_at c i ≡ 0
+  pub folders : c.folders ≡ length (decode s).folders
+  pub few : remapping_count s ≤ remapping_limit
+  pub unmarked : (i : ℕ) → root_at c i ≡ false
 
-pub record Mapping (s c₀ c : List ℕ) (folders first n a j : ℕ) : Type 0 where
-  pub before : Unmapped s c₀ folders first n
-  pub size : length c ≡ card_size
-  pub kept : (k : ℕ) → k < marks_at → get_or c k 0 ≡ get_or c₀ k 0
+-- of n remappings from first on, as they are listed, j are done, and a is the next
+pub record Mapping (s : List ℕ) (c₀ c : Card) (first n a j : ℕ) : Type 0 where
+  pub before : Unmapped s c₀
+  pub list : (first ≡ remapping_first s) × (n ≡ remapping_count s)
+  pub kept : SameIndex c₀ c
+  pub parents : (k : ℕ) → parent_at c k ≡ parent_at c₀ k
+  pub count : c.remappings ≡ remapping_count s
   pub done : j ≤ n
   pub place : a ≡ far (after_remapping s) j first
-  pub low : a ≤ first + j * 768
+  pub low : (first < 1048576) × (a ≤ first + j * 768)
   pub maps : MappedAll s c first j
   pub tells : remapped (folders_in s) (files_in s) [] (each (after_remapping s) (placed_remapping_at s) n first)
       ≡ remapped (folders_in s) (files_in s) (each (after_remapping s) (placed_remapping_at s) j first) (each (after_remapping s) (placed_remapping_at s) (n - j) a)
 
-pub mapping_start : (s c : List ℕ) (folders first n : ℕ) → Unmapped s c folders first n → Mapping s c c folders first n first 0
+pub mapping_start : (s : List ℕ) (c : Card) → Unmapped s c → (first n : ℕ) → (first ≡ remapping_first s) × (n ≡ remapping_count s) → first < 1048576 → Mapping s c (record c { remappings = n }) first n first 0
 unfolding each far
-mapping_start s c folders first n U = record {
+mapping_start s c U first n e l = record {
   before = U;
-  size = U.index.size;
-  kept = λ k o. refl;
+  list = e;
+  kept = record { size = λ z. record { nodes = z.nodes; links = z.links; heads = z.heads; maps = z.maps }; starts = λ i. refl; links = refl; heads = refl; key = refl; folders = refl; files = refl };
+  parents = λ k. refl;
+  count = e.1;
   done = omega arith;
   place = refl;
-  low = omega arith;
+  low = (l, omega arith);
   maps = record {
     places = λ k o. absurd (omega arith);
     low = λ k o. absurd (omega arith);
     contexts = λ k o. absurd (omega arith);
     targets = λ k o. absurd (omega arith);
     marked = λ k o. absurd (omega arith);
-    only = λ i o e. absurd (omega (arith, e, U.zeros i o));
+    only = λ i m. absurd (false_true (sym (U.unmarked i) ∙ m));
   };
   tells = let z : n - 0 ≡ n = omega arith in rw z;
 }
 
-refused_not_ok : {k p : ℕ} → Refused k p ≡ Ok → ⊥
-refused_not_ok e = let z : ◌≡◌ {A = ℕ} 0 1 = cc in omega arith
-
-module _ (s c₀ c : List ℕ) (folders first n a j : ℕ) (w : Mapping s c₀ c folders first n a j) where
+module _ (s : List ℕ) (c₀ c : Card) (first n a j : ℕ) (w : Mapping s c₀ c first n a j) where
   pub mapping_index : IndexOf s (nodes_in s) c
-  mapping_index = index_agree w.before.index c w.size (λ k o l. w.kept k (omega arith))
+  mapping_index = index_agree w.before.index c w.kept
 
-  pub mapping_end : n ≤ j → MapsOf s c₀ c first n Ok
+  pub mapping_folders : c.folders ≡ length (decode s).folders
+  mapping_folders = w.kept.folders ∙ w.before.folders
+
+  pub mapping_end : n ≤ j → MapsOf s c₀ c Ok
   mapping_end h =
       let z : j ≡ n = omega (arith, w.done) in
       record {
-        size = w.size;
         kept = w.kept;
-        tells = sym (w.tells ∙ remapping-done s n j first a h);
-        maps = λ e. rw z at w.maps;
+        parents = w.parents;
+        count = w.count;
+        tells = rw (← w.list.0, ← w.list.1) (sym (w.tells ∙ remapping-done s n j first a h));
+        maps = λ e. rw (z, w.list.0, w.list.1) at w.maps;
       }
 
   module _ (o : j < n) where
     pub mapping_low : a < 67108864
-    mapping_low = omega (arith, w.low, w.before.low, w.before.few)
+    mapping_low = omega (arith, w.low, w.list, w.before.few)
 
     pub mapping_room : j < remapping_limit
-    mapping_room = omega (arith, w.before.few)
+    mapping_room = omega (arith, w.list, w.before.few)
 
-    pub mapping_refused : (k p : ℕ) → Refused k p ≡ one_told s first j a → MapsOf s c₀ c first n (Refused k p)
+    pub mapping_refused : (k p : ℕ) → Refused k p ≡ one_told s first j a → MapsOf s c₀ c (Refused k p)
     mapping_refused k p e = record {
-      size = w.size;
       kept = w.kept;
-      tells = sym (w.tells ∙ remapping-on s n j first a w.place o ∙ rw (← e));
-      maps = λ q. absurd (refused_not_ok q);
+      parents = w.parents;
+      count = w.count;
+      tells = rw (← w.list.0, ← w.list.1) (sym (w.tells ∙ remapping-on s n j first a w.place o ∙ rw (← e)));
+      maps = λ q. absurd (refused-ok q);
     }
 
-    module _ (x t : ℕ) (both : FolderAt (decode s) (text s a) x × FolderAt (decode s) (text s (after s (after s a))) t) where
-      few : length (folders_in s) ≤ node_limit
-      few = omega (arith, length-append (folders_in s) (files_in s), mapping_index.count)
+    module _ (m : Map) (M : MapsTo s a m) where
+      pub mapping_target : m.target < node_limit
+      mapping_target = omega (arith, M.target.folder, length-append (folders_in s) (files_in s), mapping_index.count)
 
-      pub mapping_context : x < node_limit
-      mapping_context = omega (arith, both.0.folder, few)
+      inside : m.target < length c.nodes
+      inside = omega (arith, mapping_target, mapping_index.size.nodes)
 
-      pub mapping_target : t < node_limit
-      mapping_target = omega (arith, both.1.folder, few)
+      abbrev c' : Card
+      c' = record c { maps = set c.maps j m }
 
-      pub mapping_more : Ok ≡ one_told s first j a → (b : ℕ) → (b ≡ after_remapping s a) × (b ≤ a + 768) → (c' : List ℕ) → c' ≡ put c j x t a → Mapping s c₀ c' folders first n b (j + 1)
-      mapping_more e b bq c' q = rw q (record {
+      here : map_at (record c { maps = set c.maps j m }) j ≡ m
+      here = get_or-set_same c.maps j m no_map (omega (arith, mapping_room, mapping_index.size.maps))
+
+      there : (k : ℕ) → (k ≡ j → ⊥) → map_at (record c { maps = set c.maps j m }) k ≡ map_at c k
+      there k z = get_or-set_other c.maps j k m no_map z
+
+      pub mapping_more : Ok ≡ one_told s first j a → (b : ℕ) → (b ≡ after_remapping s a) × (b ≤ a + 768) → Mapping s c₀ (put c j m) first n b (j + 1)
+      mapping_more e b bq = record {
         before = w.before;
-        size = put-size c j x t a w.size mapping_room mapping_target;
-        kept = λ k l. put_low c j x t a w.size mapping_room mapping_target k l ∙ w.kept k l;
+        list = w.list;
+        kept = same-on c₀ c _ w.kept (same-on c c' _ (record { size = λ z. record { nodes = z.nodes; links = z.links; heads = z.heads; maps = rw length-set z.maps }; starts = λ i. refl; links = refl; heads = refl; key = refl; folders = refl; files = refl }) (marked-same c' m.target inside));
+        parents = λ k. marked-parents c' m.target inside k ∙ w.parents k;
+        count = w.count;
         done = omega arith;
         place = bq.0 ∙ ap (after_remapping s) w.place ∙ sym (far-more (after_remapping s) j first);
-        low = omega (arith, w.low, bq.1);
+        low = (w.low.0, omega (arith, w.low.1, bq.1));
         maps = record {
           places = λ k l. at_place k l (dec_eq k j);
           low = λ k l. at_low k l (dec_eq k j);
           contexts = λ k l. at-context k l (dec_eq k j);
           targets = λ k l. at_target k l (dec_eq k j);
           marked = λ k l. at_mark k l (dec_eq k j);
-          only = λ i l m. just i l m (dec_eq i t);
+          only = λ i l. just i l (dec_eq i m.target);
         };
         tells = w.tells ∙ remapping-on s n j first a w.place o ∙ rw (← e, bq.0);
-      })
+      }
         where
-          place_same : place_at (put c j x t a) j ≡ a
-          place_same = put-place c j x t a w.size mapping_room mapping_target
+          at_place : (k : ℕ) → k < j + 1 → Dec (k ≡ j) → (map_at (put c j m) k).place ≡ far (after_remapping s) k first
+          at_place k l (yes z) = rw (z, here, M.place) w.place
+          at_place k l (no z) = rw (there k z) (w.maps.places k (omega arith))
 
-          at_place : (k : ℕ) → k < j + 1 → Dec (k ≡ j) → place_at (put c j x t a) k ≡ far (after_remapping s) k first
-          at_place k l (yes z) = rw (z, place_same) w.place
-          at_place k l (no z) = put-places c j x t a w.size mapping_room mapping_target k (omega arith) ∙ w.maps.places k (omega arith)
+          at_low : (k : ℕ) → k < j + 1 → Dec (k ≡ j) → (map_at (put c j m) k).place < 67108864
+          at_low k l (yes z) = rw (z, here, M.place) mapping_low
+          at_low k l (no z) = rw (there k z) (w.maps.low k (omega arith))
 
-          at_low : (k : ℕ) → k < j + 1 → Dec (k ≡ j) → place_at (put c j x t a) k < 67108864
-          at_low k l (yes z) = rw (z, place_same) mapping_low
-          at_low k l (no z) = rw (put-places c j x t a w.size mapping_room mapping_target k (omega arith)) (w.maps.low k (omega arith))
+          at-context : (k : ℕ) → k < j + 1 → Dec (k ≡ j) → FolderAt (decode s) (text s (map_at (put c j m) k).place) (map_at (put c j m) k).context
+          at-context k l (yes z) = rw (z, here, M.place) M.context
+          at-context k l (no z) = rw (there k z) (w.maps.contexts k (omega arith))
 
-          at-context : (k : ℕ) → k < j + 1 → Dec (k ≡ j) → FolderAt (decode s) (text s (place_at (put c j x t a) k)) (context_at (put c j x t a) k)
-          at-context k l (yes z) = rw (z, place_same, put-context c j x t a w.size mapping_room mapping_target) both.0
-          at-context k l (no z) =
-              rw (put-places c j x t a w.size mapping_room mapping_target k (omega arith), put-contexts c j x t a w.size mapping_room mapping_target k (omega arith)) (w.maps.contexts k (omega arith))
+          at_target : (k : ℕ) → k < j + 1 → Dec (k ≡ j) → FolderAt (decode s) (text s (after s (after s (map_at (put c j m) k).place))) (map_at (put c j m) k).target
+          at_target k l (yes z) = rw (z, here, M.place) M.target
+          at_target k l (no z) = rw (there k z) (w.maps.targets k (omega arith))
 
-          at_target : (k : ℕ) → k < j + 1 → Dec (k ≡ j) → FolderAt (decode s) (text s (after s (after s (place_at (put c j x t a) k)))) (target_at (put c j x t a) k)
-          at_target k l (yes z) = rw (z, place_same, put-target c j x t a w.size mapping_room mapping_target) both.1
-          at_target k l (no z) =
-              rw (put-places c j x t a w.size mapping_room mapping_target k (omega arith), put-targets c j x t a w.size mapping_room mapping_target k (omega arith)) (w.maps.targets k (omega arith))
+          at_mark : (k : ℕ) → k < j + 1 → Dec (k ≡ j) → root_at (put c j m) (map_at (put c j m) k).target ≡ true
+          at_mark k l (yes z) = rw (z, here) (marked-here c' m.target inside)
+          at_mark k l (no z) = rw (there k z) (marked-stays c' m.target inside _ (w.maps.marked k (omega arith)))
 
-          mark-stays : (i : ℕ) → i < node_limit → mark_at c i ≡ 1 → Dec (i ≡ t) → mark_at (put c j x t a) i ≡ 1
-          mark-stays i l m (yes z) = rw z (put-mark c j x t a w.size mapping_room mapping_target)
-          mark-stays i l m (no z) = put-marks c j x t a w.size mapping_room mapping_target i l z ∙ m
-
-          at_mark : (k : ℕ) → k < j + 1 → Dec (k ≡ j) → mark_at (put c j x t a) (target_at (put c j x t a) k) ≡ 1
-          at_mark k l (yes z) = rw (z, put-target c j x t a w.size mapping_room mapping_target) (put-mark c j x t a w.size mapping_room mapping_target)
-          at_mark k l (no z) =
-              rw (put-targets c j x t a w.size mapping_room mapping_target k (omega arith))
-              (mark-stays (target_at c k) (omega (arith, (w.maps.targets k (omega arith)).folder, few)) (w.maps.marked k (omega arith)) (dec_eq (target_at c k) t))
-
-          just : (i : ℕ) → i < node_limit → mark_at (put c j x t a) i ≡ 1 → Dec (i ≡ t) → (k : ℕ) × ((k < j + 1) × (target_at (put c j x t a) k ≡ i))
-          just i l m (yes z) = (j, (omega arith, put-target c j x t a w.size mapping_room mapping_target ∙ sym z))
-          just i l m (no z) =
-              let y = w.maps.only i l (sym (put-marks c j x t a w.size mapping_room mapping_target i l z) ∙ m) in
-              (y.0, (omega (arith, y.1.0), put-targets c j x t a w.size mapping_room mapping_target y.0 y.1.0 ∙ y.1.1))
+          just : (i : ℕ) → root_at (put c j m) i ≡ true → Dec (i ≡ m.target) → (k : ℕ) × ((k < j + 1) × ((map_at (put c j m) k).target ≡ i))
+          just i l (yes z) = (j, (omega arith, rw (here, z)))
+          just i l (no z) =
+              let y = w.maps.only i (sym (marked-other c' m.target inside i z) ∙ l) in
+              let v = y.1.0 in
+              (y.0, (omega arith, rw (there y.0 (λ q. omega arith)) y.1.1))

@@ -6,22 +6,22 @@ mod make;
 mod maps;
 mod paths;
 
-ghost use Rattle.std.specs.Prelude.{◌≡◌};
+ghost use Rattle.std.specs.Prelude.{◌≡◌, IfOk};
 ghost use Rattle.bundle.specs.Read.{verdict};
-ghost use Rattle.bundle.specs.Results as Checked;
 ghost use Rattle.bundle.specs.Told.{checked};
-ghost use Rattle.card.specs.Card.{CardIs};
 
-use card::CARD;
+use card::{Card, Carded};
 use refusal::Refusal;
 
-// Whether the bytes are a bundle, and its card.
+// A bundle of these bytes with its card, which is made in a lent one; or why they are none.
 #[tactic(auto, unfolding(bundle::specs::Read::verdict))]
-pub fn read(s: &[u8], card: &mut [u32; CARD]) -> Result<(), Refusal>
-    ensures { (checked result ≡ verdict s.now) × (checked result ≡ Checked.Ok → CardIs s.now card.new) }
+pub fn read<'a>(s: &'a [u8], card: &'a mut Card) -> Result<Carded<'a>, Refusal>
+    ensures tells { checked result ≡ verdict s.now }
+    ensures same { IfOk result (λ b. b.bytes.now ≡ s.now) }
 {
     form::check_form(s)?;
-    make::card_verdict(s, &mut *card)
+    make::make(s, card)?;
+    Ok(Carded { bytes: s, card })
 }
 
 // Whether the bytes are a bundle. Ruled out: `Ok` for a bundle with a folder listed twice; a refusal 8 for a path that is
@@ -29,6 +29,7 @@ pub fn read(s: &[u8], card: &mut [u32; CARD]) -> Result<(), Refusal>
 pub fn check(s: &[u8]) -> Result<(), Refusal>
     ensures { checked result ≡ verdict s.now }
 {
-    let mut card = [0u32; CARD];
-    read(s, &mut card)
+    let mut card = Card::empty();
+    read(s, &mut card)?;
+    Ok(())
 }

@@ -3,26 +3,24 @@ ghost use Rattle.std.specs.Prelude.{◌≡◌, ◌+◌, ◌<◌, ◌^◌, IfOk, 
 ghost use Rattle.bundle.specs.Decode.{each, after, after_remapping, decode};
 ghost use Rattle.bundle.specs.Conflicts.{any, located, named, same_remapping, placed_at, placed_remapping_at};
 ghost use Rattle.bundle.specs.Scan.{text};
-ghost use Rattle.bundle.specs.Limits.{count_limit, remapping_limit};
+ghost use Rattle.bundle.specs.Limits.{count_limit};
 ghost use Rattle.bundle.specs.Told.{checked};
-ghost use Rattle.card.specs.Layout.{node_limit};
-ghost use Rattle.card.specs.Card.{IndexOf, FolderAt, nodes_in};
-ghost use Rattle.reader.specs.Mapping.{folders_in, files_in, one_told, put, Unmapped, MapsOf};
+ghost use Rattle.card.specs.Card.{FolderAt};
+ghost use Rattle.reader.specs.Mapping.{folders_in, files_in, one_told, MapsTo, Unmapped, MapsOf};
 
-use card::layout::{CARD, CONTEXTS, MARKS, PLACES, TARGETS};
-use card::look::{find_path, folder_of};
+use card::{Card, Index, Map};
 use refusal::{Cause, Refusal};
 
 // The folder of the root, context or target at `at`, or 9 or 10.
-pub fn locate(s: &[u8], card: &[u32; CARD], folders: usize, at: usize) -> Result<usize, Refusal>
-    requires { IndexOf s.now (nodes_in s.now) card.now × (folders ≡ length (decode s.now).folders) × (at < 2 ^ 62) }
-    ensures tells { checked result ≡ located (folders_in s.now) (files_in s.now) (placed_at s.now at) }
-    ensures found { IfOk result (λ i. FolderAt (decode s.now) (text s.now at) i) }
+pub fn locate(index: &Index, at: usize) -> Result<usize, Refusal>
+    requires { at < 2 ^ 62 }
+    ensures tells { checked result ≡ located (folders_in index.now.bytes.now) (files_in index.now.bytes.now) (placed_at index.now.bytes.now at) }
+    ensures found { IfOk result (λ i. FolderAt (decode index.now.bytes.now) (text index.now.bytes.now at) i) }
 {
-    let t = bundle::string(s, at);
-    match folder_of(s, card, folders, t) {
+    let t = bundle::string(index.bytes, at);
+    match index.folder_of(t) {
         Some(i) => Ok(i),
-        None => match find_path(s, card, t) {
+        None => match index.find_path(t) {
             None => Err(Cause::Nowhere.at(at)),
             Some(_) => Err(Cause::NoFolder.at(at)),
         },
@@ -46,17 +44,14 @@ fn name_verdict(s: &[u8], at: usize) -> Result<(), Refusal>
 }
 
 // Whether the remappings at a and b have one context and one name.
-#[tactic(auto, unfolding(bundle::specs::Conflicts::same_remapping, bundle::specs::Conflicts::placed_remapping_at, bundle::specs::Conflicts::placed_at))]
+#[tactic(auto, unfolding(bundle::specs::Conflicts::same_remapping, bundle::specs::Conflicts::placed_remapping_at, bundle::specs::Conflicts::placed_at), using(names::specs::Bytes::equals))]
 fn same_remapping(s: &[u8], a: usize, b: usize) -> bool
     requires { (a < 2 ^ 61) × (b < 2 ^ 61) }
     ensures { result ≡ same_remapping (placed_remapping_at s.now a) (placed_remapping_at s.now b) }
 {
-    if !names::same_bytes(bundle::string(s, a), bundle::string(s, b)) {
-        return false;
-    }
-    let c = bundle::next_string(s, a);
-    let d = bundle::next_string(s, b);
-    names::same_bytes(bundle::string(s, c), bundle::string(s, d))
+    bundle::string(s, a) == bundle::string(s, b)
+        && bundle::string(s, bundle::next_string(s, a))
+            == bundle::string(s, bundle::next_string(s, b))
 }
 
 // Whether the remapping at r repeats one of the n from `at` on.
@@ -74,62 +69,40 @@ fn repeats(s: &[u8], at: usize, n: usize, r: usize) -> bool
     false
 }
 
-// The indices of the folders of a remapping's context and target.
-#[derive(Clone, Copy)]
-struct Ends {
-    context: usize,
-    target: usize,
-}
-
 // The remapping at a, before which there are j from first on.
-fn map_one(
-    s: &[u8],
-    card: &[u32; CARD],
-    folders: usize,
-    first: usize,
-    j: usize,
-    a: usize,
-) -> Result<Ends, Refusal>
-    requires { (IndexOf s.now (nodes_in s.now) card.now × (folders ≡ length (decode s.now).folders)) × ((first < 2 ^ 60) × ((j < count_limit) × (a < 2 ^ 60))) }
-    ensures tells { checked result ≡ one_told s.now first j a }
-    ensures found { IfOk result (λ e. FolderAt (decode s.now) (text s.now a) e.context × FolderAt (decode s.now) (text s.now (after s.now (after s.now a))) e.target) }
+fn map_one(index: &Index, first: usize, j: usize, a: usize) -> Result<Map, Refusal>
+    requires { (first < 2 ^ 60) × ((j < count_limit) × (a < 2 ^ 26)) }
+    ensures tells { checked result ≡ one_told index.now.bytes.now first j a }
+    ensures found { IfOk result (λ m. MapsTo index.now.bytes.now a m) }
 {
-    let context = locate(s, card, folders, a)?;
+    let s = index.bytes;
+    let context = locate(index, a)?;
     let name = bundle::next_string(s, a);
-    let target = locate(s, card, folders, bundle::next_string(s, name))?;
+    let target = locate(index, bundle::next_string(s, name))?;
     name_verdict(s, name)?;
     if repeats(s, first, j, a) {
         return Err(Cause::SameRemapping.at(a));
     }
-    Ok(Ends { context, target })
+    Ok(Map {
+        context: context as u16,
+        target: target as u16,
+        place: a as u32,
+    })
 }
 
-// Remapping j: its context, its target and its position; its target is a package root.
-fn put_map(card: &mut [u32; CARD], j: usize, c: usize, t: usize, a: usize)
-    requires { (j < remapping_limit) × ((c < node_limit) × ((t < node_limit) × (a < 2 ^ 26))) }
-    ensures { card.new ≡ put card.old j c t a }
+// 9 to 13 of the remappings; and what the card has of them. A target is a package root.
+pub fn map_names(s: &[u8], card: &mut Card) -> Result<(), Refusal>
+    requires { Unmapped s.now card.old }
+    ensures { MapsOf s.now card.old card.new (checked result) }
 {
-    card[CONTEXTS + j] = c as u32;
-    card[TARGETS + j] = t as u32;
-    card[PLACES + j] = a as u32;
-    card[MARKS + t] = 1;
-}
-
-// 9 to 13 of the n remappings from first on; and what the card has of them.
-pub fn map_names(
-    s: &[u8],
-    card: &mut [u32; CARD],
-    folders: usize,
-    first: usize,
-    n: usize,
-) -> Result<(), Refusal>
-    requires { Unmapped s.now card.old folders first n }
-    ensures { MapsOf s.now card.old card.new first n (checked result) }
-{
-    let mut a = first;
-    for j in 0..n {
-        let ends = map_one(s, &*card, folders, first, j, a)?;
-        put_map(&mut *card, j, ends.context, ends.target, a);
+    let list = bundle::remappings(s);
+    card.remappings = list.count;
+    let mut a = list.first;
+    for j in 0..list.count {
+        let index = Index { bytes: s, card };
+        let map = map_one(&index, list.first, j, a)?;
+        card.maps[j] = map;
+        card.nodes[usize::from(map.target)].is_root = true;
         a = bundle::next_remapping(s, a);
     }
     Ok(())

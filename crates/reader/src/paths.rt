@@ -5,55 +5,49 @@ ghost use Rattle.names.specs.Path.{is_path};
 ghost use Rattle.names.specs.Prefix.{parent};
 ghost use Rattle.bundle.specs.Decode.{decode};
 ghost use Rattle.bundle.specs.Told.{checked};
-ghost use Rattle.card.specs.Card.{IndexOf, nodes_in, InFolder};
+ghost use Rattle.card.specs.Card.{nodes_in, InFolder};
 ghost use Rattle.reader.specs.Linking.{Indexed, Linked};
 
-use card::layout::{CARD, HASHES, NEXTS, PARENTS, STARTS};
-use card::look::{folder_of, walk};
+use card::{Card, Index};
 use refusal::{Cause, Refusal};
 
 // Whether the path p of index i is `/` or listed before.
-fn is_again<'a>(s: &'a [u8], card: &'a [u32; CARD], i: usize, p: &'a [u8]) -> bool
-    requires { IndexOf s.now (nodes_in s.now) card.now × ((i < length (nodes_in s.now)) × ((i ≡ 0 → ⊥) × (p.now ≡ get_or (nodes_in s.now) i []))) }
-    ensures { result ≡ member p.now (take i (nodes_in s.now)) }
+fn is_again(index: &Index, i: usize, p: &[u8]) -> bool
+    requires { (i < length (nodes_in index.now.bytes.now)) × ((i ≡ 0 → ⊥) × (p.now ≡ get_or (nodes_in index.now.bytes.now) i [])) }
+    ensures { result ≡ member p.now (take i (nodes_in index.now.bytes.now)) }
 {
-    if names::same_bytes(p, b"/") {
+    if names::is_root(p) {
         return true;
     }
-    walk(
-        s,
-        card,
-        card[HASHES + i] as usize,
-        p,
-        card[NEXTS + i] as usize,
-        i,
-    )
-    .is_some()
+    let link = &index.card.links[i];
+    index
+        .walk(link.hash, p, usize::from(link.next), i)
+        .is_some()
 }
 
 // The index of the folder that the path p lies in.
-fn parent_of<'a>(s: &'a [u8], card: &'a [u32; CARD], folders: usize, p: &'a [u8]) -> Option<usize>
-    requires { (IndexOf s.now (nodes_in s.now) card.now × (folders ≡ length (decode s.now).folders)) × (is_path p.now ≡ true) }
-    ensures { InFolder (decode s.now) (parent p.now) result }
+fn parent_of(index: &Index, p: &[u8]) -> Option<usize>
+    requires { is_path p.now ≡ true }
+    ensures { InFolder (decode index.now.bytes.now) (parent p.now) result }
 {
-    let k = names::parent_len(p);
-    folder_of(s, card, folders, &p[..k])
+    index.folder_of(&p[..names::parent_len(p)])
 }
 
 // 7 and 8 of the paths, index by index; and their parents.
-pub fn link_paths(s: &[u8], card: &mut [u32; CARD], folders: usize, n: usize) -> Result<(), Refusal>
-    requires { Indexed s.now card.old folders n }
+pub fn link_paths(s: &[u8], card: &mut Card) -> Result<(), Refusal>
+    requires { Indexed s.now card.old }
     ensures { Linked s.now card.old card.new (checked result) }
 {
-    for i in 1..n {
-        let a = card[STARTS + i] as usize;
+    for i in 1..card.folders + card.files + 1 {
+        let index = Index { bytes: s, card };
+        let a = index.card.nodes[i].start as usize;
         let p = bundle::string(s, a);
-        if is_again(s, &*card, i, p) {
+        if is_again(&index, i, p) {
             return Err(Cause::Twice.at(a));
         }
-        match parent_of(s, &*card, folders, p) {
+        match parent_of(&index, p) {
             None => return Err(Cause::Orphan.at(a)),
-            Some(d) => card[PARENTS + i] = d as u32,
+            Some(d) => card.nodes[i].parent = d as u16,
         }
     }
     Ok(())

@@ -19,8 +19,8 @@ fn tell<W: Write>(out: &mut W, list: &[u8], lent: &mut [u8]) -> io::Result<()> {
 fn main(rt: HostRuntime) -> io::Result<()> {
     let input = lines::input(&rt)?;
     let mut out = BufWriter::new(rt.alloc(), io::writer(&rt))?;
-    let mut frames = Frames(&input);
-    while let (Some(list), Some(lent)) = (frames.next(), frames.next()) {
+    let parts = Frames(&input).collect::<Vec<&[u8]>>(rt.alloc())?;
+    for [list, lent] in parts.as_chunks::<2>().0 {
         tell(&mut out, list, &mut lent.to_vec(rt.alloc())?)?;
     }
     out.flush()

@@ -1,6 +1,7 @@
 -- What the card's walks mean in resolution: the package root of a listed path is the nearest root at or above it; of two contexts above a
 -- file the longer lies below the other; a segment is a child of a folder. Assumes nothing.
 use Rattle.std.specs.Prelude.{ℕ, suc, ◌+◌, ◌-◌, ◌≤◌, ◌<◌, Bool, cond, ◌⊎◌, ◌≡◌, refl, leb, ltb, length, get_or, Option, None, Some, option_map}
+use Rattle.std.specs.Option.{option_eq}
 use Rattle.std.proofs.Common.{arith, inl, inr, ⊎_elim, ap, subst, ◌∙◌, length-append}
 use Rattle.std.proofs.Math.Bool.{true, false}
 use Rattle.std.proofs.Math.Path.{sym}
@@ -14,7 +15,8 @@ use Rattle.names.specs.Prefix.{begins, starts_with, directly_in}
 use Rattle.names.specs.PathTheorems.{form, followed, equal-prefixes, starts_with_refl}
 use Rattle.bundle.specs.Bundle.{Text, Remapping}
 use Rattle.bundle.specs.Members.{member_true, mem_member}
-use Rattle.card.specs.Layout.{node_limit, parent_at, mark_at, folders_of}
+use Rattle.card.specs.declared.parts.Card.{Card}
+use Rattle.card.specs.Layout.{node_limit, parent_at, root_at}
 use Rattle.card.specs.Tree.{Tree, directly_is}
 use Rattle.card.specs.Index.{Hit}
 use Rattle.card.specs.Card.{CardIs, nodes_in, is_at}
@@ -23,7 +25,7 @@ use Rattle.resolution.specs.Lists.{Lists}
 use Rattle.resolution.specs.Resolution.{package_roots, get_package_root, same_root, check_local_file_imported_as_external, to}
 use Rattle.resolution.specs.Call.{position, answer}
 use Rattle.resolution.specs.Theorems.{rooted, none-rooted, position-is, position-small}
-use Rattle.resolution.specs.Indices.{lists_in, path_in, same_index, IsFolder, resolved_at, Listed, no_remapping}
+use Rattle.resolution.specs.Indices.{lists_in, path_in, IsFolder, resolved_at, Listed, no_remapping}
 use Rattle.resolution.specs.Results.{File, Folder}
 
 -- PREFIXES
@@ -112,15 +114,12 @@ module _ (b : Lists) {ps : List Text} {par : ℕ → ℕ} (T : Tree ps par) (mar
       go None None e N = refl
 
 -- THE CARD
-module _ {s c : List ℕ} (C : CardIs s c) where
+module _ {s : List ℕ} {c : Card} (C : CardIs s c) where
   abbrev b : Lists
   b = lists_in s
 
-  abbrev marks : ℕ → Bool
-  marks i = eqb (mark_at c i) 1
-
   abbrev nearest_to : ℕ → Option ℕ
-  nearest_to f = nearest component_limit (parent_at c) marks f
+  nearest_to f = nearest component_limit (parent_at c) (root_at c) f
 
   pub total : length (nodes_in s) ≡ suc (length b.folders + length b.files)
   total = ap suc (length-append b.folders b.files)
@@ -141,13 +140,13 @@ module _ {s c : List ℕ} (C : CardIs s c) where
       ⊎_elim (λ e. (_, (C.entry.folder, C.entry.path ∙ sym e)))
       (λ n. let k = target-of b.remappings p n in let t = C.maps.targets k.0 no_remapping k.1.0 in (_, (t.folder, t.path ∙ k.1.1))) (Memᴰ.cases_cons m)
 
-  roots-marked : Marked (nodes_in s) (package_roots b) marks
+  roots-marked : Marked (nodes_in s) (package_roots b) (root_at c)
   roots-marked = record {
     of = C.marks;
     listed = λ p m. let r = root_folder p m in (r.0, (folder-listed r.0 r.1.0, r.1.1));
   }
 
-  pub marked-folder : (a : ℕ) → a < length (nodes_in s) → marks a ≡ true → IsFolder s a
+  pub marked-folder : (a : ℕ) → a < length (nodes_in s) → root_at c a ≡ true → IsFolder s a
   marked-folder a h m =
       let r = root_folder (path_in s a) (member_true (path_in s a) (package_roots b) (sym (C.marks a h) ∙ m)) in
       let e = C.tree.once r.0 a (folder-listed r.0 r.1.0) h r.1.1 in
@@ -156,11 +155,11 @@ module _ {s c : List ℕ} (C : CardIs s c) where
   -- as the code finds it
   module _ (f : ℕ) (listed : f < length (nodes_in s)) (x : Option ℕ) (is : x ≡ nearest_to f) where
     pub root_is : get_package_root b (path_in s f) ≡ option_map (path_in s) x
-    root_is = root-nearest b C.tree marks roots-marked f listed ∙ ap (option_map (path_in s)) (sym is)
+    root_is = root-nearest b C.tree (root_at c) roots-marked f listed ∙ ap (option_map (path_in s)) (sym is)
 
     pub root-is-folder : (a : ℕ) → x ≡ Some a → IsFolder s a
     root-is-folder a e =
-        let N : Nearest C.tree marks f (Some a) = subst (Nearest C.tree marks f) (sym is ∙ e) (nearest-is C.tree marks f listed) in
+        let N : Nearest C.tree (root_at c) f (Some a) = subst (Nearest C.tree (root_at c) f) (sym is ∙ e) (nearest-is C.tree (root_at c) f listed) in
         marked-folder a N.listed N.marked
 
     -- directly in the root
@@ -168,21 +167,27 @@ module _ {s c : List ℕ} (C : CardIs s c) where
     directly a z e = directly_is C.tree f a listed (folder-listed a (root-is-folder a e)) ∙ rw (ne_eqb f 0 z)
 
   -- 24: whether both have one root
-  module _ (f t : ℕ) (f-listed : f < length (nodes_in s)) (t-listed : t < length (nodes_in s)) (x y : Option ℕ) (x-is : x ≡ nearest_to f) (y-is : y ≡ nearest_to t) where
-    pub own-is : same_index x y ≡ check_local_file_imported_as_external b (path_in s f) (path_in s t)
+  module _ (f t : ℕ) (f-listed : f < length (nodes_in s)) (t-listed : t < length (nodes_in s)) where
+    abbrev Own : Bool → Type 0
+    Own u = u ≡ check_local_file_imported_as_external b (path_in s f) (path_in s t)
+
+    pub own-none : None ≡ nearest_to f → Own false
     unfolding check_local_file_imported_as_external
-    own-is = rw (root_is f f-listed x x-is, root_is t t-listed y y-is) (go x y refl refl)
+    own-none x = rw (root_is f f-listed None x)
+
+    pub own-some : (a : ℕ) → Some a ≡ nearest_to f → (y : Option ℕ) → y ≡ nearest_to t → Own (option_eq eqb y (Some a))
+    unfolding check_local_file_imported_as_external
+    own-some a x y q = rw (root_is f f-listed (Some a) x, root_is t t-listed y q) (go y q)
       where
-        go : (u v : Option ℕ) → x ≡ u → y ≡ v → same_index u v ≡ same_root (option_map (path_in s) u) (option_map (path_in s) v)
-        go None v p q = refl
-        go (Some a) None p q = refl
-        go (Some a) (Some d) p q = at (eqb a d) refl
-          where
-            at : (w : Bool) → eqb a d ≡ w → w ≡ same (path_in s a) (path_in s d)
-            at true k = rw (eqb-true a d k) (sym (same_refl (path_in s d)))
-            at false k =
-                sym (different (path_in s a) (path_in s d) (λ z. eqb-false a d k (C.tree.once a d
-                (folder-listed a (root-is-folder f f-listed x x-is a p)) (folder-listed d (root-is-folder t t-listed y y-is d q)) z)))
+        at : (d : ℕ) → Some d ≡ nearest_to t → (w : Bool) → eqb d a ≡ w → w ≡ same (path_in s a) (path_in s d)
+        at d q true k = rw (eqb-true d a k) (sym (same_refl (path_in s a)))
+        at d q false k =
+            sym (different (path_in s a) (path_in s d) (λ z. eqb-false d a k (sym (C.tree.once a d
+            (folder-listed a (root-is-folder f f-listed (Some a) x a refl)) (folder-listed d (root-is-folder t t-listed (Some d) q d refl)) z))))
+
+        go : (y : Option ℕ) → y ≡ nearest_to t → option_eq eqb y (Some a) ≡ same_root (Some (path_in s a)) (option_map (path_in s) y)
+        go None q = refl
+        go (Some d) q = at d q (eqb d a) refl
 
   -- WHAT IS FOUND, as an answer
   module _ (t : ℕ) (some : t ≡ 0 → ⊥) (listed : t < length (nodes_in s)) where
@@ -203,7 +208,7 @@ module _ {s c : List ℕ} (C : CardIs s c) where
         let q = C.tree.once (suc (position (path_in s t) b.folders)) t (omega (arith, total)) listed (node-folder b.folders b.files (position (path_in s t) b.folders) p ∙ position-is (path_in s t) b.folders [] k.listed) in
         (k.no_file, omega arith)
 
-  pub resolved-is : (p : Text) (t left : ℕ) (rest : List Text) → Listed s p t → left ≡ length rest → resolved_at (folders_of c) t left ≡ answer b (to p rest)
+  pub resolved-is : (p : Text) (t left : ℕ) (rest : List Text) → Listed s p t → left ≡ length rest → resolved_at c.folders t left ≡ answer b (to p rest)
   resolved-is p t left rest L e = rw (C.folders, e, ← L.path) (go (ltb (length b.folders) t) refl)
     where
       go : (u : Bool) → ltb (length b.folders) t ≡ u → cond u (File (t - 1 - length b.folders) (length rest)) (Folder (t - 1) (length rest)) ≡ answer b (to (path_in s t) rest)

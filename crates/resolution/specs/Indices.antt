@@ -1,14 +1,15 @@
 -- What the code's inner answers mean: indices of a card. Assumes nothing.
-use Rattle.std.specs.Prelude.{ℕ, ◌-◌, ◌≤◌, ◌<◌, Bool, true, false, cond, List, [], ◌≡◌, eqb, ltb, length, get_or, Option, None, Some, option_map, is_some, ◌&&◌}
-use Rattle.std.specs.Option.{option_eq}
+use Rattle.std.specs.Prelude.{ℕ, ◌-◌, ◌≤◌, ◌<◌, true, false, cond, List, [], ◌≡◌, eqb, ltb, length, get_or, Option, None, Some, option_map}
+use Rattle.names.specs.Bytes.{member}
 use Rattle.bundle.specs.Bundle.{Text, Remapping}
 use Rattle.bundle.specs.Limits.{remapping_limit}
 use Rattle.bundle.specs.Decode.{decode}
 use Rattle.names.specs.Path.{component_limit}
 use Rattle.names.specs.Prefix.{child}
-use Rattle.card.specs.Layout.{node_limit, parent_at, context_at, folders_of}
+use Rattle.card.specs.Layout.{node_limit, parent_at, map_at}
+use Rattle.card.specs.declared.parts.Card.{Card}
 use Rattle.card.specs.Tree.{ascends}
-use Rattle.card.specs.Card.{CardIs, nodes_in}
+use Rattle.card.specs.Card.{nodes_in}
 use Rattle.resolution.specs.Lists.{Lists, lists_of}
 use Rattle.resolution.specs.Resolution.{applies, Lookup, found, missing, is_folder, exists}
 use Rattle.resolution.specs.declared.listing.Spot.{Spot}
@@ -22,15 +23,15 @@ lists_in s = lists_of (decode s)
 abbrev pub path_in : List ℕ → ℕ → Text
 path_in s i = get_or (nodes_in s) i []
 
--- a card of the bundle, and no more remappings than it holds
-pub record Mapped (s c : List ℕ) : Type 0 where
-  pub card : CardIs s c
-  pub few : length (decode s).remappings ≤ remapping_limit
-
 -- f is the index of a file
 pub record Importer (s : List ℕ) (f : ℕ) : Type 0 where
   pub file : length (decode s).folders < f
   pub listed : f < length (nodes_in s)
+
+-- the index of the file of a path
+abbrev pub ImporterIs : List ℕ → Text → Option ℕ → Type 0
+ImporterIs s file (Some f) = Importer s f × (path_in s f ≡ file)
+ImporterIs s file None = member file (lists_in s).files ≡ false
 
 -- d is the index of a folder, `/` among them
 abbrev pub IsFolder : List ℕ → ℕ → Type 0
@@ -41,17 +42,13 @@ abbrev pub Enters : List ℕ → ℕ → Text → Option ℕ → Type 0
 Enters s dir name (Some d) = IsFolder s d × ((is_folder (lists_in s) (child (path_in s dir) name) ≡ true) × (path_in s d ≡ child (path_in s dir) name))
 Enters s dir name None = is_folder (lists_in s) (child (path_in s dir) name) ≡ false
 
--- whether two are the same index
-abbrev pub same_index : Option ℕ → Option ℕ → Bool
-same_index x y = is_some x && option_eq eqb x y
-
 -- WHAT IS FOUND, where there are so many folders: which file, or which folder, and how many segments are left
 abbrev pub resolved_at : ℕ → ℕ → ℕ → Resolution
 resolved_at folders t left = cond (ltb folders t) (File (t - 1 - folders) left) (Folder (t - 1) left)
 
 -- after a failed lookup below the root of index base: the file of index f, where its parent is the root
-abbrev pub itself_in : List ℕ → ℕ → ℕ → ℕ → Resolution
-itself_in c f base n = cond (eqb (parent_at c f) base) (resolved_at (folders_of c) f n) (Refused 23 0)
+abbrev pub itself_in : Card → ℕ → ℕ → ℕ → Resolution
+itself_in c f base n = cond (eqb (parent_at c f) base) (resolved_at c.folders f n) (Refused 23 0)
 
 -- index t is that of a listed path
 pub record Listed (s : List ℕ) (p : Text) (t : ℕ) : Type 0 where
@@ -82,13 +79,13 @@ abbrev pub chosen : List ℕ → Option ℕ → Option Remapping
 chosen s o = option_map (remapping_in s) o
 
 -- of two, the one with the longer context: the first, where its context lies at or below the second's
-abbrev pub further : List ℕ → Option ℕ → ℕ → ℕ
+abbrev pub further : Card → Option ℕ → ℕ → ℕ
 further c None j = j
-further c (Some a) j = cond (ascends component_limit (parent_at c) (context_at c a) (context_at c j)) a j
+further c (Some a) j = cond (ascends component_limit (parent_at c) (map_at c a).context (map_at c j).context) a j
 
-abbrev pub Within : List ℕ → Option ℕ → Type 0
+abbrev pub Within : Card → Option ℕ → Type 0
 Within c None = Unit
-Within c (Some a) = (a < remapping_limit) × (context_at c a < node_limit)
+Within c (Some a) = (a < remapping_limit) × ((map_at c a).context < node_limit)
 
 -- one that the name in the file can take
 abbrev pub CanTake : List ℕ → Text → Text → Option ℕ → Type 0

@@ -11,6 +11,7 @@ use Rattle.names.specs.Prefix.{child, child_file}
 use Rattle.names.specs.FolderTheorems.{Plain}
 use Rattle.bundle.specs.Bundle.{Text}
 use Rattle.bundle.specs.Form.{IsName}
+use Rattle.card.specs.declared.parts.Card.{Card}
 use Rattle.card.specs.Index.{Hit, Looked}
 use Rattle.card.specs.Card.{CardIs, nodes_in, sought}
 use Rattle.card.specs.Laws.{in_none, in_folders, in_files}
@@ -41,7 +42,7 @@ simf-is = refl
 pub file-named : (n : Text) → IsName n → Plain (n ++ simf)
 file-named n h = rw simf-is (file-plain n h)
 
-module _ {s c : List ℕ} (C : CardIs s c) (d : ℕ) where
+module _ {s : List ℕ} {c : Card} (C : CardIs s c) (d : ℕ) where
   abbrev b : Lists
   b = lists_in s
 
@@ -104,7 +105,7 @@ pub record Down (s : List ℕ) (base dir : ℕ) (all left : List Text) : Type 0 
   pub folder : IsFolder s dir
   pub same : build_and_verify_path (lists_in s) (path_in s dir) left ≡ build_and_verify_path (lists_in s) (path_in s base) all
 
-module _ {s c : List ℕ} (C : CardIs s c) {base dir : ℕ} {all left : List Text} (D : Down s base dir all left) where
+module _ {s : List ℕ} {base dir : ℕ} {all left : List Text} (D : Down s base dir all left) where
   pub down_enters : (name : Text) (rest : List Text) → left ≡ name ∷ rest → (d : ℕ) → Enters s dir name (Some d) → Down s base d all rest
   unfolding build_and_verify_path
   down_enters name rest q d e = record { folder = e.0; same = rw e.1.1 (step ∙ (ap (build_and_verify_path (lists_in s) (path_in s dir)) (sym q) ∙ D.same)) }
@@ -112,9 +113,9 @@ module _ {s c : List ℕ} (C : CardIs s c) {base dir : ℕ} {all left : List Tex
       step : build_and_verify_path (lists_in s) (child (path_in s dir) name) rest ≡ build_and_verify_path (lists_in s) (path_in s dir) (name ∷ rest)
       step = rw e.1.0
 
-  pub down_names : (name : Text) (rest : List Text) → left ≡ name ∷ rest → Enters s dir name None → (x : Option Spot) → located s (child_file (path_in s dir) name) (length rest) x
+  pub down_names : {c : Card} → CardIs s c → (name : Text) (rest : List Text) → left ≡ name ∷ rest → Enters s dir name None → (x : Option Spot) → located s (child_file (path_in s dir) name) (length rest) x
       → Tells s x (build_and_verify_path (lists_in s) (path_in s base) all)
-  down_names name rest q e x l =
+  down_names C name rest q e x l =
       subst (Tells s x) (ap (build_and_verify_path (lists_in s) (path_in s dir)) (sym q) ∙ D.same) (located-tells C dir name rest x e l)
 
   pub down_ends : left ≡ [] → Tells s None (build_and_verify_path (lists_in s) (path_in s base) all)

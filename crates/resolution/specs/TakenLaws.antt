@@ -9,11 +9,11 @@ use Rattle.names.specs.Bytes.{same, and_left}
 use Rattle.names.specs.Path.{is_path, component_limit}
 use Rattle.names.specs.Prefix.{starts_with}
 use Rattle.bundle.specs.Bundle.{Text, Remapping}
-use Rattle.bundle.specs.Limits.{remapping_limit}
 use Rattle.bundle.specs.Decode.{decode, remapping_at}
-use Rattle.card.specs.Layout.{node_limit, parent_at, context_at, place_at}
+use Rattle.card.specs.declared.parts.Card.{Card}
+use Rattle.card.specs.Layout.{node_limit, parent_at, map_at}
 use Rattle.card.specs.Tree.{ascends, below-is}
-use Rattle.card.specs.Card.{CardIs, nodes_in}
+use Rattle.card.specs.Card.{CardIs, map-places, nodes_in}
 use Rattle.resolution.specs.Longest.{only, longer, longest}
 use Rattle.resolution.specs.LongestLaws.{tried-longest, longer-none, longer_assoc}
 use Rattle.resolution.specs.Resolution.{applies, remapping_for}
@@ -23,35 +23,35 @@ use Rattle.resolution.specs.Indices.{lists_in, path_in, no_remapping, remapping_
 abbrev context_size : Remapping → ℕ
 context_size r = length r.context
 
-module _ {s c : List ℕ} (C : CardIs s c) where
+module _ {s : List ℕ} {c : Card} (C : CardIs s c) where
   abbrev rs : List Remapping
   rs = (decode s).remappings
 
-  context_listed : (j : ℕ) → j < length rs → context_at c j < length (nodes_in s)
-  context_listed j h = folder-listed C (context_at c j) (C.maps.contexts j no_remapping h).folder
+  context_listed : (j : ℕ) → j < length rs → (map_at c j).context < length (nodes_in s)
+  context_listed j h = folder-listed C (map_at c j).context (C.maps.contexts j no_remapping h).folder
 
-  context_path : (j : ℕ) → j < length rs → path_in s (context_at c j) ≡ (remapping_in s j).context
+  context_path : (j : ℕ) → j < length rs → path_in s (map_at c j).context ≡ (remapping_in s j).context
   context_path j h = (C.maps.contexts j no_remapping h).path
 
-  pub context-small : (j : ℕ) → j < length rs → context_at c j < node_limit
-  context-small j h = node-small C (context_at c j) (context_listed j h)
+  pub context-small : (j : ℕ) → j < length rs → (map_at c j).context < node_limit
+  context-small j h = node-small C (map_at c j).context (context_listed j h)
 
   context-form : (j : ℕ) → j < length rs → is_path (remapping_in s j).context ≡ true
-  context-form j h = sym (ap is_path (context_path j h)) ∙ C.tree.formed (context_at c j) (context_listed j h)
+  context-form j h = sym (ap is_path (context_path j h)) ∙ C.tree.formed (map_at c j).context (context_listed j h)
 
   -- one context lies below another
-  context-below : (i j : ℕ) → i < length rs → j < length rs → ascends component_limit (parent_at c) (context_at c i) (context_at c j) ≡ starts_with (remapping_in s i).context (remapping_in s j).context
-  context-below i j h k = sym (below-is C.tree (context_at c i) (context_at c j) (context_listed i h) (context_listed j k)) ∙ rw (context_path i h, context_path j k)
+  context-below : (i j : ℕ) → i < length rs → j < length rs → ascends component_limit (parent_at c) (map_at c i).context (map_at c j).context ≡ starts_with (remapping_in s i).context (remapping_in s j).context
+  context-below i j h k = sym (below-is C.tree (map_at c i).context (map_at c j).context (context_listed i h) (context_listed j k)) ∙ rw (context_path i h, context_path j k)
 
   module _ (f : ℕ) (listed : f < length (nodes_in s)) (name : Text) where
     abbrev test : Remapping → Bool
     test r = applies (path_in s f) name r
 
     -- WHETHER ONE APPLIES, as the code has it
-    pub applies-is : (j : ℕ) → j < length rs → same (remapping_at s (place_at c j)).name name && ascends component_limit (parent_at c) f (context_at c j) ≡ test (remapping_in s j)
+    pub applies-is : (j : ℕ) → j < length rs → same (remapping_at s (map_at c j).place).name name && ascends component_limit (parent_at c) f (map_at c j).context ≡ test (remapping_in s j)
     unfolding applies
     applies-is j h =
-        rw (C.maps.places j no_remapping h, sym (below-is C.tree f (context_at c j) listed (context_listed j h)), context_path j h)
+        rw (map-places C j no_remapping h, sym (below-is C.tree f (map_at c j).context listed (context_listed j h)), context_path j h)
         (and-swap (same (remapping_in s j).name name) (starts_with (path_in s f) (remapping_in s j).context))
       where
         and-swap : (x y : Bool) → (x && y) ≡ (y && x)
@@ -78,15 +78,15 @@ module _ {s c : List ℕ} (C : CardIs s c) where
 
     further-can : (best : Option ℕ) (j : ℕ) → CanTake s (path_in s f) name best → j < length rs → test (remapping_in s j) ≡ true → CanTake s (path_in s f) name (Some (further c best j))
     further-can None j t h e = (h, e)
-    further-can (Some a) j t h e = go (ascends component_limit (parent_at c) (context_at c a) (context_at c j))
+    further-can (Some a) j t h e = go (ascends component_limit (parent_at c) (map_at c a).context (map_at c j).context)
       where
         go : (u : Bool) → CanTake s (path_in s f) name (Some (cond u a j))
         go true = t
         go false = (h, e)
 
-    pub can-within : (best : Option ℕ) → length rs ≤ remapping_limit → CanTake s (path_in s f) name best → Within c best
-    can-within None few t = tt
-    can-within (Some a) few t = (omega (arith, t.0), context-small a t.0)
+    pub can-within : (best : Option ℕ) → CanTake s (path_in s f) name best → Within c best
+    can-within None t = tt
+    can-within (Some a) t = (let f = C.few in omega (arith, t.0), context-small a t.0)
 
 -- THE LOOP: the first j were looked at
 pub record Taking (s : List ℕ) (file name : Text) (best : Option ℕ) (j : ℕ) : Type 0 where
@@ -97,7 +97,7 @@ pub taking_none : (s : List ℕ) (file name : Text) → Taking s file name None 
 unfolding remapping_for
 taking_none s file name = record { rest = sym (tried-longest context_size (applies file name) (decode s).remappings); can = tt }
 
-module _ {s c : List ℕ} (C : CardIs s c) {f : ℕ} (listed : f < length (nodes_in s)) {name : Text} {best : Option ℕ} {j : ℕ} (T : Taking s (path_in s f) name best j) where
+module _ {s : List ℕ} {c : Card} (C : CardIs s c) {f : ℕ} (listed : f < length (nodes_in s)) {name : Text} {best : Option ℕ} {j : ℕ} (T : Taking s (path_in s f) name best j) where
   longest-cut : j < length (decode s).remappings → longest context_size (applies (path_in s f) name) (drop j (decode s).remappings)
       ≡ longer context_size (only (applies (path_in s f) name) (remapping_in s j)) (longest context_size (applies (path_in s f) name) (drop (j + 1) (decode s).remappings))
   unfolding longest

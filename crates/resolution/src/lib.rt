@@ -10,7 +10,7 @@ ghost use Rattle.std.specs.Prelude.{◌≡◌};
 ghost use Rattle.resolution.specs.Call.{resolve as call_resolve};
 ghost use Rattle.resolution.specs.Told.{told};
 
-use card::CARD;
+use card::Card;
 use refusal::Refusal;
 pub use segments::Segments;
 pub use uses::resolve_path_internal;
@@ -35,7 +35,7 @@ pub struct Found {
 pub fn resolve(s: &[u8], importer: &[u8], u: &[u8]) -> Result<Found, Refusal>
     ensures { told result ≡ call_resolve s.now importer.now u.now }
 {
-    let mut card = [0u32; CARD];
-    reader::read(s, &mut card)?;
-    uses::resolve_in(s, &card, importer, u).map_err(|c| c.at(0))
+    let mut card = Card::empty();
+    let b = reader::read(s, &mut card)?;
+    uses::resolve_in(&b, importer, u).map_err(|c| c.at(0))
 }

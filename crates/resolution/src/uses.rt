@@ -2,27 +2,26 @@
 ghost use Rattle.std.specs.Prelude.{◌≡◌, ◌<◌, length};
 ghost use Rattle.bundle.specs.Decode.{decode};
 ghost use Rattle.bundle.specs.Read.{value};
-ghost use Rattle.card.specs.Layout.{card_size, node_limit, folders_of};
-ghost use Rattle.card.specs.Card.{CardIs, nodes_in};
+ghost use Rattle.card.specs.Layout.{node_limit};
+ghost use Rattle.card.specs.Card.{nodes_in};
 ghost use Rattle.resolution.specs.Resolution.{build_and_verify_path, check_local_file_imported_as_external, external, resolve_crate_path, resolve_path_internal};
 ghost use Rattle.resolution.specs.Call.{answer, lent};
 ghost use Rattle.resolution.specs.Told.{found_told, told_use};
-ghost use Rattle.resolution.specs.Indices.{lists_in, path_in, Mapped, Importer, IsFolder, resolved_at, itself_in};
+ghost use Rattle.resolution.specs.Indices.{lists_in, path_in, Importer, ImporterIs, IsFolder, resolved_at, itself_in};
 
 use crate::listing::{Spot, build_and_verify_path};
 use crate::package::remapping_for;
 use crate::{Found, Segments, Target};
-use card::CARD;
+use card::{Card, Carded};
 use refusal::Cause;
 
 // What is found at an index: the files come after the folders.
-fn resolved(card: &[u32; CARD], spot: Spot) -> Found
+fn resolved(card: &Card, spot: Spot) -> Found
     requires { 0 < spot.index }
-    ensures { found_told result ≡ resolved_at (folders_of card.now) spot.index spot.left }
+    ensures { found_told result ≡ resolved_at card.now.folders spot.index spot.left }
 {
-    let folders = card::folder_count(card);
-    let target = if spot.index > folders {
-        Target::File(spot.index - 1 - folders)
+    let target = if spot.index > card.folders {
+        Target::File(spot.index - 1 - card.folders)
     } else {
         Target::Folder(spot.index - 1)
     };
@@ -33,101 +32,104 @@ fn resolved(card: &[u32; CARD], spot: Spot) -> Found
 }
 
 // Whether index t has the package root of the file of index f.
-fn check_local_file_imported_as_external(s: &[u8], card: &[u32; CARD], f: usize, t: usize) -> bool
-    requires { CardIs s.now card.now × ((f < length (nodes_in s.now)) × (t < length (nodes_in s.now))) }
-    ensures { result ≡ check_local_file_imported_as_external (lists_in s.now) (path_in s.now f) (path_in s.now t) }
+fn check_local_file_imported_as_external(b: &Carded<'_>, f: usize, t: usize) -> bool
+    requires { (f < length (nodes_in b.now.bytes.now)) × (t < length (nodes_in b.now.bytes.now)) }
+    ensures { result ≡ check_local_file_imported_as_external (lists_in b.now.bytes.now) (path_in b.now.bytes.now f) (path_in b.now.bytes.now t) }
 {
-    let curr = card::nearest_marked(card, f);
-    let res = card::nearest_marked(card, t);
-    curr.is_some() && curr == res
+    match b.nearest_root(f) {
+        Some(curr) => b.nearest_root(t) == Some(curr),
+        None => false,
+    }
 }
 
 // The segments from the target of index base on.
 fn resolve_external_path(
-    s: &[u8],
-    card: &[u32; CARD],
+    b: &Carded<'_>,
     f: usize,
     base: usize,
     segments: Segments<'_>,
 ) -> Result<Found, Cause>
-    requires { CardIs s.now card.now × ((f < length (nodes_in s.now)) × IsFolder s.now base) }
-    ensures { told_use result ≡ answer (lists_in s.now) (external (lists_in s.now) (path_in s.now f) (build_and_verify_path (lists_in s.now) (path_in s.now base) segments.entry)) }
+    requires { (f < length (nodes_in b.now.bytes.now)) × IsFolder b.now.bytes.now base }
+    ensures { told_use result ≡ answer (lists_in b.now.bytes.now) (external (lists_in b.now.bytes.now) (path_in b.now.bytes.now f) (build_and_verify_path (lists_in b.now.bytes.now) (path_in b.now.bytes.now base) segments.entry)) }
 {
-    let Some(spot) = build_and_verify_path(s, card, base, segments) else {
+    let Some(spot) = build_and_verify_path(b, base, segments) else {
         return Err(Cause::NoLibraryFile);
     };
-    if check_local_file_imported_as_external(s, card, f, spot.index) {
+    if check_local_file_imported_as_external(b, f, spot.index) {
         return Err(Cause::OwnFile);
     }
-    Ok(resolved(card, spot))
+    Ok(resolved(b.card, spot))
 }
 
 // After a failed lookup: the importer itself, where it lies directly in the root of index base.
-fn itself(card: &[u32; CARD], f: usize, base: usize, left: usize) -> Result<Found, Cause>
+fn itself(card: &Card, f: usize, base: usize, left: usize) -> Result<Found, Cause>
     requires { (0 < f) × (f < node_limit) }
     ensures { told_use result ≡ itself_in card.now f base left }
 {
-    if card::parent_of(card, f) != base {
+    if usize::from(card.nodes[f].parent) != base {
         return Err(Cause::NoFile);
     }
     Ok(resolved(card, Spot { index: f, left }))
 }
 
-// Below the file's package root.
-fn resolve_crate_path(
-    s: &[u8],
-    card: &[u32; CARD],
-    f: usize,
-    segments: Segments<'_>,
-) -> Result<Found, Cause>
-    requires { CardIs s.now card.now × Importer s.now f }
-    ensures { told_use result ≡ answer (lists_in s.now) (resolve_crate_path (lists_in s.now) (path_in s.now f) segments.entry) }
+// Below the file's package root. The importer is its index, no struct with the bundle: so the driver and the card have it.
+fn resolve_crate_path(b: &Carded<'_>, f: usize, segments: Segments<'_>) -> Result<Found, Cause>
+    requires { Importer b.now.bytes.now f }
+    ensures { told_use result ≡ answer (lists_in b.now.bytes.now) (resolve_crate_path (lists_in b.now.bytes.now) (path_in b.now.bytes.now f) segments.entry) }
 {
-    let Some(root) = card::nearest_marked(card, f) else {
+    let Some(root) = b.nearest_root(f) else {
         return Err(Cause::NoRoot);
     };
     let n = segments.len();
-    match build_and_verify_path(s, card, root, segments) {
-        Some(spot) => Ok(resolved(card, spot)),
-        None => itself(card, f, root, n),
+    match build_and_verify_path(b, root, segments) {
+        Some(spot) => Ok(resolved(b.card, spot)),
+        None => itself(b.card, f, root, n),
     }
 }
 
 // A use in the file of index f. Ruled out: a file below another package root than the importer's for `crate`; 23 for a `crate` path
 // that fails in a file directly in its package root, which resolves to itself.
 pub fn resolve_path_internal(
-    s: &[u8],
-    card: &[u32; CARD],
+    b: &Carded<'_>,
     f: usize,
     mut segments: Segments<'_>,
 ) -> Result<Found, Cause>
-    requires { Mapped s.now card.now × Importer s.now f }
-    ensures { told_use result ≡ answer (lists_in s.now) (resolve_path_internal (lists_in s.now) (path_in s.now f) segments.entry) }
+    requires { Importer b.now.bytes.now f }
+    ensures { told_use result ≡ answer (lists_in b.now.bytes.now) (resolve_path_internal (lists_in b.now.bytes.now) (path_in b.now.bytes.now f) segments.entry) }
 {
     let Some(name) = segments.next() else {
         return Err(Cause::EmptyUse);
     };
     if names::is_crate(name) {
-        return resolve_crate_path(s, card, f, segments);
+        return resolve_crate_path(b, f, segments);
     }
-    let Some(taken) = remapping_for(s, card, f, name) else {
+    let Some(taken) = remapping_for(b, f, name) else {
         return Err(Cause::UnknownLibrary);
     };
-    let target = card::remapping_target(card, taken);
-    resolve_external_path(s, card, f, target, segments)
+    resolve_external_path(b, f, usize::from(b.card.maps[taken].target), segments)
 }
 
-// The arguments of a checked bundle: 4, the segments' count and forms, 29, then 20 to 25.
-pub fn resolve_in(s: &[u8], card: &[u32; CARD], file: &[u8], u: &[u8]) -> Result<Found, Cause>
-    requires { Mapped s.now card.now }
-    ensures { told_use result ≡ lent (value (decode s.now)) file.now u.now }
+// The index of the file of a path.
+fn importer_of(b: &Carded<'_>, file: &[u8]) -> Option<usize>
+    ensures { ImporterIs b.now.bytes.now file.now result }
+{
+    let f = b.find_path(file)?;
+    if f <= b.card.folders {
+        return None;
+    }
+    Some(f)
+}
+
+// The arguments of a call: 4, the segments' count and forms, 29, then 20 to 25.
+pub fn resolve_in(b: &Carded<'_>, file: &[u8], u: &[u8]) -> Result<Found, Cause>
+    ensures { told_use result ≡ lent (value (decode b.now.bytes.now)) file.now u.now }
 {
     if !names::is_path(file) {
         return Err(Cause::BadPath);
     }
     let segments = Segments::given(u)?;
-    match card::find_path(s, card, file) {
-        Some(f) if f > card::folder_count(card) => resolve_path_internal(s, card, f, segments),
-        _ => Err(Cause::UnknownUnit),
-    }
+    let Some(f) = importer_of(b, file) else {
+        return Err(Cause::UnknownUnit);
+    };
+    resolve_path_internal(b, f, segments)
 }

@@ -8,17 +8,12 @@ use std::alloc::{AllocError, Global};
 use std::io;
 use std::io::Write;
 
-// A number in one byte: the largest where it is larger.
-fn capped(n: usize) -> u8 {
-    u8::try_from(n).unwrap_or(u8::MAX)
-}
-
-// A use's path as a bundle has it: the number of segments, and each led by its length.
+// A use's path as a bundle has it: the number of segments, and each led by its length; a byte each, and 255 where it is more.
 fn encode(alloc: Global, segments: &[&str]) -> Result<Vec<u8>, AllocError> {
     let mut bytes = Vec::new(alloc);
-    bytes.push(capped(segments.len()))?;
+    bytes.push(segments.len().min(255) as u8)?;
     for segment in segments {
-        bytes.push(capped(segment.len()))?;
+        bytes.push(segment.len().min(255) as u8)?;
         bytes.extend_from_slice(segment.as_bytes())?;
     }
     Ok(bytes)
@@ -86,7 +81,7 @@ fn answer<W: Write>(
     let mut words = line.split(' ');
     match (words.next(), words.next(), words.next()) {
         (Some("bundle"), Some(hex), _) => {
-            *bundle = lines::unhex(alloc, hex)?;
+            *bundle = lines::unhexed(alloc, hex)?;
             tell_bundle(out, bundle)
         }
         (Some("use"), Some(importer), Some(path)) => {

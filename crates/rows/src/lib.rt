@@ -1,185 +1,91 @@
 // A tree's entries as rows of numbers, for programs in other languages: how a module tree is told outside.
 #![tactic(auto)]
 
-ghost use Rattle.std.specs.Prelude.{◌≡◌, ◌+◌, ◌<◌, ◌≤◌, cond, [], ◌∷◌, length, get_or};
-ghost use Rattle.scope_tree.specs.Trees.{packed_in, flat_of};
-ghost use Rattle.scope_tree.specs.Rows.{is_own, row};
-ghost use Rattle.rows.specs.Written.{put_at, written};
-ghost use Rattle.rows.specs.TreeRows.{numbers, Listed};
+ghost use Rattle.std.specs.Prelude.{◌≡◌, ◌<◌, ◌≤◌, get_or};
+ghost use Rattle.scope_tree.specs.Trees.{tree_in, flat_of, view};
+ghost use Rattle.scope_tree.specs.Views.{rows};
+ghost use Rattle.rows.specs.Written.{written};
+ghost use Rattle.rows.specs.TreeRows.{numbers, scope_of, time_of, Listed};
 
-use names::Name;
-use scopes::{CELLS, OPENED};
+use scope_tree::look::{View, cell};
+use scope_tree::{KINDS, Kind, ORIGINS, TARGETS, TIMES};
 
-fn put_wide(out: &mut [u64], at: usize, v: u64)
-    ensures { (out.new ≡ put_at out.old at v) × (length out.new ≡ length out.old) }
+// How many numbers tell an entry.
+const ROW: usize = 11;
+
+// What entry i shows where it is a copy: a scope and a time. Zeros of a module's own.
+#[tactic(auto, using(scope_tree::specs::Pack::parts), unfolding(scope_tree::specs::Rows::is_own))]
+fn shown(tree: &View, i: usize) -> (u16, u16)
+    requires { i < 1024 }
+    ensures { (result.0 ≡ scope_of (rows (view (tree_in tree.now)) i).body) × (result.1 ≡ time_of (rows (view (tree_in tree.now)) i).body) }
 {
-    if at < out.len() {
-        out[at] = v;
+    let kind = cell(tree.cells, KINDS, i);
+    if kind == u16::from(Kind::Module) && cell(tree.cells, ORIGINS, i) == 0 {
+        return (0, 0);
     }
+    let target = cell(tree.cells, TARGETS, i);
+    (target, cell(tree.cells, TIMES, i))
 }
 
-fn put_all(out: &mut [u64], at: usize, row: [u64; 11])
+// The numbers of entry i.
+#[tactic(auto, using(scope_tree::specs::Pack::parts, crate::specs::TreeRows::origin_came))]
+fn row_of(tree: &View, i: usize) -> [u64; ROW]
+    requires { i < 1024 }
+    ensures { result ≡ numbers (rows (view (tree_in tree.now)) i) }
+{
+    let (target, time) = shown(tree, i);
+    let name = tree.name(i);
+    [
+        u64::from(cell(tree.cells, KINDS, i)),
+        u64::from(tree.visible[i] == 1),
+        u64::from(tree.scopes[i]),
+        u64::from(tree.marks[i]),
+        u64::from(cell(tree.cells, ORIGINS, i)),
+        u64::from(target),
+        u64::from(time),
+        name.w0,
+        name.w1,
+        name.w2,
+        name.w3,
+    ]
+}
+
+// As much of a row, from `at` on, as there is place for.
+fn put_part(out: &mut [u64], at: usize, row: [u64; ROW])
     requires { at < 65536 }
     ensures { out.new ≡ written out.old at row }
 {
-    let mut i: usize = 0;
-    while i < 11 {
-        put_wide(out, at + i, row[i]);
-        i += 1;
+    for (i, number) in row.iter().enumerate() {
+        if at + i < out.len() {
+            out[at + i] = *number;
+        }
     }
 }
 
-fn one(b: bool) -> u64
-    ensures { result ≡ cond b 1 0 }
-{
-    if b { 1 } else { 0 }
-}
-
-fn is_own(kind: u16, origin: u16) -> bool
-    ensures { result ≡ is_own kind origin }
-{
-    if kind != 3 {
-        return false;
-    }
-    origin == 0
-}
-
-fn unless(own: bool, x: u16) -> u64
-    ensures { result ≡ cond own 0 x }
-{
-    if own { 0 } else { x as u64 }
-}
-
-// Eleven numbers where all their places are there.
-fn put_eleven(
-    out: &mut [u64],
-    at: usize,
-    kind: u64,
-    visible: u64,
-    scope: u64,
-    mark: u64,
-    origin: u64,
-    target: u64,
-    time: u64,
-    w0: u64,
-    w1: u64,
-    w2: u64,
-    w3: u64,
-)
-    requires { (at < 65536) × (at + 11 ≤ length out.old) }
-    ensures { out.new ≡ written out.old at (kind ∷ visible ∷ scope ∷ mark ∷ origin ∷ target ∷ time ∷ w0 ∷ w1 ∷ w2 ∷ w3 ∷ []) }
-{
-    out[at] = kind;
-    out[at + 1] = visible;
-    out[at + 2] = scope;
-    out[at + 3] = mark;
-    out[at + 4] = origin;
-    out[at + 5] = target;
-    out[at + 6] = time;
-    out[at + 7] = w0;
-    out[at + 8] = w1;
-    out[at + 9] = w2;
-    out[at + 10] = w3;
-}
-
-// An entry's eleven numbers.
-fn put_row(
-    out: &mut [u64],
-    at: usize,
-    kind: u16,
-    visible: u8,
-    scope: u16,
-    mark: u16,
-    origin: u16,
-    target: u16,
-    time: u16,
-    n: Name,
-)
+// A row from `at` on. One that fits is stored with no further test, in half as many steps.
+fn put(out: &mut [u64], at: usize, row: [u64; ROW])
     requires { at < 65536 }
-    ensures { out.new ≡ written out.old at (numbers (row kind visible scope mark n origin target time)) }
+    ensures { out.new ≡ written out.old at row }
 {
-    let own = is_own(kind, origin);
-    let seen = one(visible == 1);
-    let copied = unless(own, target);
-    let until = unless(own, time);
-    if at + 11 <= out.len() {
-        put_eleven(
-            out,
-            at,
-            kind as u64,
-            seen,
-            scope as u64,
-            mark as u64,
-            origin as u64,
-            copied,
-            until,
-            n.w0,
-            n.w1,
-            n.w2,
-            n.w3,
-        );
-    } else {
-        let numbers = [
-            kind as u64,
-            seen,
-            scope as u64,
-            mark as u64,
-            origin as u64,
-            copied,
-            until,
-            n.w0,
-            n.w1,
-            n.w2,
-            n.w3,
-        ];
-        put_all(out, at, numbers);
+    if out.len() < at + ROW {
+        put_part(out, at, row);
+        return;
+    }
+    for (i, number) in row.iter().enumerate() {
+        out[at + i] = *number;
     }
 }
 
 // A tree's entries, eleven numbers each: kind, visibility, scope, mark, origin, what a copy shows (a scope and a time), and the
 // name's four words; as far as there is place. Gives how many entries there are. Ruled out: an entry left out; a copy that shows a
 // later time.
-pub fn put_rows<'a>(
-    opened: &'a [u16; OPENED],
-    cells: &'a [u16; CELLS],
-    visible: &'a [u8; 1024],
-    scopes: &'a [u16; 1024],
-    marks: &'a [u16; 1024],
-    n0: &'a [u64; 1024],
-    n1: &'a [u64; 1024],
-    n2: &'a [u64; 1024],
-    n3: &'a [u64; 1024],
-    out: &mut [u64],
-) -> usize
-    requires { get_or opened.now 9 0 ≤ 1024 }
-    ensures { Listed (flat_of (packed_in opened.now cells.now visible.now scopes.now marks.now n0.now n1.now n2.now n3.now)).entries out.old result out.new }
+pub fn put_rows(tree: &View, out: &mut [u64]) -> usize
+    requires { get_or tree.now.opened.now 9 0 ≤ 1024 }
+    ensures { Listed (flat_of (tree_in tree.now)).entries out.old result out.new }
 {
-    let count = scopes::count_of(opened);
-    let mut i: usize = 0;
-    while i < count {
-        let n = Name {
-            w0: n0[i],
-            w1: n1[i],
-            w2: n2[i],
-            w3: n3[i],
-        };
-        let kind = scopes::kind_at(cells, i);
-        let origin = scopes::origin_at(cells, i);
-        let target = scopes::target_at(cells, i);
-        let time = scopes::time_at(cells, i);
-        put_row(
-            out,
-            i * 11,
-            kind,
-            visible[i],
-            scopes[i],
-            marks[i],
-            origin,
-            target,
-            time,
-            n,
-        );
-        i += 1;
+    let count = tree.count();
+    for i in 0..count {
+        put(out, i * ROW, row_of(tree, i));
     }
-    i
+    count
 }

@@ -8,7 +8,7 @@ ghost use Rattle.scope_tree.specs.Forms.{fault, Checked};
 use names::Name;
 use refusal::Cause;
 
-// The byte at `at`, 0 past the end.
+// The byte at `at`, 0 past the end. bundle reads its own by the width of a field; the tree stands on no bundle.
 pub fn byte_at(s: &[u8], at: usize) -> usize
     ensures { (result ≡ get_or s.now at 0) × (result < 256) }
 {

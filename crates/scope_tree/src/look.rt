@@ -214,7 +214,7 @@ impl<'a> View<'a> {
     }
 
     // The name of entry i.
-    fn name(&self, i: usize) -> Name
+    pub fn name(&self, i: usize) -> Name
         requires { i < 1024 }
         ensures { result ≡ name_at self.now.n0.now self.now.n1.now self.now.n2.now self.now.n3.now i }
     {

@@ -4,5 +4,3 @@ pub mod Scopes
 pub mod Steps
 pub mod Fit
 pub mod Units
-pub mod Cursor
-pub mod Loop

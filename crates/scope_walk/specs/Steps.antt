@@ -1,66 +1,35 @@
 -- The scope walk as the code makes it: call by call over a tree's arrays, up to the first that is refused. Assumes nothing.
-use Rattle.std.specs.Prelude.{ℕ, zero, suc, ◌+◌, ◌-◌, ◌≤◌, ◌<◌, Bool, true, false, cond, ◌≡◌, refl, eqb, length, take, drop}
+use Rattle.std.specs.Prelude.{ℕ, suc, ◌+◌, ◌-◌, ◌≤◌, ◌<◌, true, cond, ◌≡◌, refl, eqb, length, Option, Some, None, Result, Ok, Err}
+use Rattle.std.specs.List.{flat_map}
 use native.Mathlib.Omega.{arith}
-use Rattle.std.proofs.Common.{sym, ap, ◌∙◌, take_at, eq-eqb, ne_eqb}
+use Rattle.std.proofs.Common.{sym, ap, ◌∙◌, eq-eqb, ne_eqb}
 use Rattle.std.proofs.Math.Path.{subst}
 use mathlib.Core.List.{List, [], ◌∷◌, ◌++◌, append_assoc, Memᴰ}
+use Rattle.refusal.specs.declared.Cause.{Cause}
+use Rattle.refusal.specs.declared.Refusal.{Refusal}
+use Rattle.refusal.specs.Numbers.{number_of as number}
 use Rattle.bundle.specs.Bundle.{Text, Items, none, named, use_of, module_of, ignored}
 use Rattle.bundle.specs.Form.{Every, FormedElement}
-use Rattle.bundle.specs.Limits.{segment_limit, element_limit, use_kind, module_kind, ignored_kind}
-use Rattle.bundle.specs.Encode.{string}
+use Rattle.bundle.specs.Limits.{element_limit, use_kind, module_kind, ignored_kind}
 use Rattle.bundle.specs.Scan.{byte, text}
 use Rattle.bundle.specs.Decode.{after, after_length, item_at, items_at, decode}
-use Rattle.bundle.specs.Access.{inside_of, items-end, items-step, item_module, item_use, item-ignored, item-named, by_kind, kind_of, rest_of, inner_of, visibility_of, first_inner, first-visibility}
-use Rattle.encoder.specs.Started.{started}
+use Rattle.bundle.specs.Access.{inside_of, items-step, item_module, item_use, item-ignored, item-named, by_kind, kind_of, inner_of}
 use Rattle.scope_tree.specs.Form.{Request, enters, exits, resolves_use, call_of}
-use Rattle.scopes.specs.Meets.{Outcome, Meets, number_of_told, request, declares, left}
+use Rattle.scopes.specs.Meets.{Meets, number_of_told, declares, left}
 use Rattle.scope_tree.specs.Note.{accepted}
 use Rattle.scope_tree.specs.Views.{told}
-use Rattle.scope_tree.specs.Told.{Told, Done, Mark, Refused}
+use Rattle.scope_tree.specs.Told.{Told, Done, Mark, Refused, call_told, number-some}
 use Rattle.scope_tree.specs.Step.{Answer, ok, marked, refused, Model, step}
 use Rattle.scope_tree.specs.Flat.{Flat, flat}
 use Rattle.scope_tree.specs.Trees.{Good, flat_of}
 use Rattle.scope_tree.specs.declared.Tree.{Tree}
 use Rattle.discovery.specs.Discovery.{Use}
 use Rattle.discovery.specs.Walk.{use_at}
-use Rattle.assembly.specs.Assemble.{file_of, rewrite_use, rewrite_items}
+use Rattle.assembly.specs.Assemble.{rewrite_use, rewrite_items}
 use Rattle.assembly.specs.Paths.{FormedPath}
-use Rattle.assembly.specs.Targets.{UnitOf}
-use Rattle.items.specs.UseRoom.{use_few}
-use Rattle.assembly.specs.Walk.{segments_at, use_bytes, one_at, kind-byte, kind_of_lem, next-is}
+use Rattle.bundle.specs.Places.{places, places_none, places_more, over_places}
+use Rattle.assembly.specs.Walk.{segments_at, elements_at, use_bytes, one_at, by_place, inside_is, NamedAt}
 use Rattle.scope_walk.specs.Scopes.{Asked, asked, is_public, scope_calls, Walked, done, stopped, onwards, walk_from}
-
--- A DECLARATION'S CALL, by its code
-abbrev pub item_code : ℕ → ℕ
-item_code k = cond (eqb k 2) 5 (cond (eqb k 4) 4 3)
-
-pub code-declares : (k : ℕ) (s : List ℕ) (v : Bool) (m : ℕ) → request (item_code k) s v m ≡ declares k s v m
-code-declares k s v m = go (eqb k 2) (eqb k 4)
-  where
-    go : (a b : Bool) → request (cond a 5 (cond b 4 3)) s v m ≡ cond a (Rattle.scope_tree.specs.Form.inserts_function s v m) (cond b (Rattle.scope_tree.specs.Form.inserts_enum s v m) (Rattle.scope_tree.specs.Form.inserts_alias s v m))
-    go true b = refl
-    go false true = refl
-    go false false = refl
-
--- A CALL WITH ITS ARGUMENTS, as the code reads them
-pub visible-is : (s : List ℕ) (at v : ℕ) → ((d e : ℕ) → at < e → v ≡ visibility_of (items_at d s e at)) → is_public v ≡ is_public (byte s (at + 3))
-visible-is s at v f = ap is_public (f 0 (suc at) (omega arith) ∙ first-visibility 0 s (suc at) at (omega arith))
-
-pub meets_request : {t : Tree} {r : Outcome} {code code' m m' : ℕ} {bytes bytes' : List ℕ} {v v' : Bool} → code ≡ code' → bytes ≡ bytes' → v ≡ v' → m ≡ m'
-    → Meets t (request code bytes v m) r → Meets t (request code' bytes' v' m') r
-meets_request {t} {r} a b c d h = subst (λ (q : Request). Meets t q r) (λ i. request (a i) (b i) (c i) (d i)) h
-
--- what was written to the start of a buffer
-pub taken_start : (w out last : List ℕ) (n : ℕ) → n ≡ length w → last ≡ started w out → take n last ≡ w
-taken_start w out last n h e = ap (take n) e ∙ take_at w (drop (length w) out) n (sym h)
-
-pub taken-length : (w out last : List ℕ) (n : ℕ) → n ≡ length w → last ≡ started w out → n ≡ length (take n last)
-taken-length w out last n h e = h ∙ sym (ap length (taken_start w out last n h e))
-
--- a string that was
-pub taken-string : (w out last : List ℕ) → last ≡ started (string w) out → text last 0 ≡ w
-unfolding string
-taken-string w out last e = ap (λ (l : List ℕ). text l 0) e ∙ take_at w (drop (length (string w)) out) (length w) refl
 
 -- CALLS ONE AFTER ANOTHER
 abbrev and_then : {X : Type 0} → Walked X → (X → Walked X) → Walked X
@@ -85,6 +54,11 @@ pub record Stop : Type 0 where
 
 abbrev pub stop_at : ℕ → ℕ → Stop
 stop_at number place = record { number = number; place = place }
+
+-- the same of what the code answers
+abbrev pub stop_of : {A : Type 0} → Result A Refusal → Stop
+stop_of (Ok x) = stop_at 0 0
+stop_of (Err e) = stop_at (number e.cause) e.place
 
 -- what a stop tells: 0 and the tree, or a number and a place
 abbrev pub reached : Stop → Flat → Walked Flat
@@ -150,85 +124,62 @@ item_calls s file depth at = scope_calls (rewrite_items (rewrite_use (decode s) 
 unfoldable pub items_calls : List ℕ → Text → ℕ → ℕ → ℕ → List Asked
 items_calls s file depth end at = scope_calls (rewrite_items (rewrite_use (decode s) file) (items_at depth s end at))
 
-module _ (s : List ℕ) (file : Text) (depth end at : ℕ) where
-  pub calls-end : end ≤ at → items_calls s file depth end at ≡ []
-  unfolding items_calls scope_calls rewrite_items
-  calls-end h = rw (items-end depth s end at h)
+calls_first : (s : List ℕ) (file : Text) (depth at : ℕ) (rest : Items)
+    → scope_calls (rewrite_items (rewrite_use (decode s) file) (item_at (inside_of depth s) s at rest)) ≡ item_calls s file depth at ++ scope_calls (rewrite_items (rewrite_use (decode s) file) rest)
+unfolding item_calls scope_calls rewrite_items
+calls_first s file depth at rest =
+    by_kind (inside_of depth s) s at rest
+    (λ i. scope_calls (rewrite_items (rewrite_use (decode s) file) i) ≡ scope_calls (rewrite_items (rewrite_use (decode s) file) (one_at depth s at)) ++ scope_calls (rewrite_items (rewrite_use (decode s) file) rest))
+    (λ k. rw (item_module (inside_of depth s) s at none k) (ap (λ (l : List Asked). asked at (enters (text s (at + 4)) (is_public (byte s (at + 3))) at) ∷ l)
+    (sym (append_assoc (scope_calls (rewrite_items (rewrite_use (decode s) file) (inside_of depth s (after_length s at) (after s (at + 4))))) (asked at exits ∷ []) (scope_calls (rewrite_items (rewrite_use (decode s) file) rest))))))
+    (λ k. let n : byte s (at + 2) ≡ module_kind → ⊥ = λ (e : byte s (at + 2) ≡ module_kind). omega arith in
+    rw (item_use (inside_of depth s) s at none n k))
+    (λ k. let n : byte s (at + 2) ≡ module_kind → ⊥ = λ (e : byte s (at + 2) ≡ module_kind). omega arith in
+    let m : byte s (at + 2) ≡ use_kind → ⊥ = λ (e : byte s (at + 2) ≡ use_kind). omega arith in
+    rw (item-ignored (inside_of depth s) s at none n m k))
+    (λ n m l. rw (item-named (inside_of depth s) s at none n m l))
 
-  pub calls-step : at < end → items_calls s file depth end at ≡ item_calls s file depth at ++ items_calls s file depth end (after_length s at)
-  unfolding items_calls item_calls scope_calls rewrite_items
-  calls-step h =
-      rw (items-step depth s end at h)
-      (by_kind (inside_of depth s) s at (items_at depth s end (after_length s at))
-      (λ i. scope_calls (rewrite_items (rewrite_use (decode s) file) i) ≡ scope_calls (rewrite_items (rewrite_use (decode s) file) (one_at depth s at)) ++ items_calls s file depth end (after_length s at))
-      (λ k. rw (item_module (inside_of depth s) s at none k) (ap (λ (l : List Asked). asked at (enters (text s (at + 4)) (is_public (byte s (at + 3))) at) ∷ l)
-      (sym (append_assoc (scope_calls (rewrite_items (rewrite_use (decode s) file) (inside_of depth s (after_length s at) (after s (at + 4))))) (asked at exits ∷ []) (items_calls s file depth end (after_length s at))))))
-      (λ k. let n : byte s (at + 2) ≡ module_kind → ⊥ = λ (e : byte s (at + 2) ≡ module_kind). omega arith in
-      rw (item_use (inside_of depth s) s at none n k))
-      (λ k. let n : byte s (at + 2) ≡ module_kind → ⊥ = λ (e : byte s (at + 2) ≡ module_kind). omega arith in
-      let m : byte s (at + 2) ≡ use_kind → ⊥ = λ (e : byte s (at + 2) ≡ use_kind). omega arith in
-      rw (item-ignored (inside_of depth s) s at none n m k))
-      (λ n m l. rw (item-named (inside_of depth s) s at none n m l)))
-
--- the next item, as the code reads it
-pub next-calls : (s : List ℕ) (file : Text) (depth end at next : ℕ) → at < end → ((d e : ℕ) → at < e → items_at d s e next ≡ rest_of (items_at d s e at))
-    → items_calls s file depth end at ≡ item_calls s file depth at ++ items_calls s file depth end next
-unfolding items_calls
-next-calls s file depth end at next h f =
-    calls-step s file depth end at h ∙ ap (λ (i : Items). item_calls s file depth at ++ scope_calls (rewrite_items (rewrite_use (decode s) file) i)) (sym (next-is s depth end at next h f))
-
--- what is inside a module
-inside_is : (s : List ℕ) (at k : ℕ) (kind : (d e : ℕ) → at < e → k ≡ kind_of (items_at d s e at)) (depth end' at' : ℕ) → k ≡ module_kind → (depth ≡ 0 → ⊥)
-    → ((d e : ℕ) → at < e → kind_of (items_at (suc d) s e at) ≡ module_kind → items_at d s end' at' ≡ inner_of (items_at (suc d) s e at))
-    → inside_of depth s (after_length s at) (after s (at + 4)) ≡ items_at (depth - 1) s end' at'
-inside_is s at k kind zero end' at' e z inner = absurd (z refl)
-inside_is s at k kind (suc d) end' at' e z inner =
-    let h : at < suc at = omega arith in
-    let f = kind_of_lem s at k kind (suc d) (suc at) h ∙ e in
-    let y : suc d - 1 ≡ d = omega arith in
-    rw y (sym (inner d (suc at) h f ∙ first_inner d s (suc at) at h f))
+-- items by their places
+pub calls-places : (s : List ℕ) (file : Text) (depth end at : ℕ) → items_calls s file depth end at ≡ flat_map (item_calls s file depth) (places s end at)
+unfolding items_calls scope_calls rewrite_items
+calls-places s file depth end at =
+    over_places depth s (λ i. scope_calls (rewrite_items (rewrite_use (decode s) file) i)) (item_calls s file depth) refl (λ a rest. calls_first s file depth a rest) end at
 
 -- AN ITEM BY ITS KIND, as the code reads it
-module _ (s : List ℕ) (at k : ℕ) (kind : (d e : ℕ) → at < e → k ≡ kind_of (items_at d s e at)) (file : Text) (depth : ℕ) where
-  pub ignored-calls : k ≡ ignored_kind → item_calls s file depth at ≡ []
+module _ (s : List ℕ) (at : ℕ) (file : Text) (depth : ℕ) where
+  pub ignored-calls : byte s (at + 2) ≡ ignored_kind → item_calls s file depth at ≡ []
   unfolding item_calls scope_calls rewrite_items
-  ignored-calls e =
-      let b : byte s (at + 2) ≡ ignored_kind = kind-byte s at k kind ∙ e in
+  ignored-calls b =
       rw (item-ignored (inside_of depth s) s at none (λ (q : byte s (at + 2) ≡ module_kind). omega arith) (λ (q : byte s (at + 2) ≡ use_kind). omega arith) b)
 
-  pub use_calls : k ≡ use_kind → item_calls s file depth at ≡ asked at (resolves_use (use_bytes s file at) (is_public (byte s (at + 3)))) ∷ []
+  pub use_calls : byte s (at + 2) ≡ use_kind → item_calls s file depth at ≡ asked at (resolves_use (use_bytes s file at) (is_public (byte s (at + 3)))) ∷ []
   unfolding item_calls scope_calls rewrite_items use_bytes
-  use_calls e =
-      let b : byte s (at + 2) ≡ use_kind = kind-byte s at k kind ∙ e in
-      rw (item_use (inside_of depth s) s at none (λ (q : byte s (at + 2) ≡ module_kind). omega arith) b)
+  use_calls b = rw (item_use (inside_of depth s) s at none (λ (q : byte s (at + 2) ≡ module_kind). omega arith) b)
 
-  pub named-calls : (k ≡ ignored_kind → ⊥) → (k ≡ use_kind → ⊥) → (k ≡ module_kind → ⊥)
-      → item_calls s file depth at ≡ asked at (declares (byte s (at + 2)) (text s (at + 4)) (is_public (byte s (at + 3))) at) ∷ []
+  pub named-calls : (n : ℕ) → NamedAt s at n → item_calls s file depth at ≡ asked at (declares n (text s (at + 4)) (is_public (byte s (at + 3))) at) ∷ []
   unfolding item_calls scope_calls rewrite_items
-  named-calls n6 n3 n5 =
-      rw (item-named (inside_of depth s) s at none (λ q. n5 (sym (kind-byte s at k kind) ∙ q)) (λ q. n3 (sym (kind-byte s at k kind) ∙ q)) (λ q. n6 (sym (kind-byte s at k kind) ∙ q)))
+  named-calls n t = rw (item-named (inside_of depth s) s at none t.no_module t.no_use t.no_ignored, t.is)
 
-  module_with : (inner : Items) → k ≡ module_kind → inside_of depth s (after_length s at) (after s (at + 4)) ≡ inner
-      → item_calls s file depth at ≡ asked at (enters (text s (at + 4)) (is_public (byte s (at + 3))) at) ∷ (scope_calls (rewrite_items (rewrite_use (decode s) file) inner) ++ (asked at exits ∷ []))
-  unfolding item_calls scope_calls rewrite_items
-  module_with inner e i =
-      let b : byte s (at + 2) ≡ module_kind = kind-byte s at k kind ∙ e in
-      rw (item_module (inside_of depth s) s at none b, i)
+  -- what is inside a module
+  unfoldable pub inside_calls : List Asked
+  inside_calls = scope_calls (rewrite_items (rewrite_use (decode s) file) (inside_of depth s (after_length s at) (after s (at + 4))))
 
-  pub flat-calls : k ≡ module_kind → depth ≡ 0 → item_calls s file depth at ≡ asked at (enters (text s (at + 4)) (is_public (byte s (at + 3))) at) ∷ (asked at exits ∷ [])
-  unfolding scope_calls rewrite_items
-  flat-calls e z = module_with none e (rw z)
+  module _ (b : byte s (at + 2) ≡ module_kind) where
+    pub module_calls : item_calls s file depth at ≡ asked at (enters (text s (at + 4)) (is_public (byte s (at + 3))) at) ∷ (inside_calls ++ (asked at exits ∷ []))
+    unfolding item_calls scope_calls rewrite_items inside_calls
+    module_calls = rw (item_module (inside_of depth s) s at none b) refl
 
-  pub module_calls : (end' at' : ℕ) → k ≡ module_kind → (depth ≡ 0 → ⊥)
-      → ((d e : ℕ) → at < e → kind_of (items_at (suc d) s e at) ≡ module_kind → items_at d s end' at' ≡ inner_of (items_at (suc d) s e at))
-      → item_calls s file depth at ≡ asked at (enters (text s (at + 4)) (is_public (byte s (at + 3))) at) ∷ (items_calls s file (depth - 1) end' at' ++ (asked at exits ∷ []))
-  unfolding items_calls
-  module_calls end' at' e z inner = module_with (items_at (depth - 1) s end' at') e (inside_is s at k kind depth end' at' e z inner)
+    pub inside_none : depth ≡ 0 → inside_calls ≡ []
+    unfolding scope_calls rewrite_items inside_calls
+    inside_none z = rw z refl
+
+    pub inside_some : (end' at' : ℕ) → 0 < depth
+        → ((d e : ℕ) → at < e → kind_of (items_at (suc d) s e at) ≡ module_kind → items_at d s end' at' ≡ inner_of (items_at (suc d) s e at))
+        → inside_calls ≡ items_calls s file (depth - 1) end' at'
+    unfolding items_calls inside_calls
+    inside_some end' at' z inner = ap (λ (i : Items). scope_calls (rewrite_items (rewrite_use (decode s) file) i)) (inside_is s at b depth end' at' z inner)
 
 -- WHAT THE CODE NEEDS OF THE ITEMS: two bytes hold a mark, and a use is in form, so that it fits its place, and one of the given uses
-abbrev pub use_size : ℕ
-use_size = 2681
-
 unfoldable pub Plain : List Use → Items → Type 0
 Plain us none = Unit {0}
 Plain us (named head rest) = (head.mark < 65536) × Plain us rest
@@ -246,42 +197,79 @@ plain-item us inside s at rest =
     (λ k f. (rw (item-ignored inside s at none (λ (e : byte s (at + 2) ≡ module_kind). omega arith) (λ (e : byte s (at + 2) ≡ use_kind). omega arith) k) tt, f))
     (λ n m l f. (rw (item-named inside s at none n m l) (f.0, tt), f.1))
 
-pub plain-next : (us : List Use) (s : List ℕ) (depth end at next : ℕ) → at < end → ((d e : ℕ) → at < e → items_at d s e next ≡ rest_of (items_at d s e at))
-    → Plain us (items_at depth s end at) → Plain us (one_at depth s at) × Plain us (items_at depth s end next)
-plain-next us s depth end at next h f b =
-    let t = plain-item us (inside_of depth s) s at (items_at depth s end (after_length s at)) (subst (Plain us) (items-step depth s end at h) b) in
-    (t.0, subst (Plain us) (sym (next-is s depth end at next h f)) t.1)
+-- at each place
+pub plain-places : (us : List Use) (s : List ℕ) (depth end at : ℕ) → Plain us (items_at depth s end at) → Every (λ a. (a < end) × Plain us (one_at depth s a)) (places s end at)
+unfolding Every
+plain-places us s depth end =
+    by_place s end (λ a. Plain us (items_at depth s end a) → Every (λ c. (c < end) × Plain us (one_at depth s c)) (places s end a))
+    (λ a h f. rw (places_none s end a h) tt)
+    (λ a h k f. let t = plain-item us (inside_of depth s) s a (items_at depth s end (after_length s a)) (subst (Plain us) (items-step depth s end a h) f) in
+    rw (places_more s end a h) ((h, t.0), k t.1))
 
-pub plain-first : (us : List Use) (s : List ℕ) (depth end at : ℕ) → at < end → Plain us (items_at depth s end at) → Plain us (one_at depth s at)
-plain-first us s depth end at h b = (plain-item us (inside_of depth s) s at (items_at depth s end (after_length s at)) (subst (Plain us) (items-step depth s end at h) b)).0
+-- a use whose bytes fit their place
+abbrev pub Fitting : List ℕ → ℕ → Type 0
+Fitting s at = (at < 65536) × (FormedPath (segments_at s at) × ((length (elements_at s at) ≤ element_limit) × Every FormedElement (elements_at s at)))
 
-module _ (us : List Use) (s : List ℕ) (at k : ℕ) (kind : (d e : ℕ) → at < e → k ≡ kind_of (items_at d s e at)) (depth : ℕ) (b : Plain us (one_at depth s at)) where
-  pub plain_use : k ≡ use_kind → (files : List ℕ) (units id : ℕ) → UnitOf s files units id
-      → (at < 65536) × ((length (segments_at s at) ≤ segment_limit) × (length (use_bytes s (file_of (decode s) id) at) ≤ use_size))
-  unfolding Plain
-  plain_use e files units id u =
-      let q : byte s (at + 2) ≡ use_kind = kind-byte s at k kind ∙ e in
-      let i = item_use (inside_of depth s) s at none (λ (x : byte s (at + 2) ≡ module_kind). omega arith) q in
-      let f = (subst (Plain us) i b).0 in
-      (f.0, (f.1.0.0, use_few s files units id at u f.1.0 f.1.1))
+module _ (us : List Use) (s : List ℕ) (at depth : ℕ) (b : Plain us (one_at depth s at)) where
+  module _ (q : byte s (at + 2) ≡ use_kind) where
+    is_use : one_at depth s at ≡ use_of at (byte s (at + 3)) (segments_at s at) (elements_at s at) none
+    is_use = item_use (inside_of depth s) s at none (λ (x : byte s (at + 2) ≡ module_kind). omega arith) q
 
-  pub plain_known : k ≡ use_kind → Memᴰ (use_at s at) us
-  unfolding Plain
-  plain_known e =
-      let q : byte s (at + 2) ≡ use_kind = kind-byte s at k kind ∙ e in
-      let i = item_use (inside_of depth s) s at none (λ (x : byte s (at + 2) ≡ module_kind). omega arith) q in
-      (subst (Plain us) i b).0.2
+    pub plain_use : Fitting s at × Memᴰ (use_at s at) us
+    unfolding Plain
+    plain_use = let f = (subst (Plain us) is_use b).0 in ((f.0, f.1), f.2)
 
-  pub plain-mark : (k ≡ ignored_kind → ⊥) → at < 65536
+  pub plain-mark : (byte s (at + 2) ≡ ignored_kind → ⊥) → at < 65536
   unfolding Plain
   plain-mark n6 =
       by_kind (inside_of depth s) s at none (λ i. Plain us i → at < 65536)
-      (λ q f. f.0) (λ q f. f.0.0) (λ q f. absurd (n6 (sym (kind-byte s at k kind) ∙ q))) (λ n m l f. f.0) b
+      (λ q f. f.0) (λ q f. f.0.0) (λ q f. absurd (n6 q)) (λ n m l f. f.0) b
 
-  pub plain-inside : (end' at' : ℕ) → k ≡ module_kind → (depth ≡ 0 → ⊥)
+  pub plain-inside : (end' at' : ℕ) → byte s (at + 2) ≡ module_kind → 0 < depth
       → ((d e : ℕ) → at < e → kind_of (items_at (suc d) s e at) ≡ module_kind → items_at d s end' at' ≡ inner_of (items_at (suc d) s e at))
       → Plain us (items_at (depth - 1) s end' at')
   unfolding Plain
-  plain-inside end' at' e z inner =
-      let q : byte s (at + 2) ≡ module_kind = kind-byte s at k kind ∙ e in
-      subst (Plain us) (inside_is s at k kind depth end' at' e z inner) (subst (Plain us) (item_module (inside_of depth s) s at none q) b).1.0
+  plain-inside end' at' m z inner = subst (Plain us) (inside_is s at m depth end' at' z inner) (subst (Plain us) (item_module (inside_of depth s) s at none m) b).1.0
+
+-- WHAT THE CALLS THAT ARE LEFT COME TO, all come to: `rest` of all, from the tree t
+abbrev pub Onward : Tree → List Asked → Tree → List Asked → Type 0
+Onward t₀ all t rest = (r : Stop) (u : Tree) → Walks t rest r u → Walks t₀ all r u
+
+module _ {t₀ : Tree} {all : List Asked} where
+  pub onward_first : (left : List Asked) → all ≡ left → Onward t₀ all t₀ left
+  onward_first left e r u h = walks_as e h
+
+  pub onward_as : {t : Tree} (rest left : List Asked) → rest ≡ left → Onward t₀ all t rest → Onward t₀ all t left
+  onward_as rest left e o r u h = o r u (walks_as e h)
+
+  module _ {t u : Tree} (x rest : List Asked) (o : Onward t₀ all t (x ++ rest)) where
+    -- the next calls are accepted, or one is refused
+    pub onward_next : Walks t x (stop_at 0 0) u → Onward t₀ all u rest
+    onward_next h r w k = o r w (walks_then h refl k)
+
+    pub onward_stop : (e : Refusal) → Walks t x (stop_at (number e.cause) e.place) u → Walks t₀ all (stop_at (number e.cause) e.place) u
+    onward_stop e h = o _ _ (walks_stop h rest (number-some e.cause))
+
+  pub onward_all : {t : Tree} (rest : List Asked) → rest ≡ [] → Onward t₀ all t rest → Walks t₀ all (stop_at 0 0) t
+  onward_all {t} rest e o = o _ _ (walks_as e (walks_none t _ refl))
+
+-- A CALL, as its answer tells it
+module _ {t u : Tree} {q : Request} (p : ℕ) where
+  pub walks_made : (x : Option ℕ) → Meets t q (left (call_told (Ok x)) u) → Walks t (asked p q ∷ []) (stop_at 0 0) u
+  walks_made None m = let w = walks_one t q Done u m (stop_at 0 p) p refl refl in record { good = w.good; walked = w.walked }
+  walks_made (Some k) m = let w = walks_one t q (Mark k) u m (stop_at 0 p) p refl refl in record { good = w.good; walked = w.walked }
+
+  pub walks_refused : (c : Cause) → Meets t q (left (call_told (Err c)) u) → Walks t (asked p q ∷ []) (stop_at (number c) p) u
+  walks_refused c m = walks_one t q (Refused (number c)) u m _ p refl refl
+
+-- A MODULE OR A UNIT: it is entered, what is inside is walked, and it is left
+module _ {t u : Tree} (p : ℕ) (q : Request) (inside : List Asked) where
+  pub framed_in : (e : Refusal) → Walks t (asked p q ∷ []) (stop_at (number e.cause) e.place) u → Walks t (asked p q ∷ (inside ++ (asked p exits ∷ []))) (stop_at (number e.cause) e.place) u
+  framed_in e h = walks_stop h (inside ++ (asked p exits ∷ [])) (number-some e.cause)
+
+  module _ {v : Tree} (enter : Walks t (asked p q ∷ []) (stop_at 0 0) u) where
+    pub framed_inside : (e : Refusal) → Walks u inside (stop_at (number e.cause) e.place) v → Walks t (asked p q ∷ (inside ++ (asked p exits ∷ []))) (stop_at (number e.cause) e.place) v
+    framed_inside e h = walks_then enter refl (walks_stop h (asked p exits ∷ []) (number-some e.cause))
+
+    pub framed_all : {w : Tree} {r : Stop} → Walks u inside (stop_at 0 0) v → Walks v (asked p exits ∷ []) r w → Walks t (asked p q ∷ (inside ++ (asked p exits ∷ []))) r w
+    framed_all h k = walks_then enter refl (walks_then h refl k)

@@ -1,7 +1,6 @@
 -- The scope walk over the units of a linked order. Assumes nothing.
-use Rattle.std.specs.Prelude.{ℕ, zero, suc, ◌+◌, ◌≤◌, ◌<◌, false, ◌≡◌, refl, List, [], ◌∷◌, ◌++◌, length, get_or, take, drop}
-use Rattle.std.proofs.Common.{add-one, arith, sym, ap, ◌∙◌, append_assoc, length-take-le, get_or-take, drop-cons}
-use Rattle.std.proofs.Math.Seq.{drop-nil}
+use Rattle.std.specs.Prelude.{ℕ, ◌+◌, ◌≤◌, ◌<◌, false, ◌≡◌, refl, List, [], ◌∷◌, ◌++◌, length, get_or, drop}
+use Rattle.std.proofs.Common.{add-one, sym, ap, ◌∙◌, append_assoc, drop-cons, drop_of_length-le}
 use Rattle.names.specs.Decimal.{unit_name}
 use Rattle.bundle.specs.Bundle.{Items, Bundle}
 use Rattle.bundle.specs.Bundle as bundle
@@ -14,8 +13,9 @@ use Rattle.scope_tree.specs.Flat.{flat}
 use Rattle.scopes.specs.Runs.{first-is, first_good}
 use Rattle.scope_tree.specs.Trees.{cleared, Good, flat_of}
 use Rattle.scope_tree.specs.declared.Tree.{Tree}
+use Rattle.discovery.specs.declared.known.Known.{Known}
 use Rattle.assembly.specs.Assemble.{file_of, items_of, local_items, assembled}
-use Rattle.assembly.specs.Given.{UnitsGiven}
+use Rattle.assembly.specs.Given.{PlacedUnit}
 use Rattle.assembly.specs.Targets.{file_uses}
 use Rattle.scope_walk.specs.Scopes.{Asked, asked, scope_calls, walk_from, scope_walk}
 use Rattle.scope_walk.specs.Steps.{Stop, Walks, reached, items_calls, Plain}
@@ -38,27 +38,23 @@ program-one b u o =
     ap (λ (l : List Asked). asked 0 (enters (unit_name u) false 0) ∷ l) (sym (append_assoc (scope_calls (local_items b u)) (asked 0 exits ∷ []) (scope_calls (assembled b o))))
 
 -- A UNIT, by the items that the code reads
-pub unit-form : (s : List ℕ) (u end at : ℕ) → items_at depth_limit s end at ≡ items_of (decode s) u
-    → unit_calls (decode s) u ≡ asked 0 (enters (unit_name u) false 0) ∷ (items_calls s (file_of (decode s) u) depth_limit end at ++ (asked 0 exits ∷ []))
-unfolding unit_calls scope_calls items_calls local_items
-unit-form s u end at i = rw i
+pub unit-form : (b : Bundle) (u : ℕ) → unit_calls b u ≡ asked 0 (enters (unit_name u) false 0) ∷ (scope_calls (local_items b u) ++ (asked 0 exits ∷ []))
+unfolding unit_calls scope_calls
+unit-form b u = refl
 
-pub unit-ready : (s files : List ℕ) (units u : ℕ) → Bytes s → UnitsGiven s files units → (end at : ℕ) → items_at depth_limit s end at ≡ items_of (decode s) u → Plain (file_uses s (file_of (decode s) u)) (items_at depth_limit s end at)
-unit-ready s files units u B x end at i = rw i (unit-plain (decode s) (sound s B (decode s) (accepted s x.checked)).1 u)
+pub unit-inside : (s : List ℕ) (u end at : ℕ) → items_at depth_limit s end at ≡ items_of (decode s) u → items_calls s (file_of (decode s) u) depth_limit end at ≡ scope_calls (local_items (decode s) u)
+unfolding items_calls local_items
+unit-inside s u end at i = rw i refl
+
+pub unit-ready : (s : List ℕ) → Bytes s → {k : Known} {u : ℕ} → PlacedUnit s k u → (end at : ℕ) → items_at depth_limit s end at ≡ items_of (decode s) u → Plain (file_uses s (file_of (decode s) u)) (items_at depth_limit s end at)
+unit-ready s B {k} {u} x end at i = rw i (unit-plain (decode s) (sound s B (decode s) (accepted s x.of_unit.checked)).1 u)
 
 -- UNITS ONE AFTER THE OTHER
-pub nothing_left : (l : List ℕ) (i : ℕ) → length l ≤ i → drop i l ≡ []
-nothing_left [] i k = drop-nil i
-nothing_left (a ∷ l) zero k = absurd (omega arith)
-nothing_left (a ∷ l) (suc i) k = nothing_left l i (omega arith)
+pub order-step : (b : Bundle) (ids : List ℕ) (i : ℕ) → i < length ids → program_calls b (drop i ids) ≡ unit_calls b (get_or ids i 0) ++ program_calls b (drop (i + 1) ids)
+order-step b ids i h = ap (program_calls b) (drop-cons ids i 0 h ∙ ap (λ (k : ℕ). get_or ids i 0 ∷ drop k ids) (sym (add-one i))) ∙ program-one b (get_or ids i 0) (drop (i + 1) ids)
 
-pub order-step : (b : Bundle) (ids : List ℕ) (units : ℕ) → units ≤ length ids → (i : ℕ) → i < units
-    → program_calls b (drop i (take units ids)) ≡ unit_calls b (get_or ids i 0) ++ program_calls b (drop (i + 1) (take units ids))
-order-step b ids units fit i h =
-    let n = length-take-le units ids fit in
-    let l : i < length (take units ids) = omega arith in
-    ap (program_calls b) (drop-cons (take units ids) i 0 l ∙ (ap (λ (u : ℕ). u ∷ drop (suc i) (take units ids)) (get_or-take units ids i 0 h) ∙ ap (λ (k : ℕ). get_or ids i 0 ∷ drop k (take units ids)) (sym (add-one i))))
-    ∙ program-one b (get_or ids i 0) (drop (i + 1) (take units ids))
+pub order-end : (b : Bundle) (ids : List ℕ) (i : ℕ) → length ids ≤ i → program_calls b (drop i ids) ≡ []
+order-end b ids i h = ap (program_calls b) (drop_of_length-le ids h) ∙ program-none b
 
 -- FROM THE EMPTY TREE
 -- step 6 of the program p came to x: 0 and the tree u, or a number and a place

@@ -1,7 +1,7 @@
 // Step 6, the scope walk: the tree calls of a linked program, made on a tree that the caller lends.
 #![tactic(auto)]
 
-mod cursor;
+mod calls;
 mod walk;
 
-pub use walk::{Ended, walk_units};
+pub use walk::walk_units;

@@ -1,179 +1,99 @@
-// Step 6, the scope walk: the tree calls of a linked program, up to the first that is refused.
-ghost use Rattle.std.specs.Prelude.{◌≡◌, ◌<◌, ◌≤◌, length, take};
-ghost use Rattle.bundle.specs.Limits.{use_kind};
-ghost use Rattle.bundle.specs.Decode.{decode};
-ghost use Rattle.discovery.specs.Walk.{UseMark};
+// The tree calls of a linked program, one item after the other, up to the first that is refused.
+ghost use Rattle.std.specs.Prelude.{◌≡◌, ◌+◌, ◌<◌};
+ghost use Rattle.bundle.specs.Limits.{module_kind};
+ghost use Rattle.bundle.specs.Scan.{byte};
+ghost use Rattle.bundle.specs.Decode.{decode, items_at};
+ghost use Rattle.discovery.specs.Walk.{Small};
 ghost use Rattle.assembly.specs.Assemble.{file_of};
-ghost use Rattle.assembly.specs.Given.{UnitsGiven, OrderGiven};
-ghost use Rattle.assembly.specs.Targets.{InFile};
+ghost use Rattle.assembly.specs.Targets.{file_uses};
+ghost use Rattle.assembly.specs.Walk.{one_at};
 ghost use Rattle.scope_tree.specs.Trees.{cleared};
 ghost use Rattle.commit.specs.Lending.{lent_in, Kept};
-ghost use Rattle.scope_walk.specs.Steps.{use_size, Walks, stop_at};
-ghost use Rattle.scope_walk.specs.Units.{program_calls};
-ghost use Rattle.scope_walk.specs.Cursor.{call_code, call_public, taken_bytes, Fitting, Put};
+ghost use Rattle.scope_walk.specs.Steps.{Walks, stop_of, item_calls, items_calls, Plain};
+ghost use Rattle.scope_walk.specs.Units.{unit_calls, program_calls};
 
-use crate::cursor::{Step, UNIT, next, start};
-use bundle::limits::{MODULE, USE};
-use scopes::Tree;
+use crate::calls::{ask, ask_named, ask_use, item_at};
+use assembly::{Program, Unit};
+use bundle::limits::DEPTH;
+use bundle::{Items, Kind, Range};
+use refusal::Refusal;
 use scopes::lent::Lent;
+use scopes::{Call, Item, Tree};
 
-// Tree calls by their codes.
-const ENTER: u8 = 1;
-
-const ALIAS: u8 = 3;
-
-const ENUM: u8 = 4;
-
-const FUNCTION: u8 = 5;
-
-const RESOLVE_USE: u8 = 6;
-
-// The most bytes of a use with its path rewritten.
-const USE_SIZE: usize = 2681;
-
-// The code of a call, by its kind.
-fn call_code(kind: usize) -> u8
-    ensures { result ≡ call_code kind }
-{
-    if kind == USE {
-        return RESOLVE_USE;
-    }
-    if kind == MODULE {
-        return ENTER;
-    }
-    if kind == UNIT {
-        return ENTER;
-    }
-    if kind == 2 {
-        return FUNCTION;
-    }
-    if kind == 4 {
-        return ENUM;
-    }
-    ALIAS
-}
-
-fn mark_of(place: usize) -> u16
-    requires { place < 65536 }
-    ensures { result ≡ place }
-{
-    place as u16
-}
-
-// A unit is private, an item what its visibility says.
-fn is_public(s: &[u8], kind: usize, place: usize) -> bool
-    requires { place < 65536 }
-    ensures { result ≡ call_public s.now kind place }
-{
-    if kind == UNIT {
-        return false;
-    }
-    bundle::item_visibility(s, place) == 1
-}
-
-// What does not stand in the bundle: a use of the unit `id`, its path rewritten, or the name of the unit, put at the start of `out`. The
-// answer is how many bytes it has.
-fn put_call(
-    s: &[u8],
-    files: &[usize],
-    units: usize,
-    id: usize,
-    kind: usize,
-    place: usize,
-    out: &mut [u8],
-) -> usize
-    requires { (UnitsGiven s.now files.now units × (id < units)) × ((kind ≡ use_kind → UseMark s.now place × Fitting s.now place × InFile s.now (file_of (decode s.now) id) place) × (length out.old ≡ use_size)) }
-    ensures { Put s.now id kind place result out.new }
-{
-    if kind == USE {
-        return items::rewrite_use(s, files, units, id, place, out);
-    }
-    if kind == UNIT {
-        return encoder::put_unit(out, id);
-    }
-    0
-}
-
-// The bytes of a call: a use's, the first `n` that were put; a unit's name; or the name of the item at `place`.
-fn call_bytes<'a>(s: &'a [u8], put: &'a [u8], n: usize, kind: usize, place: usize) -> &'a [u8]
-    requires { (place < 65536) × (n ≤ length put.now) }
-    ensures { result.now ≡ taken_bytes s.now put.now n kind place }
-{
-    if kind == USE {
-        return &put[..n];
-    }
-    if kind == UNIT {
-        return bundle::string(put, 0);
-    }
-    bundle::string(s, place + 4)
-}
-
-// Where step 6 ended: a number and the place of the call that is refused; 0 and any place where none is.
-#[derive(Clone, Copy)]
-pub struct Ended {
-    pub number: u8,
-    pub place: usize,
-}
-
-// The tree calls of the units in their order, made on the arrays of a tree.
-fn walk<'a>(s: &[u8], files: &'a [usize], ids: &'a [u16], units: usize, tree: &mut Lent) -> Ended
-    requires { OrderGiven s.now files.now ids.now units × (lent_in tree.old ≡ cleared) }
+// A module is entered, its items are walked, and it is left; one that stands as deep as modules may has no items.
+#[cycle(walk_item_walk_items_walk_module)]
+fn walk_module(unit: &Unit<'_>, at: usize, depth: usize, tree: &mut Lent) -> Result<(), Refusal>
+    requires { (Small at depth × (byte unit.now.bytes.now (at + 2) ≡ module_kind)) × Plain (file_uses unit.now.bytes.now (file_of (decode unit.now.bytes.now) unit.now.id)) (one_at depth unit.now.bytes.now at) }
     ensures kept { Kept tree.old tree.new }
-    ensures walked { Walks cleared (program_calls (decode s.now) (take units ids.now)) (stop_at result.number result.place) (lent_in tree.new) }
+    ensures walked { Walks (lent_in tree.old) (item_calls unit.now.bytes.now (file_of (decode unit.now.bytes.now) unit.now.id) depth at) (stop_of result) (lent_in tree.new) }
 {
-    let mut put = [0u8; USE_SIZE];
-    let mut cursor = start();
-    let mut number: u8 = 0;
-    let mut place: usize = 0;
-    let mut going = true;
-    while going {
-        let n = next(s, files, ids, units, cursor);
-        let step = n.step;
-        cursor = n.cursor;
-        match step {
-            Step::Call(kind, p) => {
-                let m = put_call(s, files, units, cursor.id, kind, p, &mut put);
-                let public = is_public(s, kind, p);
-                place = p;
-                number = scopes::number_of(scopes::lent::call(
-                    tree,
-                    call_code(kind),
-                    call_bytes(s, &put, m, kind, p),
-                    public,
-                    mark_of(p),
-                ));
-                going = number == 0;
-                continue;
-            }
-            Step::Exit(p) => {
-                place = p;
-                number = scopes::number_of(scopes::lent::exit(&mut *tree.opened));
-                going = number == 0;
-                continue;
-            }
-            Step::End => {
-                going = false;
-                continue;
-            }
-        }
+    ask(tree, Call::Enter(item_at(unit.bytes, at)), at)?;
+    if depth > 0 {
+        walk_items(unit, bundle::module_items(unit.bytes, at), depth - 1, tree)?;
     }
-    Ended {
-        number: number,
-        place: place,
+    ask(tree, Call::Exit, at)
+}
+
+// An item; an ignored one makes no call.
+#[cycle(walk_item_walk_items_walk_module)]
+fn walk_item(unit: &Unit<'_>, at: usize, depth: usize, tree: &mut Lent) -> Result<(), Refusal>
+    requires { Small at depth × Plain (file_uses unit.now.bytes.now (file_of (decode unit.now.bytes.now) unit.now.id)) (one_at depth unit.now.bytes.now at) }
+    ensures kept { Kept tree.old tree.new }
+    ensures walked { Walks (lent_in tree.old) (item_calls unit.now.bytes.now (file_of (decode unit.now.bytes.now) unit.now.id) depth at) (stop_of result) (lent_in tree.new) }
+{
+    match bundle::kind(unit.bytes, at) {
+        Kind::Ignored => Ok(()),
+        Kind::Use => ask_use(unit, at, tree),
+        Kind::Named(kind) => ask_named(unit.bytes, at, kind, tree),
+        Kind::Module => walk_module(unit, at, depth, tree),
     }
+}
+
+// These items, with modules at most `depth` deep.
+#[cycle(walk_item_walk_items_walk_module)]
+fn walk_items(unit: &Unit<'_>, items: Range, depth: usize, tree: &mut Lent) -> Result<(), Refusal>
+    requires { Small items.end depth × Plain (file_uses unit.now.bytes.now (file_of (decode unit.now.bytes.now) unit.now.id)) (items_at depth unit.now.bytes.now items.end items.at) }
+    ensures kept { Kept tree.old tree.new }
+    ensures walked { Walks (lent_in tree.old) (items_calls unit.now.bytes.now (file_of (decode unit.now.bytes.now) unit.now.id) depth items.end items.at) (stop_of result) (lent_in tree.new) }
+{
+    for at in Items::of(unit.bytes, items) {
+        walk_item(unit, at, depth, tree)?;
+    }
+    Ok(())
+}
+
+// A unit: a private module of its name, with the mark 0.
+fn walk_unit(unit: &Unit<'_>, tree: &mut Lent) -> Result<(), Refusal>
+    ensures kept { Kept tree.old tree.new }
+    ensures walked { Walks (lent_in tree.old) (unit_calls (decode unit.now.bytes.now) unit.now.id) (stop_of result) (lent_in tree.new) }
+{
+    let name = names::unit_name(unit.id as u64);
+    let item = Item {
+        name: name.as_slice(),
+        public: false,
+        mark: 0,
+    };
+    ask(tree, Call::Enter(item), 0)?;
+    walk_items(unit, unit.items(), DEPTH, tree)?;
+    ask(tree, Call::Exit, 0)
+}
+
+// The units in their order.
+fn walk_program(program: &Program<'_>, tree: &mut Lent) -> Result<(), Refusal>
+    ensures kept { Kept tree.old tree.new }
+    ensures walked { Walks (lent_in tree.old) (program_calls (decode program.now.bytes.now) program.now.ids.now) (stop_of result) (lent_in tree.new) }
+{
+    for id in program.ids {
+        walk_unit(&program.unit(usize::from(*id)), tree)?;
+    }
+    Ok(())
 }
 
 // The tree calls of the units in their order, made on a tree that was empty: up to the first that is refused. Ruled out: the tree of the
 // entry's items alone; a unit's number told with the mark of its first item.
-pub fn walk_units<'a>(
-    s: &[u8],
-    files: &'a [usize],
-    ids: &'a [u16],
-    units: usize,
-    tree: &mut Tree,
-) -> Ended
-    requires { OrderGiven s.now files.now ids.now units × (tree.old ≡ cleared) }
-    ensures { Walks cleared (program_calls (decode s.now) (take units ids.now)) (stop_at result.number result.place) tree.new }
+pub fn walk_units(program: &Program<'_>, tree: &mut Tree) -> Result<(), Refusal>
+    requires { tree.old ≡ cleared }
+    ensures { Walks cleared (program_calls (decode program.now.bytes.now) program.now.ids.now) (stop_of result) tree.new }
 {
     let mut arrays = Lent {
         opened: &mut tree.opened,
@@ -186,5 +106,5 @@ pub fn walk_units<'a>(
         n2: &mut tree.n2,
         n3: &mut tree.n3,
     };
-    walk(s, files, ids, units, &mut arrays)
+    walk_program(program, &mut arrays)
 }

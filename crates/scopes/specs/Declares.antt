@@ -1,9 +1,7 @@
 -- A declaration, a get and an exit, as the code makes them. Assumes nothing.
-use Rattle.std.specs.Prelude.{ℕ, ◌-◌, ◌≤◌, ◌<◌, ◌≡◌, ◌⊎◌, Bool, true, false, cond, List, ltb, get_or, set, take, Option, Some, None}
-use Rattle.std.proofs.Common.{arith, ap, sym, subst, ◌∙◌, length-set, get_or-set_same, get_or-set_other, ne_eqb}
+use Rattle.std.specs.Prelude.{ℕ, ◌-◌, ◌<◌, ◌≡◌, Bool, true, false, cond, List, ltb, get_or, set, take, Option, Some, None}
+use Rattle.std.proofs.Common.{arith, ap, sym, subst, ◌∙◌, length-set, get_or-set_same, get_or-set_other}
 use Rattle.std.proofs.Math.Path.{refl}
-use Rattle.std.proofs.Math.Decide.{dec_le}
-use Rattle.std.proofs.Math.Logic.{inl, inr}
 use Rattle.std.proofs.lemmas.List.{take-set-le}
 use Rattle.names.specs.Packed.{packed}
 use Rattle.names.specs.Identifier.{is_identifier}
@@ -11,11 +9,11 @@ use Rattle.scope_tree.specs.Told.{Told, Done, Refused}
 use Rattle.scope_tree.specs.declared.Tree.{Tree}
 use Rattle.scope_tree.specs.Entries.{Entry}
 use Rattle.scope_tree.specs.Note.{accepted}
-use Rattle.scope_tree.specs.Form.{Request, enters, exits, inserts_alias, inserts_enum, inserts_function, resolves_use, gets_alias, gets_function}
+use Rattle.scope_tree.specs.Form.{Request, enters, exits, inserts_alias, inserts_enum, inserts_function, gets_alias, gets_function}
 use Rattle.scope_tree.specs.Views.{View, ViewOutcome, ViewMeets, told, bit_of, no_entry, pushed, added_of, ended, ended_no, ended_yes, opened_last, current_spot, mark_at, got_of}
 use Rattle.decision.specs.Calls.{popped, exit-root, exit_module, alias_meets, enum_meets, function_meets, enter_meets, got-alias, got-function}
 use Rattle.scope_tree.specs.Trees.{part, index_of, doors_of, view, Sized}
-use Rattle.scopes.specs.Meets.{Meets, Answers, number_of_told, request, left, with_opened}
+use Rattle.scopes.specs.Meets.{Meets, Answers, number_of_told, left, with_opened}
 use Rattle.scope_tree.specs.Pack.{view-sized, added, added-sized, shut-view, opened_view}
 use Rattle.decision.specs.Plan.{Plan, planned_of, planned_plan, carried, carried_no, carried_yes, plan_added, plan_room, Room}
 
@@ -117,11 +115,17 @@ got-numbered t s k q = subst (λ (x : Told). number_of_told x ≡ 0 → accepted
     go true false false None z = absurd (omega arith)
     go true false false (Some i) z = refl
 
-pub meets_get-alias : (t : Tree) (s : List ℕ) {a : Told} → a ≡ got_of (view t) s 1 → Meets t (gets_alias s) (left a t)
-meets_get-alias t s {a} q = let w = answers-alias t s a q in record { good = λ g. g; tree = w.tree; answer = w.answer; kept = λ e. refl; numbered = got-numbered t s _ q }
+pub meets_get-alias : (t : Tree) (s : List ℕ) {x : Tree} → x ≡ t → {a : Told} → a ≡ got_of (view x) s 1 → Meets t (gets_alias s) (left a t)
+meets_get-alias t s f {a} e =
+    let q : a ≡ got_of (view t) s 1 = e ∙ ap (λ (y : Tree). got_of (view y) s 1) f in
+    let w = answers-alias t s a q in
+    record { good = λ g. g; tree = w.tree; answer = w.answer; kept = λ e. refl; numbered = got-numbered t s _ q }
 
-pub meets_get-function : (t : Tree) (s : List ℕ) {a : Told} → a ≡ got_of (view t) s 2 → Meets t (gets_function s) (left a t)
-meets_get-function t s {a} q = let w = answers-function t s a q in record { good = λ g. g; tree = w.tree; answer = w.answer; kept = λ e. refl; numbered = got-numbered t s _ q }
+pub meets_get-function : (t : Tree) (s : List ℕ) {x : Tree} → x ≡ t → {a : Told} → a ≡ got_of (view x) s 2 → Meets t (gets_function s) (left a t)
+meets_get-function t s f {a} e =
+    let q : a ≡ got_of (view t) s 2 = e ∙ ap (λ (y : Tree). got_of (view y) s 2) f in
+    let w = answers-function t s a q in
+    record { good = λ g. g; tree = w.tree; answer = w.answer; kept = λ e. refl; numbered = got-numbered t s _ q }
 
 -- AN EXIT
 pub leave-root : (t : Tree) (o : List ℕ) → get_or o 10 0 ≡ 0 → Meets (with_opened t o) exits (left (Refused 50) (with_opened t o))
@@ -144,34 +148,3 @@ leave_module t o z =
 
 -- the laws of an exit, for the tactics
 pub ruleset exit_steps = (leave-root, leave_module)
-
--- BY ITS CODE
-module _ (t u : Tree) (c : ℕ) (s : List ℕ) (v : Bool) (m : ℕ) (a : Told) where
-  pub call_enter : c ≡ 1 → Declares t s 3 47 8 v m true a u → Meets t (request c s v m) (left a u)
-  call_enter e d = rw e (meets_enter d)
-
-  pub call-exit : c ≡ 2 → Meets t exits (left a u) → Meets t (request c s v m) (left a u)
-  call-exit e w = rw e w
-
-  -- a type alias, or an enum
-  pub call_type : 3 ≤ c → c ≤ 4 → Declares t s 1 48 9 v m false a u → Meets t (request c s v m) (left a u)
-  call_type h l d = go (dec_le c 3)
-    where
-      go : Dec (c ≤ 3) → Meets t (request c s v m) (left a u)
-      go (yes k) = let e : c ≡ 3 = omega arith in rw e (meets_alias d)
-      go (no k) = let e : c ≡ 4 = omega arith in rw e (meets_enum d)
-
-  pub call_function : c ≡ 5 → Declares t s 2 49 9 v m false a u → Meets t (request c s v m) (left a u)
-  call_function e d = rw e (meets_function d)
-
-  pub call_use : c ≡ 6 → Meets t (resolves_use s v) (left a u) → Meets t (request c s v m) (left a u)
-  call_use e w = rw e w
-
-  pub call-get_alias : c ≡ 7 → {x : Tree} → x ≡ t → a ≡ got_of (view x) s 1 → Meets t (request c s v m) (left a t)
-  call-get_alias e q w = rw e (meets_get-alias t s (w ∙ ap (λ (y : Tree). got_of (view y) s 1) q))
-
-  pub call-get_function : (c ≡ 0) ⊎ (7 < c) → {x : Tree} → x ≡ t → a ≡ got_of (view x) s 2 → Meets t (request c s v m) (left a t)
-  call-get_function (inl e) q w = rw e (meets_get-function t s (w ∙ ap (λ (y : Tree). got_of (view y) s 2) q))
-  call-get_function (inr h) q w =
-      rw (ne_eqb c 1 (λ e. omega arith), ne_eqb c 2 (λ e. omega arith), ne_eqb c 3 (λ e. omega arith), ne_eqb c 4 (λ e. omega arith), ne_eqb c 5 (λ e. omega arith), ne_eqb c 6 (λ e. omega arith), ne_eqb c 7 (λ e. omega arith))
-      (meets_get-function t s (w ∙ ap (λ (y : Tree). got_of (view y) s 2) q))

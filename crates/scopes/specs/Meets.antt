@@ -11,6 +11,8 @@ use Rattle.refusal.specs.declared.Cause.{Cause}
 use Rattle.scope_tree.specs.Forms.{fault}
 use Rattle.scope_tree.specs.Told.{Told, Done, Mark, Refused, done_told, call_told}
 use Rattle.scopes.specs.declared.Outcome.{Outcome as Given}
+use Rattle.scopes.specs.declared.call.Call.{Call}
+use Rattle.scopes.specs.declared.call.Call.TheVariants.{Enter, Exit, Alias, «Enum», Function, «Use», GetAlias, GetFunction}
 
 -- the number that a refusal tells; 0 where the call was accepted
 abbrev pub number_of_told : Told → ℕ
@@ -59,6 +61,17 @@ request c s v m =
     cond (eqb c 1) (enters s v m)
     (cond (eqb c 2) exits
     (cond (eqb c 3) (inserts_alias s v m) (cond (eqb c 4) (inserts_enum s v m) (cond (eqb c 5) (inserts_function s v m) (cond (eqb c 6) (resolves_use s v) (cond (eqb c 7) (gets_alias s) (gets_function s)))))))
+
+-- what a call asks
+abbrev pub request_of : Call → Request
+request_of (Enter i) = enters i.name.now i.public i.mark
+request_of Exit = exits
+request_of (Alias i) = inserts_alias i.name.now i.public i.mark
+request_of (Enum i) = inserts_enum i.name.now i.public i.mark
+request_of (Function i) = inserts_function i.name.now i.public i.mark
+request_of (Use s v) = resolves_use s.now v
+request_of (GetAlias s) = gets_alias s.now
+request_of (GetFunction s) = gets_function s.now
 
 -- an item's declaration by its kind in a bundle: 2 a function, 4 an enum, else a type alias
 abbrev pub declares : ℕ → List ℕ → Bool → ℕ → Request

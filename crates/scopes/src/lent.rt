@@ -5,9 +5,10 @@ ghost use Rattle.scope_tree.specs.Form.{resolves_use};
 ghost use Rattle.scope_tree.specs.Kinds.{kind_number, twice_number, deepest_for, opens_for};
 ghost use Rattle.scope_tree.specs.Told.{done_told, call_told};
 ghost use Rattle.commit.specs.Lending.{lent_in, Kept};
-ghost use Rattle.scopes.specs.Meets.{Meets, request, left, Leaves};
+ghost use Rattle.scopes.specs.Meets.{Meets, request_of, left, Leaves};
 ghost use Rattle.scopes.specs.Declares.{Declares};
 
+use crate::call::{Call, Item};
 use commit::Entry;
 pub use commit::Lent;
 use decision::decide;
@@ -15,20 +16,20 @@ use refusal::Cause;
 use scope_tree::{DEPTH, Kind, OPENED};
 
 // A declaration of a kind, a module opened: planned, then added.
-fn declare(tree: &mut Lent, name: &[u8], kind: Kind, public: bool, mark: u16) -> Result<(), Cause>
+fn declare(tree: &mut Lent, kind: Kind, item: Item) -> Result<(), Cause>
     ensures kept { Kept tree.old tree.new }
-    ensures declared { Declares (lent_in tree.old) name.now (kind_number kind) (twice_number kind) (deepest_for kind) public mark (opens_for kind) (done_told result) (lent_in tree.new) }
+    ensures declared { Declares (lent_in tree.old) item.entry.name.now (kind_number kind) (twice_number kind) (deepest_for kind) item.entry.public item.entry.mark (opens_for kind) (done_told result) (lent_in tree.new) }
 {
     let view = tree.view();
-    let plan = decide::planned(&view, name, kind)?;
+    let plan = decide::planned(&view, item.name, kind)?;
     let at = view.count();
     tree.add(
         at,
         Entry {
             kind,
-            public,
+            public: item.public,
             scope: plan.scope,
-            mark,
+            mark: item.mark,
             name: plan.name,
             origin: 0,
             target: 0,
@@ -64,26 +65,22 @@ fn resolve_use(tree: &mut Lent, decl: &[u8], public: bool) -> Result<(), Cause>
     Ok(())
 }
 
-// Any tree call over arrays that the caller lends, by its code: 1 enter, 2 exit, 3 type alias, 4 enum, 5 function, 6 use, 7 get_alias,
-// any other get_function. A get tells a mark.
-pub fn call(
-    tree: &mut Lent,
-    code: u8,
-    bytes: &[u8],
-    public: bool,
-    mark: u16,
-) -> Result<Option<u16>, Cause>
+// Any tree call over arrays that the caller lends. A get tells a mark.
+pub fn call(tree: &mut Lent, call: Call) -> Result<Option<u16>, Cause>
     ensures kept { Kept tree.old tree.new }
-    ensures met { Meets (lent_in tree.old) (request code bytes.now public mark) (left (call_told result) (lent_in tree.new)) }
+    ensures met { Meets (lent_in tree.old) (request_of call.entry) (left (call_told result) (lent_in tree.new)) }
 {
-    match code {
-        1 => declare(tree, bytes, Kind::Module, public, mark)?,
-        2 => exit(&mut *tree.opened)?,
-        3 | 4 => declare(tree, bytes, Kind::Type, public, mark)?,
-        5 => declare(tree, bytes, Kind::Function, public, mark)?,
-        6 => resolve_use(tree, bytes, public)?,
-        7 => return Ok(Some(decide::get(&tree.view(), bytes, Kind::Type)?)),
-        _ => return Ok(Some(decide::get(&tree.view(), bytes, Kind::Function)?)),
+    match call {
+        Call::Enter(item) => declare(tree, Kind::Module, item)?,
+        Call::Exit => exit(&mut *tree.opened)?,
+        Call::Alias(item) => declare(tree, Kind::Type, item)?,
+        Call::Enum(item) => declare(tree, Kind::Type, item)?,
+        Call::Function(item) => declare(tree, Kind::Function, item)?,
+        Call::Use(decl, public) => resolve_use(tree, decl, public)?,
+        Call::GetAlias(name) => return Ok(Some(decide::get(&tree.view(), name, Kind::Type)?)),
+        Call::GetFunction(name) => {
+            return Ok(Some(decide::get(&tree.view(), name, Kind::Function)?));
+        }
     }
     Ok(None)
 }

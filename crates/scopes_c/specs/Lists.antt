@@ -2,7 +2,7 @@
 use Prim.Native.Nat.{ℕ, zero, suc, ◌+◌, ◌*◌, ◌-◌, ◌≤◌, ◌<◌}
 use native.Mathlib.Omega.{arith}
 use Rattle.std.proofs.Math.Decide.{dec_lt}
-use Rattle.std.specs.Prelude.{◌≡◌, Bool, true, false, cond, ◌⊎◌, eqb, ltb}
+use Rattle.std.specs.Prelude.{◌≡◌, Bool, false, cond, ◌⊎◌, eqb, ltb, min, Option, Some, None}
 use Rattle.std.proofs.Math.Path.{refl, ap, sym}
 use Rattle.std.proofs.Common.{subst, ◌∙◌, inl, inr, take_all}
 use mathlib.Core.List.{List, [], ◌∷◌}
@@ -11,7 +11,9 @@ use borrow.Author.Tests.{ne_eqb, lt-ltb, le-ltb}
 use Rattle.rows.specs.Written.{put_at, written}
 use Rattle.scope_tree.specs.declared.Tree.{Tree}
 use Rattle.scopes_c.specs.declared.Step.{Step}
-use Rattle.scope_tree.specs.Told.{Told, Done, Mark, Refused}
+use Rattle.scope_tree.specs.Told.{call_told}
+use Rattle.scopes.specs.declared.call.Call.{Call}
+use Rattle.scopes.specs.declared.call.Item.{Item}
 use Rattle.scope_tree.specs.Step.{Answer, ok, marked, refused, step}
 use Rattle.scope_tree.specs.Flat.{Flat, flat, first_flat}
 use Rattle.scope_tree.specs.Form.{Request, enters, exits, inserts_alias, inserts_enum, inserts_function, resolves_use, gets_alias, gets_function, call_of}
@@ -21,8 +23,7 @@ use Rattle.scope_tree.specs.Nav.{stack_of}
 use Rattle.scope_tree.specs.Views.{told}
 use Rattle.scope_tree.specs.Trees.{cleared, flat_of, Good}
 use Rattle.scope_tree.specs.Pack.{index-clear, clear-get}
-use Rattle.scopes.specs.Meets.{Outcome, Meets, Answers, request, declares}
-use Rattle.scopes.specs.Meets as meets
+use Rattle.scopes.specs.Meets.{Outcome, Meets, request_of, declares}
 use Rattle.scopes.specs.Runs.{first-is, first_good}
 
 -- THE BYTES
@@ -55,6 +56,20 @@ order_at s p =
     (cond (eqb (get_or s p 0) 8) (asks (gets_function (part_of s (p + 2) (get_or s (p + 1) 0))))
     (cond (eqb (get_or s p 0) 1) (asks (enters (part_of s (p + 2) (get_or s (p + 1) 0)) (eqb (get_or s (p + 2 + get_or s (p + 1) 0) 0) 1) (pair_at s (p + 2 + get_or s (p + 1) 0 + 1))))
     (cond (is_declaring (get_or s p 0)) (asks (declares (item_kind (get_or s p 0)) (part_of s (p + 2) (get_or s (p + 1) 0)) (eqb (get_or s (p + 2 + get_or s (p + 1) 0) 0) 1) (pair_at s (p + 2 + get_or s (p + 1) 0 + 1)))) clears)))))
+
+-- the order of a call as it was read; none for an empty tree
+abbrev pub order_told : Option Call → Order
+order_told None = clears
+order_told (Some c) = asks (request_of c)
+
+-- the name of the call at p; and what it declares
+abbrev pub name_in : List ℕ → ℕ → List ℕ
+name_in s p = part_of s (p + 2) (get_or s (p + 1) 0)
+
+pub record IsItem (s : List ℕ) (p : ℕ) (i : Item) : Type 0 where
+  pub name : i.name.now ≡ name_in s p
+  pub public : i.public ≡ eqb (get_or s (p + 2 + get_or s (p + 1) 0) 0) 1
+  pub mark : i.mark ≡ pair_at s (p + 2 + get_or s (p + 1) 0 + 1)
 
 -- the place after the call at p
 unfoldable pub after_order : List ℕ → ℕ → ℕ
@@ -99,34 +114,17 @@ pub record Turned (t : Tree) (o : Order) (n : ℕ) (u : Tree) : Type 0 where
   pub tree : Good t → flat_of u ≡ (turn (flat_of t) o).0
   pub said : Good t → n ≡ shown (turn (flat_of t) o).1
 
--- by value
-pub turned_meets : (t : Tree) (q : Request) (r : Outcome) → Meets t q r → (n : ℕ) → n ≡ shown (told r.answer) → (u : Tree) → u ≡ r.tree → Turned t (asks q) n u
-turned_meets t q r m n e u f =
-    record {
-      good = λ g. subst Good (sym f) (m.good g);
-      tree = λ g. ap flat_of f ∙ m.tree g;
-      said = λ g. e ∙ ap shown (m.answer g);
-    }
+pub turned_meets : {t : Tree} {q : Request} {r : Outcome} {o : Order} → asks q ≡ o → Meets t q r → Turned t o (shown (told r.answer)) r.tree
+turned_meets {t} {q} {r} e m = subst (λ (x : Order). Turned t x (shown (told r.answer)) r.tree) e (record { good = m.good; tree = m.tree; said = λ g. ap shown (m.answer g) })
 
-pub turned-answers : (t : Tree) (q : Request) (a : Told) → Answers t q a → (n : ℕ) → n ≡ shown (told a) → (u : Tree) → u ≡ t → Turned t (asks q) n u
-turned-answers t q a m n e u f =
-    record {
-      good = λ g. subst Good (sym f) g;
-      tree = λ g. ap flat_of f ∙ m.tree g;
-      said = λ g. e ∙ ap shown (m.answer g);
-    }
-
-pub turned-clears : (t : Tree) (n : ℕ) → n ≡ shown (told Done) → (u x : Tree) → u ≡ x → x ≡ cleared → Turned t clears n u
-turned-clears t n e u x f h =
-    record {
-      good = λ g. subst Good (sym (f ∙ h)) first_good;
-      tree = λ g. ap flat_of (f ∙ h) ∙ first-is;
-      said = λ g. e;
-    }
-
--- over lent arrays
-pub turned-lent : {t u : Tree} {q : Request} {o : Order} {a : Told} {n : ℕ} → asks q ≡ o → Meets t q (meets.left a u) → n ≡ shown (told a) → Turned t o n u
-turned-lent {t} {u} {q} {o} {a} {n} e m y = subst (λ (x : Order). Turned t x n u) e (turned_meets t q (meets.left a u) m n y u refl)
+pub turned_clears : {t u : Tree} {o : Order} → clears ≡ o → u ≡ cleared → Turned t o 0 u
+turned_clears {t} {u} {o} e h =
+    subst (λ (x : Order). Turned t x 0 u) e
+    (record {
+      good = λ g. subst Good (sym h) first_good;
+      tree = λ g. ap flat_of h ∙ first-is;
+      said = λ g. refl;
+    })
 
 -- no entry, no open module
 abbrev pub emptied : Tree → Tree
@@ -151,235 +149,115 @@ turned-emptied t {o} e = subst (λ (x : Order). Turned t x 0 (emptied t)) e (rec
               };
         }
 
--- what is told of a call by value
-pub record Tells (a : Told) (t : Tree) (e : ℕ) (r : Step) : Type 0 where
-  pub said : r.code * 65536 + r.value ≡ shown (told a)
-  pub tree : r.tree ≡ t
-  pub next : r.next ≡ e
-
-pub tells-done : (a : Told) (t : Tree) (e : ℕ) → a ≡ Done → Tells a t e (record { code = 0; value = 0; tree = t; next = e })
-tells-done a t e q = record { said = rw q; tree = refl; next = refl }
-
-pub tells-mark : (a : Told) (t : Tree) (e m : ℕ) → a ≡ Mark m → Tells a t e (record { code = 1; value = m; tree = t; next = e })
-tells-mark a t e m q = record { said = rw q (omega arith); tree = refl; next = refl }
-
-pub tells-refused : (a : Told) (t : Tree) (e n w : ℕ) → a ≡ Refused n → w ≡ n → Tells a t e (record { code = 2; value = w; tree = t; next = e })
-tells-refused a t e n w q x = record { said = rw q (omega arith); tree = refl; next = refl }
-
-pub said_as : {t u : Tree} {o : Order} {n m : ℕ} → m ≡ n → Turned t o n u → Turned t o m u
-said_as e c = record { good = c.good; tree = c.tree; said = λ g. e ∙ c.said g }
-
 -- the call at p by value
 pub record Called (t : Tree) (s : List ℕ) (p : ℕ) (r : Step) : Type 0 where
-  pub turned : Turned t (order_at s p) (r.code * 65536 + r.value) r.tree
+  pub turned : Turned t (order_at s p) (shown (told (call_told r.answer))) r.tree
   pub next : r.next ≡ after_order s p
   pub near : r.next ≤ p + 65539
 
-module _ (t : Tree) (s : List ℕ) (p : ℕ) (r : Step) (e : ℕ) (eq : e ≡ after_order s p) (el : e ≤ p + 65539) where
-  pub called_meets : (q : Request) → asks q ≡ order_at s p → (x : Outcome) → Meets t q x → Tells x.answer x.tree e r → Called t s p r
-  called_meets q oq x m c =
-      record {
-        turned = subst (λ (o : Order). Turned t o (r.code * 65536 + r.value) r.tree) oq (turned_meets t q x m (r.code * 65536 + r.value) c.said r.tree c.tree);
-        next = c.next ∙ eq;
-        near = omega (arith, c.next);
-      }
-
-  pub called_answers : (q : Request) → asks q ≡ order_at s p → (a : Told) → Answers t q a → Tells a t e r → Called t s p r
-  called_answers q oq a m c =
-      record {
-        turned = subst (λ (o : Order). Turned t o (r.code * 65536 + r.value) r.tree) oq (turned-answers t q a m (r.code * 65536 + r.value) c.said r.tree c.tree);
-        next = c.next ∙ eq;
-        near = omega (arith, c.next);
-      }
-
-  pub called_clears : clears ≡ order_at s p → (x : Tree) → x ≡ cleared → Tells Done x e r → Called t s p r
-  called_clears oq x h c =
-      record {
-        turned = subst (λ (o : Order). Turned t o (r.code * 65536 + r.value) r.tree) oq (turned-clears t (r.code * 65536 + r.value) c.said r.tree x c.tree h);
-        next = c.next ∙ eq;
-        near = omega (arith, c.next);
-      }
-
 -- AS THE CODE HAS IT: the call at p
-module _ (s : List ℕ) (p op : ℕ) (oq : op ≡ get_or s p 0) where
+module _ (s : List ℕ) (p : ℕ) {op : ℕ} (oq : op ≡ get_or s p 0) where
   pub order-exit : op ≡ 2 → asks exits ≡ order_at s p
   unfolding order_at
   order-exit z = rw (← oq, z)
 
-  module _ (z2 : op ≡ 2 → ⊥) where
-    pub order_use : op ≡ 6 → (n : ℕ) → n ≡ pair_at s (p + 1) → (d : List ℕ) → d ≡ part_of s (p + 3) n → (b : ℕ) → b ≡ get_or s (p + 3 + n) 0 → asks (resolves_use d (eqb b 1)) ≡ order_at s p
+  pub order_use : op ≡ 6 → {n : ℕ} → n ≡ pair_at s (p + 1) → {d : List ℕ} → d ≡ part_of s (p + 3) n → {b : ℕ} → b ≡ get_or s (p + 3 + n) 0 → asks (resolves_use d (eqb b 1)) ≡ order_at s p
+  unfolding order_at
+  order_use z nq dq bq = rw (← oq, z, dq, bq, nq)
+
+  module _ {d : List ℕ} (dq : d ≡ name_in s p) where
+    pub order-get_alias : op ≡ 7 → asks (gets_alias d) ≡ order_at s p
     unfolding order_at
-    order_use z n nq d dq b bq = rw (← oq, z, dq, bq, nq)
+    order-get_alias z = rw (← oq, z, dq)
 
-    module _ (z6 : op ≡ 6 → ⊥) (n : ℕ) (nq : n ≡ get_or s (p + 1) 0) (d : List ℕ) (dq : d ≡ part_of s (p + 2) n) where
-      pub order-alias : op ≡ 7 → asks (gets_alias d) ≡ order_at s p
-      unfolding order_at
-      order-alias z = rw (← oq, z, dq, nq)
+    pub order-get_function : op ≡ 8 → asks (gets_function d) ≡ order_at s p
+    unfolding order_at
+    order-get_function z = rw (← oq, z, dq)
 
-      module _ (z7 : op ≡ 7 → ⊥) where
-        pub order-function : op ≡ 8 → asks (gets_function d) ≡ order_at s p
-        unfolding order_at
-        order-function z = rw (← oq, z, dq, nq)
+  module _ {i : Item} (h : IsItem s p i) where
+    pub order-enter : op ≡ 1 → asks (enters i.name.now i.public i.mark) ≡ order_at s p
+    unfolding order_at
+    order-enter z = rw (← oq, z, h.name, h.public, h.mark)
 
-        module _ (z8 : op ≡ 8 → ⊥) (b : ℕ) (bq : b ≡ get_or s (p + 2 + n) 0) (m : ℕ) (mq : m ≡ pair_at s (p + 2 + n + 1)) where
-          pub order-enter : op ≡ 1 → asks (enters d (eqb b 1) m) ≡ order_at s p
-          unfolding order_at
-          order-enter z = rw (← oq, z, dq, bq, mq, nq)
+    pub order-alias : op ≡ 3 → asks (inserts_alias i.name.now i.public i.mark) ≡ order_at s p
+    unfolding order_at
+    order-alias z = rw (← oq, z, h.name, h.public, h.mark)
 
-          module _ (z1 : op ≡ 1 → ⊥) (c : Bool) (cq : c ≡ is_declaring op) where
-            pub order-clear : c ≡ false → clears ≡ order_at s p
-            unfolding order_at
-            order-clear z = rw (← oq, ne_eqb op 2 z2, ne_eqb op 6 z6, ne_eqb op 7 z7, ne_eqb op 8 z8, ne_eqb op 1 z1, ← cq, z)
+    pub order-enum : op ≡ 4 → asks (inserts_enum i.name.now i.public i.mark) ≡ order_at s p
+    unfolding order_at
+    order-enum z = rw (← oq, z, h.name, h.public, h.mark)
 
-          pub order_type : op ≡ 3 → asks (inserts_alias d (eqb b 1) m) ≡ order_at s p
-          unfolding order_at
-          order_type z = rw (← oq, z, dq, bq, mq, nq)
+    pub order-function : op ≡ 5 → asks (inserts_function i.name.now i.public i.mark) ≡ order_at s p
+    unfolding order_at
+    order-function z = rw (← oq, z, h.name, h.public, h.mark)
 
-          pub order-enum : op ≡ 4 → asks (inserts_enum d (eqb b 1) m) ≡ order_at s p
-          unfolding order_at
-          order-enum z = rw (← oq, z, dq, bq, mq, nq)
-
-          pub order_fn : op ≡ 5 → asks (inserts_function d (eqb b 1) m) ≡ order_at s p
-          unfolding order_at
-          order_fn z = rw (← oq, z, dq, bq, mq, nq)
-
--- a call that declares
-module _ (op : ℕ) where
-  pub no_declaring : (op ≡ 3 → ⊥) → (op ≡ 4 → ⊥) → (op ≡ 5 → ⊥) → is_declaring op ≡ false
-  no_declaring a b c = go (dec_lt op 3) (dec_lt op 6)
+  undeclared : (op ≡ 3 → ⊥) → (op ≡ 4 → ⊥) → (op ≡ 5 → ⊥) → is_declaring op ≡ false
+  undeclared a b c = go (dec_lt op 3) (dec_lt op 6)
     where
       go : Dec (op < 3) → Dec (op < 6) → is_declaring op ≡ false
       go (yes h) k = rw (lt-ltb op 3 h)
       go (no h) (yes k) = absurd (omega arith)
       go (no h) (no k) = rw (le-ltb op 3 (omega arith), le-ltb op 6 (omega arith))
 
-  pub declares-low : op < 3 → false ≡ is_declaring op
-  declares-low h = rw (lt-ltb op 3 h)
+  pub order-none : (op ≡ 1 → ⊥) → (op ≡ 2 → ⊥) → (op ≡ 3 → ⊥) → (op ≡ 4 → ⊥) → (op ≡ 5 → ⊥) → (op ≡ 6 → ⊥) → (op ≡ 7 → ⊥) → (op ≡ 8 → ⊥) → clears ≡ order_at s p
+  unfolding order_at
+  order-none a b c d e f g h = rw (← oq, ne_eqb op 2 b, ne_eqb op 6 f, ne_eqb op 7 g, ne_eqb op 8 h, ne_eqb op 1 a, undeclared c d e)
 
-  pub declares-rest : 3 ≤ op → ltb op 6 ≡ is_declaring op
-  declares-rest h = rw (le-ltb op 3 h)
+  -- the place after it
+  pub after_item : (op ≡ 1) ⊎ ((3 ≤ op) × (op ≤ 5)) → {n : ℕ} → n ≡ get_or s (p + 1) 0 → p + 5 + n ≡ after_order s p
+  unfolding after_order
+  after_item (inl z) e = rw (← oq, z, e)
+  after_item (inr h) e =
+      rw (← oq, e, ne_eqb op 6 (λ x. omega (arith, h.0, h.1)), ne_eqb op 7 (λ x. omega (arith, h.1)), ne_eqb op 8 (λ x. omega (arith, h.1)), ne_eqb op 1 (λ x. omega (arith, h.0)), le-ltb op 3 h.0, lt-ltb op 6 (omega (arith, h.1)))
 
-never : true ≡ false → ⊥
-never e = let x : ◌≡◌ {A = ℕ} 0 1 = cc in omega arith
+  pub after_use : op ≡ 6 → {n : ℕ} → n ≡ pair_at s (p + 1) → p + 4 + n ≡ after_order s p
+  unfolding after_order
+  after_use z e = rw (← oq, z, e)
 
--- a call of the tree, by its code
-abbrev pub is_call : ℕ → Bool
-is_call op = cond (eqb op 0) false (ltb op 9)
-
-pub call_none : (op : ℕ) → op ≡ 0 → false ≡ is_call op
-call_none op z = rw z
-
-pub call-some : (op : ℕ) → (op ≡ 0 → ⊥) → ltb op 9 ≡ is_call op
-call-some op z = rw (ne_eqb op 0 z)
-
-call-within : (op : ℕ) → is_call op ≡ true → (0 < op) × (op < 9)
-call-within op h = go (dec_lt 0 op) (dec_lt op 9)
-  where
-    go : Dec (0 < op) → Dec (op < 9) → (0 < op) × (op < 9)
-    go (yes a) (yes b) = (a, b)
-    go (no a) b = let z : op ≡ 0 = omega arith in absurd (never (sym (rw z at h)))
-    go (yes a) (no b) = absurd (never (sym (rw (ne_eqb op 0 (λ z. omega arith), le-ltb op 9 (omega arith)) at h)))
-
-call-without : (op : ℕ) → is_call op ≡ false → (op ≡ 0) ⊎ (8 < op)
-call-without op h = go (dec_lt 0 op) (dec_lt op 9)
-  where
-    go : Dec (0 < op) → Dec (op < 9) → (op ≡ 0) ⊎ (8 < op)
-    go (no a) b = inl (omega arith)
-    go (yes a) (no b) = inr (omega arith)
-    go (yes a) (yes b) = absurd (never (rw (ne_eqb op 0 (λ z. omega arith), lt-ltb op 9 b) at h))
-
-module _ (s : List ℕ) (p op : ℕ) (oq : op ≡ get_or s p 0) (z6 : op ≡ 6 → ⊥) (c : Bool) (cq : c ≡ is_call op) where
-  pub order-asked : c ≡ true → (n : ℕ) → n ≡ get_or s (p + 1) 0 → (d : List ℕ) → d ≡ part_of s (p + 2) n → (b : ℕ) → b ≡ get_or s (p + 2 + n) 0 → (m : ℕ) → m ≡ pair_at s (p + 2 + n + 1) → (k : ℕ) → k ≡ op
-      → asks (request k d (eqb b 1) m) ≡ order_at s p
-  order-asked y n nq d dq b bq m mq k kq = rw kq (go (dec_lt op 2) (dec_lt op 3) (dec_lt op 4) (dec_lt op 5) (dec_lt op 6) (dec_lt op 8))
+  pub after_get : (7 ≤ op) × (op ≤ 8) → {n : ℕ} → n ≡ get_or s (p + 1) 0 → p + 2 + n ≡ after_order s p
+  unfolding after_order
+  after_get (a, b) {n} e = go (dec_lt op 8)
     where
-      w : (0 < op) × (op < 9)
-      w = call-within op (sym cq ∙ y)
+      go : Dec (op < 8) → p + 2 + n ≡ after_order s p
+      go (yes l) = let z : op ≡ 7 = omega arith in rw (← oq, z, e)
+      go (no l) = let z : op ≡ 8 = omega arith in rw (← oq, z, e)
 
-      go : Dec (op < 2) → Dec (op < 3) → Dec (op < 4) → Dec (op < 5) → Dec (op < 6) → Dec (op < 8) → asks (request op d (eqb b 1) m) ≡ order_at s p
-      go (yes a) e f g h i = let z : op ≡ 1 = omega (arith, w.0) in rw z (order-enter s p op oq (λ x. omega arith) z6 n nq d dq (λ x. omega arith) (λ x. omega arith) b bq m mq z)
-      go (no a) (yes e) f g h i = let z : op ≡ 2 = omega arith in rw z (order-exit s p op oq z)
-      go (no a) (no e) (yes f) g h i = let z : op ≡ 3 = omega arith in rw z (order_type s p op oq (λ x. omega arith) z6 n nq d dq (λ x. omega arith) (λ x. omega arith) b bq m mq z)
-      go (no a) (no e) (no f) (yes g) h i = let z : op ≡ 4 = omega arith in rw z (order-enum s p op oq (λ x. omega arith) z6 n nq d dq (λ x. omega arith) (λ x. omega arith) b bq m mq z)
-      go (no a) (no e) (no f) (no g) (yes h) i = let z : op ≡ 5 = omega arith in rw z (order_fn s p op oq (λ x. omega arith) z6 n nq d dq (λ x. omega arith) (λ x. omega arith) b bq m mq z)
-      go (no a) (no e) (no f) (no g) (no h) (yes i) = let z : op ≡ 7 = omega (arith, z6) in rw z (order-alias s p op oq (λ x. omega arith) z6 n nq d dq z)
-      go (no a) (no e) (no f) (no g) (no h) (no i) = let z : op ≡ 8 = omega (arith, w.1) in rw z (order-function s p op oq (λ x. omega arith) z6 n nq d dq (λ x. omega arith) z)
-
-  pub order-none : c ≡ false → clears ≡ order_at s p
-  order-none y = go (call-without op (sym cq ∙ y))
+  pub after_low : op < 3 → (op ≡ 1 → ⊥) → p + 1 ≡ after_order s p
+  unfolding after_order
+  after_low h z = go (dec_lt op 1)
     where
-      clear : (op ≡ 2 → ⊥) → (op ≡ 7 → ⊥) → (op ≡ 8 → ⊥) → (op ≡ 1 → ⊥) → is_declaring op ≡ false → clears ≡ order_at s p
-      clear z2 z7 z8 z1 x = order-clear s p op oq z2 z6 _ refl _ refl z7 z8 _ refl _ refl z1 false (sym x) refl
+      go : Dec (op < 1) → p + 1 ≡ after_order s p
+      go (yes l) = let e : op ≡ 0 = omega arith in rw (← oq, e)
+      go (no l) = let e : op ≡ 2 = omega arith in rw (← oq, e)
 
-      go : (op ≡ 0) ⊎ (8 < op) → clears ≡ order_at s p
-      go (inl z) = clear (λ x. omega arith) (λ x. omega arith) (λ x. omega arith) (λ x. omega arith) (no_declaring op (λ x. omega arith) (λ x. omega arith) (λ x. omega arith))
-      go (inr h) = clear (λ x. omega arith) (λ x. omega arith) (λ x. omega arith) (λ x. omega arith) (no_declaring op (λ x. omega arith) (λ x. omega arith) (λ x. omega arith))
+  pub after_high : 8 < op → p + 1 ≡ after_order s p
+  unfolding after_order
+  after_high h =
+      rw (← oq, ne_eqb op 6 (λ e. omega arith), ne_eqb op 7 (λ e. omega arith), ne_eqb op 8 (λ e. omega arith), ne_eqb op 1 (λ e. omega arith), le-ltb op 3 (omega arith), le-ltb op 6 (omega arith))
 
--- a part of the bytes
-pub part_none : (s : List ℕ) (p n : ℕ) → length s ≤ p → [] ≡ part_of s p n
+-- the part that a slice of the bytes is
+pub part_is : (s : List ℕ) (p n : ℕ) {a b : ℕ} → a ≡ min (length s) p → b ≡ min (length s) (p + n) → take (b - a) (drop a s) ≡ part_of s p n
 unfolding part_of
-part_none s p n h = let e : drop p s ≡ [] = drop_of_length-le s h in rw e (go n)
+part_is s p n {a} {b} e f = go (dec_lt p (length s)) (dec_lt (p + n) (length s))
   where
-    go : (m : ℕ) → ◌≡◌ {A = List ℕ} [] (take m [])
-    go zero = refl
-    go (suc m) = refl
+    go : Dec (p < length s) → Dec (p + n < length s) → take (b - a) (drop a s) ≡ take n (drop p s)
+    go (no h) k =
+        let x : b - a ≡ 0 = omega (arith, e, f) in
+        let d : drop p s ≡ [] = drop_of_length-le s (omega arith) in
+        rw (x, d) (none n)
+      where
+        none : (m : ℕ) → ◌≡◌ {A = List ℕ} [] (take m [])
+        none zero = refl
+        none (suc m) = refl
+    go (yes h) (yes k) = let x : a ≡ p = omega (arith, e) in let y : b - a ≡ n = omega (arith, e, f) in rw (y, x)
+    go (yes h) (no k) =
+        let x : a ≡ p = omega (arith, e) in
+        let y : b ≡ length s = omega (arith, f) in
+        rw (x, y) (take_all (length s - p) (drop p s) (simp lib.ListN.length-drop (omega arith)) ∙ sym (take_all n (drop p s) (simp lib.ListN.length-drop (omega arith))))
 
-pub part-rest : (s : List ℕ) (p n : ℕ) → length s - p ≤ n → take (length s - p) (drop p s) ≡ part_of s p n
-unfolding part_of
-part-rest s p n h = take_all (length s - p) (drop p s) (simp lib.ListN.length-drop (omega arith)) ∙ sym (take_all n (drop p s) (simp lib.ListN.length-drop h))
-
-pub part-some : (s : List ℕ) (p n e : ℕ) → e ≡ p + n → take (e - p) (drop p s) ≡ part_of s p n
-unfolding part_of
-part-some s p n e q = let x : e - p ≡ n = omega arith in rw x
-
--- answers as numbers
-pub shown-mark : (a : Told) (m r : ℕ) → a ≡ Mark m → r ≡ 1 * 65536 + m → r ≡ shown (told a)
-shown-mark a m r q e = rw q (omega arith)
-
-pub shown-refused : (a : Told) (n w r : ℕ) → a ≡ Refused n → w ≡ n → r ≡ 2 * 65536 + w → r ≡ shown (told a)
-shown-refused a n w r q x e = rw q (omega arith)
-
-pub after-mark : (p n x : ℕ) → p + 5 + n ≡ x → p + 2 + n + 3 ≡ x
-after-mark p n x h = omega (arith, h)
-
--- the place after the call at p
-module _ (s : List ℕ) (p op : ℕ) (oq : op ≡ get_or s p 0) where
-  pub after-exit : op ≡ 2 → p + 1 ≡ after_order s p
-  unfolding after_order
-  after-exit z = rw (← oq, z)
-
-  pub after_named : (n : ℕ) → n ≡ get_or s (p + 1) 0 → (op ≡ 3) ⊎ ((op ≡ 4) ⊎ (op ≡ 5)) → p + 5 + n ≡ after_order s p
-  unfolding after_order
-  after_named n nq (inl z) = rw (← oq, z, nq)
-  after_named n nq (inr (inl z)) = rw (← oq, z, nq)
-  after_named n nq (inr (inr z)) = rw (← oq, z, nq)
-
-  pub after_use : op ≡ 6 → (n : ℕ) → n ≡ pair_at s (p + 1) → p + 4 + n ≡ after_order s p
-  unfolding after_order
-  after_use z n nq = rw (← oq, z, nq)
-
-  module _ (z6 : op ≡ 6 → ⊥) (n : ℕ) (nq : n ≡ get_or s (p + 1) 0) where
-    pub after-alias : op ≡ 7 → p + 2 + n ≡ after_order s p
-    unfolding after_order
-    after-alias z = rw (← oq, z, nq)
-
-    pub after-function : op ≡ 8 → p + 2 + n ≡ after_order s p
-    unfolding after_order
-    after-function z = rw (← oq, z, nq)
-
-    module _ (z7 : op ≡ 7 → ⊥) (z8 : op ≡ 8 → ⊥) where
-      pub after-enter : op ≡ 1 → p + 5 + n ≡ after_order s p
-      unfolding after_order
-      after-enter z = rw (← oq, z, nq)
-
-      module _ (z1 : op ≡ 1 → ⊥) (c : Bool) (cq : c ≡ is_declaring op) where
-        pub after-insert : c ≡ true → p + 5 + n ≡ after_order s p
-        unfolding after_order
-        after-insert z = rw (← oq, ne_eqb op 6 z6, ne_eqb op 7 z7, ne_eqb op 8 z8, ne_eqb op 1 z1, ← cq, z, nq)
-
-        pub after-other : c ≡ false → p + 1 ≡ after_order s p
-        unfolding after_order
-        after-other z = rw (← oq, ne_eqb op 6 z6, ne_eqb op 7 z7, ne_eqb op 8 z8, ne_eqb op 1 z1, ← cq, z)
+-- an answer by its number
+pub said_as : {t u : Tree} {o : Order} {n m : ℕ} → m ≡ n → Turned t o n u → Turned t o m u
+said_as e c = record { good = c.good; tree = c.tree; said = λ g. e ∙ c.said g }
 
 -- the tree that all calls leave
 abbrev pub left_tree : List ℕ → Flat
@@ -439,7 +317,7 @@ module _ (s : List ℕ) (o₀ : List ℕ) where
           tree = sym (w.tree ∙ f);
         }
 
-    pub walking_past : length s ≤ p → Replayed i o t
+    walking_past : length s ≤ p → Replayed i o t
     unfolding replay left
     walking_past h = ended_here (go (16000000 - i)) (stays (16000000 - i))
       where
@@ -451,7 +329,7 @@ module _ (s : List ℕ) (o₀ : List ℕ) where
         stays zero = refl
         stays (suc k) = rw (le-ltb p (length s) h)
 
-    pub walking_far : p < length s → 16777216 ≤ p → Replayed i o t
+    walking_far : p < length s → 16777216 ≤ p → Replayed i o t
     unfolding replay left
     walking_far h f = ended_here (go (16000000 - i)) (stays (16000000 - i))
       where
@@ -463,9 +341,21 @@ module _ (s : List ℕ) (o₀ : List ℕ) where
         stays zero = refl
         stays (suc k) = rw (lt-ltb p (length s) h, le-ltb p 16777216 f)
 
-    pub walking_end : 16000000 ≤ i → Replayed i o t
+    pub walking_end : 16000000 ≤ i → Replayed 16000000 o t
     unfolding replay left
-    walking_end h = let e : 16000000 - i ≡ 0 = omega (arith, w.within) in ended_here (rw e) (rw e)
+    walking_end h =
+        let e : 16000000 - i ≡ 0 = omega (arith, w.within) in
+        let n : i ≡ 16000000 = omega (arith, w.within) in
+        subst (λ (k : ℕ). Replayed k o t) n (ended_here (rw e) (rw e))
+
+    -- no call is left
+    pub walking_over : min (length s) 16777216 ≤ p → Replayed i o t
+    walking_over h = go (dec_lt p (length s)) (dec_lt p 16777216)
+      where
+        go : Dec (p < length s) → Dec (p < 16777216) → Replayed i o t
+        go (no a) b = walking_past (omega arith)
+        go (yes a) (no b) = walking_far a (omega arith)
+        go (yes a) (yes b) = absurd (omega arith)
 
     module _ (l : i < 16000000) (h : p < length s) (f : p < 16777216) (a : ℕ) (u : Tree) (c : Turned t (order_at s p) a u)
         (o' : List ℕ) (oq : o' ≡ put_at o i a) (ol : length o' ≡ length o) (q : ℕ) (qq : q ≡ after_order s p) (ql : q ≤ p + 65539) where

@@ -5,95 +5,130 @@
 
 ghost use Rattle.std.specs.Prelude.{◌≡◌, ◌+◌, ◌*◌, ◌<◌, ◌≤◌, length, get_or};
 ghost use Rattle.scope_tree.specs.Views.{told};
-ghost use Rattle.scope_tree.specs.Told.{call_told, mark_told};
+ghost use Rattle.scope_tree.specs.Told.{call_told};
+ghost use Rattle.scope_tree.specs.Trees.{cleared};
 ghost use Rattle.commit.specs.Lending.{lent_in, Kept};
-ghost use Rattle.scopes_c.specs.Lists.{pair_at, part_of, is_declaring, is_call, order_at, after_order, shown, Turned, Tells, Called, left_tree, Walked, Replayed};
+ghost use Rattle.scopes.specs.Meets.{Meets, request_of, outcome_told};
+ghost use Rattle.scopes_c.specs.Lists.{pair_at, part_of, name_in, IsItem, order_at, order_told, after_order, shown, Turned, Called, left_tree, Walked, Replayed};
 ghost use Rattle.rows.specs.Written.{put_at};
 ghost use Rattle.rows.specs.TreeRows.{Listed};
 
 use refusal::Cause;
 use scopes::lent::Lent;
-use scopes::{CELLS, OPENED, Outcome, Tree};
+use scopes::{CELLS, Call, Item, OPENED, Outcome, Tree, lent};
 
-fn wide(b: u8) -> usize
-    ensures { (result ≡ b) × (result < 256) }
+// The most calls that are made.
+const CALLS: usize = 16000000;
+
+// No call is made that starts here or further on.
+const END: usize = 16777216;
+
+fn byte(s: &[u8], at: usize) -> u8
+    ensures { result ≡ get_or s.now at 0 }
 {
-    b as usize
+    s.get(at).map_or(0, |b| *b)
 }
 
-fn byte(s: &[u8], at: usize) -> usize
-    ensures { (result ≡ get_or s.now at 0) × (result < 256) }
-{
-    if at < s.len() {
-        return wide(s[at]);
-    }
-    0
-}
-
-fn pair(s: &[u8], at: usize) -> usize
-    requires { at < 33554432 }
-    ensures { (result ≡ pair_at s.now at) × (result < 65536) }
-{
-    byte(s, at) * 256 + byte(s, at + 1)
-}
-
-fn mark(s: &[u8], at: usize) -> u16
+fn pair(s: &[u8], at: usize) -> u16
     requires { at < 33554432 }
     ensures { result ≡ pair_at s.now at }
 {
-    pair(s, at) as u16
+    u16::from_be_bytes([byte(s, at), byte(s, at + 1)])
 }
 
 // The n bytes from `at` on that are there.
 fn part<'a>(s: &'a [u8], at: usize, n: usize) -> &'a [u8]
+    requires { (at < 33554432) × (n < 65536) }
     ensures { result.now ≡ part_of s.now at n }
 {
     let len = s.len();
-    if len <= at {
-        return &s[..0];
-    }
-    if n < len - at {
-        let e = at + n;
-        return &s[at..e];
-    }
-    &s[at..]
+    &s[len.min(at)..len.min(at + n)]
 }
 
-// An answer: code 0 done, 1 with a mark, 2 with a number; the tree; the place of the next call.
+// The name of the call at p.
+fn name_at<'a>(s: &'a [u8], p: usize) -> &'a [u8]
+    requires { p < 16777216 }
+    ensures { result.now ≡ name_in s.now p }
+{
+    part(s, p + 2, usize::from(byte(s, p + 1)))
+}
+
+// What the call at p declares.
+fn item_at<'a>(s: &'a [u8], p: usize) -> Item<'a>
+    requires { p < 16777216 }
+    ensures { IsItem s.now p result }
+{
+    let end = p + 2 + usize::from(byte(s, p + 1));
+    Item {
+        name: name_at(s, p),
+        public: byte(s, end) == 1,
+        mark: pair(s, end + 1),
+    }
+}
+
+// The call at p; none for an empty tree.
+fn order_at<'a>(s: &'a [u8], p: usize) -> Option<Call<'a>>
+    requires { p < 16777216 }
+    ensures { order_told result ≡ order_at s.now p }
+{
+    match byte(s, p) {
+        1 => Some(Call::Enter(item_at(s, p))),
+        2 => Some(Call::Exit),
+        3 => Some(Call::Alias(item_at(s, p))),
+        4 => Some(Call::Enum(item_at(s, p))),
+        5 => Some(Call::Function(item_at(s, p))),
+        6 => {
+            let n = usize::from(pair(s, p + 1));
+            Some(Call::Use(part(s, p + 3, n), byte(s, p + 3 + n) == 1))
+        }
+        7 => Some(Call::GetAlias(name_at(s, p))),
+        8 => Some(Call::GetFunction(name_at(s, p))),
+        _ => None,
+    }
+}
+
+// The place after the call at p.
+fn after(s: &[u8], p: usize) -> usize
+    requires { p < 16777216 }
+    ensures { (result ≡ after_order s.now p) × (result ≤ p + 65539) }
+{
+    let name = usize::from(byte(s, p + 1));
+    match byte(s, p) {
+        1 | 3 | 4 | 5 => p + 5 + name,
+        6 => p + 4 + usize::from(pair(s, p + 1)),
+        7 | 8 => p + 2 + name,
+        _ => p + 1,
+    }
+}
+
+// An answer, the tree, and the place of the next call.
 #[derive(Clone, Copy)]
 pub struct Step {
-    pub code: u8,
-    pub value: u16,
+    pub answer: Result<Option<u16>, Cause>,
     pub tree: Tree,
     pub next: usize,
 }
 
-fn asked(a: Result<Option<u16>, Cause>, t: Tree, next: usize) -> Step
-    ensures { Tells (call_told a) t next result }
+// A call by value.
+fn made(tree: Tree, call: Call) -> Outcome
+    ensures { Meets tree (request_of call.entry) (outcome_told result) }
 {
-    let (code, value) = match a {
-        Ok(None) => (0, 0),
-        Ok(Some(mark)) => (1, mark),
-        Err(cause) => (2, u16::from(u8::from(cause))),
-    };
-    Step {
-        code,
-        value,
-        tree: t,
-        next,
+    match call {
+        Call::Enter(item) => scopes::enter(tree, item.name, item.public, item.mark),
+        Call::Exit => scopes::exit(tree),
+        Call::Alias(item) => scopes::insert_alias(tree, item.name, item.public, item.mark),
+        Call::Enum(item) => scopes::insert_enum(tree, item.name, item.public, item.mark),
+        Call::Function(item) => scopes::insert_function(tree, item.name, item.public, item.mark),
+        Call::Use(decl, public) => scopes::resolve_use(tree, decl, public),
+        Call::GetAlias(name) => Outcome {
+            answer: scopes::get_alias(tree, name).map(Some),
+            tree,
+        },
+        Call::GetFunction(name) => Outcome {
+            answer: scopes::get_function(tree, name).map(Some),
+            tree,
+        },
     }
-}
-
-fn made(o: Outcome, next: usize) -> Step
-    ensures { Tells (call_told o.answer) o.tree next result }
-{
-    asked(o.answer, o.tree, next)
-}
-
-fn found(a: Result<u16, Cause>, t: Tree, next: usize) -> Step
-    ensures { Tells (mark_told a) t next result }
-{
-    asked(a.map(Some), t, next)
 }
 
 // The call at p.
@@ -101,38 +136,45 @@ pub fn call_at(t: Tree, s: &[u8], p: usize) -> Step
     requires { p < 16777216 }
     ensures { Called t s.now p result }
 {
-    let op = byte(s, p);
-    if op == 2 {
-        return made(scopes::exit(t), p + 1);
+    let next = after(s, p);
+    let Some(call) = order_at(s, p) else {
+        return Step {
+            answer: Ok(None),
+            tree: scopes::empty(),
+            next,
+        };
+    };
+    let made = made(t, call);
+    Step {
+        answer: made.answer,
+        tree: made.tree,
+        next,
     }
-    if op == 6 {
-        let n = pair(s, p + 1);
-        let v = byte(s, p + 3 + n) == 1;
-        return made(scopes::resolve_use(t, part(s, p + 3, n), v), p + 4 + n);
+}
+
+// The call at p on lent arrays.
+fn call_in(tree: &mut Lent, s: &[u8], p: usize) -> Result<Option<u16>, Cause>
+    requires { p < 16777216 }
+    ensures kept { Kept tree.old tree.new }
+    ensures turned { Turned (lent_in tree.old) (order_at s.now p) (shown (told (call_told result))) (lent_in tree.new) }
+{
+    let Some(call) = order_at(s, p) else {
+        *tree.opened = [0; OPENED];
+        *tree.cells = [0; CELLS];
+        return Ok(None);
+    };
+    lent::call(tree, call)
+}
+
+// An answer as a number, as C reads it: a code times 65,536 plus a value. Code 0 done, 1 with a mark, 2 with a refusal's number.
+fn shown(answer: Result<Option<u16>, Cause>) -> u32
+    ensures { result ≡ shown (told (call_told answer)) }
+{
+    match answer {
+        Ok(None) => 0,
+        Ok(Some(mark)) => 65536 + u32::from(mark),
+        Err(cause) => 2 * 65536 + u32::from(u8::from(cause)),
     }
-    let n = byte(s, p + 1);
-    let e = p + 2 + n;
-    if op == 7 {
-        return found(scopes::get_alias(t, part(s, p + 2, n)), t, e);
-    }
-    if op == 8 {
-        return found(scopes::get_function(t, part(s, p + 2, n)), t, e);
-    }
-    let v = byte(s, e) == 1;
-    let m = mark(s, e + 1);
-    if op == 1 {
-        return made(scopes::enter(t, part(s, p + 2, n), v, m), e + 3);
-    }
-    if op == 3 {
-        return made(scopes::insert_alias(t, part(s, p + 2, n), v, m), e + 3);
-    }
-    if op == 4 {
-        return made(scopes::insert_enum(t, part(s, p + 2, n), v, m), e + 3);
-    }
-    if op == 5 {
-        return made(scopes::insert_function(t, part(s, p + 2, n), v, m), e + 3);
-    }
-    asked(Ok(None), scopes::empty(), p + 1)
 }
 
 fn put(out: &mut [u32], at: usize, v: u32)
@@ -141,12 +183,6 @@ fn put(out: &mut [u32], at: usize, v: u32)
     if at < out.len() {
         out[at] = v;
     }
-}
-
-fn packed(code: u8, value: u16) -> u32
-    ensures { result ≡ code * 65536 + value }
-{
-    (code as u32) * 65536 + (value as u32)
 }
 
 // How many calls there were, and the tree that they left.
@@ -159,23 +195,18 @@ struct Replay {
 fn replayed(s: &[u8], out: &mut [u32]) -> Replay
     ensures { Replayed s.now out.old result.count out.new result.tree }
 {
-    let mut t = scopes::empty();
+    let mut tree = scopes::empty();
     let mut p: usize = 0;
-    let mut i: usize = 0;
-    while i < 16000000 {
-        if s.len() <= p {
-            return Replay { count: i, tree: t };
+    for i in 0..CALLS {
+        if s.len().min(END) <= p {
+            return Replay { count: i, tree };
         }
-        if 16777216 <= p {
-            return Replay { count: i, tree: t };
-        }
-        let r = call_at(t, s, p);
-        put(out, i, packed(r.code, r.value));
-        t = r.tree;
-        p = r.next;
-        i += 1;
+        let step = call_at(tree, s, p);
+        put(out, i, shown(step.answer));
+        tree = step.tree;
+        p = step.next;
     }
-    Replay { count: i, tree: t }
+    Replay { count: CALLS, tree }
 }
 
 // Replays the calls by value: for each its answer, code times 65,536 plus value, in `out`, as far as there is place. Gives how many
@@ -183,94 +214,24 @@ fn replayed(s: &[u8], out: &mut [u32]) -> Replay
 pub fn scopes_replay(s: &[u8], out: &mut [u32]) -> usize
     ensures { Walked s.now out.old result out.new }
 {
-    let r = replayed(s, out);
-    r.count
+    replayed(s, out).count
 }
 
-// An answer as a number: code times 65,536 plus value.
-fn shown(a: Result<Option<u16>, Cause>) -> u32
-    ensures { result ≡ shown (told (call_told a)) }
-{
-    match a {
-        Ok(None) => 0,
-        Ok(Some(mark)) => packed(1, mark),
-        Err(cause) => packed(2, u16::from(u8::from(cause))),
-    }
-}
-
-// The place after the call at p.
-fn after(s: &[u8], p: usize) -> usize
-    requires { p < 16777216 }
-    ensures { (result ≡ after_order s.now p) × (result ≤ p + 65539) }
-{
-    let op = byte(s, p);
-    if op == 6 {
-        return p + 4 + pair(s, p + 1);
-    }
-    let n = byte(s, p + 1);
-    if op == 7 {
-        return p + 2 + n;
-    }
-    if op == 8 {
-        return p + 2 + n;
-    }
-    if op == 1 {
-        return p + 5 + n;
-    }
-    if declares(op) {
-        return p + 5 + n;
-    }
-    p + 1
-}
-
-fn declares(op: usize) -> bool
-    ensures { result ≡ is_declaring op }
-{
-    if op < 3 {
-        return false;
-    }
-    op < 6
-}
-
-// Whether there is a tree call of this code.
-fn is_call(op: usize) -> bool
-    ensures { result ≡ is_call op }
-{
-    if op == 0 {
-        return false;
-    }
-    op < 9
-}
-
-fn narrow(op: usize) -> u8
-    requires { op < 256 }
-    ensures { result ≡ op }
-{
-    op as u8
-}
-
-// The call at p on lent arrays: its answer as a number.
-fn call_in(tree: &mut Lent, s: &[u8], p: usize) -> u32
-    requires { p < 16777216 }
+// The calls of a list on lent arrays, and how many there were.
+fn walked(tree: &mut Lent, s: &[u8], out: &mut [u32]) -> usize
+    requires { lent_in tree.old ≡ cleared }
     ensures kept { Kept tree.old tree.new }
-    ensures turned { Turned (lent_in tree.old) (order_at s.now p) result (lent_in tree.new) }
+    ensures walked { Walked s.now out.old result out.new }
 {
-    let op = byte(s, p);
-    if op == 6 {
-        let n = pair(s, p + 1);
-        let v = byte(s, p + 3 + n) == 1;
-        return shown(scopes::lent::call(tree, 6, part(s, p + 3, n), v, 0));
+    let mut p: usize = 0;
+    for i in 0..CALLS {
+        if s.len().min(END) <= p {
+            return i;
+        }
+        put(out, i, shown(call_in(tree, s, p)));
+        p = after(s, p);
     }
-    if is_call(op) {
-        let n = byte(s, p + 1);
-        let e = p + 2 + n;
-        let v = byte(s, e) == 1;
-        let m = mark(s, e + 1);
-        return shown(scopes::lent::call(tree, narrow(op), part(s, p + 2, n), v, m));
-    }
-    *tree.opened = [0u16; OPENED];
-    *tree.cells = [0u16; CELLS];
-    0
+    CALLS
 }
 
 // As `scopes_replay`, over arrays that are lent from call to call: no record is copied. Ruled out: an answer that a refused call's
@@ -278,59 +239,25 @@ fn call_in(tree: &mut Lent, s: &[u8], p: usize) -> u32
 pub fn scopes_walk(s: &[u8], out: &mut [u32]) -> usize
     ensures { Walked s.now out.old result out.new }
 {
-    let mut opened = [0u16; OPENED];
-    let mut cells = [0u16; CELLS];
-    let mut visible = [0u8; 1024];
-    let mut scopes = [0u16; 1024];
-    let mut marks = [0u16; 1024];
-    let mut n0 = [0u64; 1024];
-    let mut n1 = [0u64; 1024];
-    let mut n2 = [0u64; 1024];
-    let mut n3 = [0u64; 1024];
-    let mut tree = Lent {
-        opened: &mut opened,
-        cells: &mut cells,
-        visible: &mut visible,
-        scopes: &mut scopes,
-        marks: &mut marks,
-        n0: &mut n0,
-        n1: &mut n1,
-        n2: &mut n2,
-        n3: &mut n3,
+    let mut tree = scopes::empty();
+    let mut arrays = Lent {
+        opened: &mut tree.opened,
+        cells: &mut tree.cells,
+        visible: &mut tree.visible,
+        scopes: &mut tree.scopes,
+        marks: &mut tree.marks,
+        n0: &mut tree.n0,
+        n1: &mut tree.n1,
+        n2: &mut tree.n2,
+        n3: &mut tree.n3,
     };
-    let mut p: usize = 0;
-    let mut i: usize = 0;
-    while i < 16000000 {
-        if s.len() <= p {
-            return i;
-        }
-        if 16777216 <= p {
-            return i;
-        }
-        let a = call_in(&mut tree, s, p);
-        put(out, i, a);
-        p = after(s, p);
-        i += 1;
-    }
-    i
+    walked(&mut arrays, s, out)
 }
 
 // The tree that the calls leave, as `put_rows` writes it. Ruled out: an entry of a refused call.
 pub fn scopes_rows(s: &[u8], out: &mut [u64]) -> usize
     ensures { Listed (left_tree s.now).entries out.old result out.new }
 {
-    let mut none = [0u32; 1];
-    let r = replayed(s, &mut none);
-    rows::put_rows(
-        &r.tree.opened,
-        &r.tree.cells,
-        &r.tree.visible,
-        &r.tree.scopes,
-        &r.tree.marks,
-        &r.tree.n0,
-        &r.tree.n1,
-        &r.tree.n2,
-        &r.tree.n3,
-        out,
-    )
+    let replay = replayed(s, &mut [0; 1]);
+    rows::put_rows(&replay.tree.view(), out)
 }

@@ -1,6 +1,7 @@
 // Replays the call lists of standard input (the form is that of scopes_c) and writes each answer on a line.
 #![tactic(auto)]
 
+use refusal::Cause;
 use std::io;
 use std::io::{BufWriter, Write};
 
@@ -10,11 +11,14 @@ const CALLS: usize = 65536;
 // No call is made that starts here or further on.
 const END: usize = 16777216;
 
-fn tell<W: Write>(out: &mut W, code: u8, value: u16) -> io::Result<()> {
-    match code {
-        0 => writeln!(out, "ok"),
-        1 => writeln!(out, "ok {value}"),
-        _ => writeln!(out, "no {value}"),
+fn tell<W: Write>(out: &mut W, answer: Result<Option<u16>, Cause>) -> io::Result<()> {
+    match answer {
+        Ok(None) => writeln!(out, "ok"),
+        Ok(Some(mark)) => writeln!(out, "ok {mark}"),
+        Err(cause) => {
+            let number = u8::from(cause);
+            writeln!(out, "no {number}")
+        }
     }
 }
 
@@ -28,7 +32,7 @@ fn main(rt: HostRuntime) -> io::Result<()> {
             break;
         }
         let step = scopes_c::call_at(tree, &calls, at);
-        tell(&mut out, step.code, step.value)?;
+        tell(&mut out, step.answer)?;
         tree = step.tree;
         at = step.next;
     }

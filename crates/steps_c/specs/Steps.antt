@@ -1,6 +1,6 @@
 -- How an answer of a step is told in numbers, by named places, for the differential run. Assumes nothing.
-use Rattle.std.specs.Prelude.{ℕ, suc, ◌+◌, ◌≤◌, ◌<◌, ◌≡◌, refl, Bool, true, false, cond, eqb, length, take, get_or}
-use Rattle.std.proofs.Common.{add-one, arith, sym, ◌∙◌, take-suc, take_all, length-take-le, eq-eqb, ne_eqb}
+use Rattle.std.specs.Prelude.{ℕ, suc, ◌+◌, ◌<◌, ◌≡◌, Bool, true, false, cond, eqb, length, take, get_or}
+use Rattle.std.proofs.Common.{add-one, arith, sym, ◌∙◌, take-suc, length-take-le, eq-eqb, ne_eqb}
 use Rattle.std.proofs.Math.Path.{ap}
 use mathlib.Core.List.{List, [], ◌∷◌, ◌++◌}
 use Rattle.std.proofs.Math.ListN.{set}
@@ -8,9 +8,9 @@ use Rattle.std.proofs.Math.Seq.{sets}
 use Rattle.bundle.specs.Read.{number_of, verdict}
 use Rattle.bundle.specs.Limits.{file_limit}
 use Rattle.bundle.specs.Decode.{decode}
-use Rattle.driver.specs.declared.Graph.{Graph}
+use Rattle.driver.specs.declared.record.Graph.{Graph}
 use Rattle.driver.specs.Turns.{Discovers}
-use Rattle.order.specs.declared.Answer.{Answer}
+use Rattle.order.specs.Results.{Answer}
 use Rattle.bundle.specs.Results.{Checked}
 use Rattle.bundle.specs.Results.{Ok, Refused}
 
@@ -69,16 +69,10 @@ sets_snoc [] l i a = let e : i ≡ i + 0 = omega arith in ap (λ (k : ℕ). set 
 sets_snoc (v ∷ vs) l i a = let e : suc i + length vs ≡ i + suc (length vs) = omega arith in sets_snoc vs (set l i v) (suc i) a ∙ ap (λ (k : ℕ). set (sets (set l i v) (suc i) vs) k a) e
 
 module _ (o : List ℕ) (at : ℕ) (l : List ℕ) where
-  pub told_none : o ≡ sets o at (take 0 l)
-  told_none = refl
-
   pub told-next : (i : ℕ) (m : List ℕ) → i < length l → m ≡ sets o at (take i l) → set m (at + i) (get_or l i 0) ≡ sets o at (take (i + 1) l)
   told-next i m h e =
       let n = length-take-le i l (omega arith) in
       rw (e, add-one i, take-suc l i 0 h) (ap (λ (k : ℕ). set (sets o at (take i l)) (at + k) (get_or l i 0)) (sym n) ∙ sym (sets_snoc (take i l) o at (get_or l i 0)))
-
-  pub told-end : (i n : ℕ) (m : List ℕ) → length l ≤ i → i ≤ n → m ≡ sets o at (take i l) → m ≡ sets o at (take n l)
-  told-end i n m h k e = e ∙ ap (sets o at) (take_all i l h ∙ sym (take_all n l (omega arith)))
 
 -- WHAT THE CALLS TELL
 module _ (a : Answer) (l : List ℕ) where

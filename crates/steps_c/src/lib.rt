@@ -10,6 +10,9 @@ ghost use Rattle.std.proofs.lemmas.List.Edits.{sets};
 ghost use Rattle.names.specs.Keywords.{is_keyword};
 ghost use Rattle.names.specs.Prefix.{starts_with};
 
+use card::Card;
+use program::Assembled;
+
 // The layout of `steps_assemble`'s answer, as specs/Steps.antt has it: three numbers, the units' files, the ids in linked order.
 pub const ASSEMBLED_FILES: usize = 3;
 
@@ -66,33 +69,18 @@ pub fn tell_places(out: &mut [usize], at: usize, l: &[usize], n: usize)
     requires { at + length l.now < 2 ^ 60 }
     ensures { out.new ≡ sets out.old at (take n l.now) }
 {
-    let mut i = 0;
-    while i < n {
-        if i >= l.len() {
-            return;
-        }
+    for i in 0..n.min(l.len()) {
         tell(out, at + i, l[i]);
-        i += 1;
     }
 }
 
-fn wide(x: u16) -> usize
-    ensures { result ≡ x }
-{
-    x as usize
-}
-
+// The same of ids. Two functions of one line: over a trait of numbers the clause would have to speak of each number's value.
 pub fn tell_ids(out: &mut [usize], at: usize, l: &[u16], n: usize)
     requires { at + length l.now < 2 ^ 60 }
     ensures { out.new ≡ sets out.old at (take n l.now) }
 {
-    let mut i = 0;
-    while i < n {
-        if i >= l.len() {
-            return;
-        }
-        tell(out, at + i, wide(l[i]));
-        i += 1;
+    for i in 0..n.min(l.len()) {
+        tell(out, at + i, usize::from(l[i]));
     }
 }
 
@@ -105,17 +93,24 @@ pub fn steps_assemble(s: &[u8], report: &mut [u8], image: &mut [u8], out: &mut [
     ensures image_after { image.new ≡ assemble_image s.now image.old }
     ensures out_after { out.new ≡ assemble_told (assemble_answer s.now report.old image.old) out.old }
 {
-    let a = program::assemble(s, report, image);
-    let number = a.number;
-    if number != 0 {
-        tell(out, 0, a.place);
-        return number;
+    match program::assemble(s, report, image) {
+        Err(e) => {
+            tell(out, 0, e.place);
+            u8::from(e.cause)
+        }
+        Ok(Assembled::Report(n)) => {
+            tell_both(out, n, 0);
+            tell(out, 2, 0);
+            0
+        }
+        Ok(Assembled::Image(linked, n)) => {
+            tell_both(out, 0, linked.units);
+            tell(out, 2, n);
+            tell_places(out, ASSEMBLED_FILES, &linked.files, linked.units);
+            tell_ids(out, ASSEMBLED_IDS, &linked.ids, linked.units);
+            0
+        }
     }
-    tell_both(out, a.report, a.units);
-    tell(out, 2, a.image);
-    tell_places(out, ASSEMBLED_FILES, &a.files, a.units);
-    tell_ids(out, ASSEMBLED_IDS, &a.ids, a.units);
-    number
 }
 
 // The graph of a bundle: a number from 1 to 13, with its place in out[0]; or 0 with the number of units in out[0], their files'
@@ -125,13 +120,13 @@ pub fn steps_discover(s: &[u8], out: &mut [usize]) -> u8
     ensures value { result ≡ number_of (verdict s.now) }
     ensures graph_told { GraphTold s.now out.old out.new }
 {
-    match reader::check(s) {
+    match reader::read(s, &mut Card::empty()) {
         Err(e) => {
             tell(out, 0, e.place);
             u8::from(e.cause)
         }
-        Ok(_) => {
-            let g = driver::discover_dependencies(s);
+        Ok(b) => {
+            let g = driver::discover_dependencies(&b);
             tell(out, 0, g.units);
             tell_places(out, GRAPH_FILES, &g.files, g.units);
             tell_ids(out, GRAPH_STARTS, &g.start, g.units);

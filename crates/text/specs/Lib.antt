@@ -2,5 +2,6 @@
 pub mod Words
 pub mod Writing
 -- LAWS for the code
+pub mod Telling
 pub mod Spelling
 pub mod LineLaws

@@ -1,19 +1,13 @@
--- LAWS for the code: the digits of a number and the bytes of a name, as std has them. Assumes nothing.
-use Rattle.std.specs.Prelude.{ℕ, zero, suc, ◌/◌, ◌%◌, ◌^◌, ◌<◌, Bool, true, false, not, cond, eqb, ltb, List, [], ◌∷◌, length, take, ◌≡◌, refl, Option, Some, None, unwrap_or}
-use Rattle.std.proofs.Common.{◌+◌, subst, arith, add-one, div-one, lt-ltb, le-ltb, sym, ap, ◌∙◌, take_all, append_assoc, append-nil}
+-- LAWS for the code: the bytes of a name, as std has them, and of a line. Assumes nothing.
+use Rattle.std.specs.Prelude.{ℕ, zero, suc, ◌+◌, ◌/◌, ◌%◌, ◌^◌, Bool, true, false, not, cond, eqb, ltb, List, [], ◌∷◌, ◌++◌, length, take, ◌≡◌, refl, Option, Some, None, unwrap_or}
+use Rattle.std.proofs.Common.{arith, div-one, sym, ap, ◌∙◌, take_all, append_assoc}
 use Rattle.std.proofs.lemmas.Bool.Decides.{nat_tests}
-use Rattle.std.proofs.lemmas.Fmt.{decimal_from_appends, length-decimal-le_succ}
-use Rattle.std.specs.Fmt as std
 use Rattle.std.specs.Int.{byte_at, bytes_high_first, to_be_bytes, w64}
 use Rattle.std.specs.List.{position_or_len, before_first}
-use Rattle.names.specs.Decimal.{decimal, digits}
-use Rattle.text.specs.Words.{bytes_of}
-
--- A NUMBER: std's digits are names'
-pub same_decimal : (n : ℕ) → n < 2 ^ 64 → std.decimal n ≡ decimal n
-unfolding decimal digits
-same_decimal n h =
-    sym (decimal_from_appends digits (record { one = λ k m l. rw (lt-ltb m 10 l) (ap (λ d. (48 + d) ∷ []) (omega arith)); more = λ k m l. rw (le-ltb m 10 l) }) (suc n) n h (omega (arith, length-decimal-le_succ n h)))
+use Rattle.names.specs.Bytes.{ascii}
+use Rattle.names.specs.Decimal.{decimal}
+use Rattle.names.specs.declared.Name.{Name}
+use Rattle.text.specs.Words.{line, no_line, bytes_of, spelled}
 
 -- A WORD: what of its bytes stands before the first 0
 abbrev is_zero : ℕ → Bool
@@ -39,5 +33,12 @@ first_or_all l end r e f = grind (arith, nat_tests, take_all)
 pub word_end : (w : ℕ) (l : List ℕ) (end : ℕ) (r : Option ℕ) → l ≡ to_be_bytes w64 w → r ≡ cond (ltb (position_or_len is_zero l) (length l)) (Some (position_or_len is_zero l)) None → end ≡ unwrap_or r (length l) → take end l ≡ bytes_of 8 w
 word_end w l end r is e f = first_or_all l end r e f ∙ (ap (before_first is_zero) is ∙ before_zero 8 w)
 
--- what the code writes is put together of these
-pub ruleset written = (append_assoc, append-nil, same_decimal)
+-- A NAME: its words one after the other
+pub name_pieces : (n : Name) → ((bytes_of 8 n.w0 ++ bytes_of 8 n.w1) ++ bytes_of 8 n.w2) ++ bytes_of 8 n.w3 ≡ spelled n
+unfolding spelled
+name_pieces n = simp append_assoc
+
+-- A LINE `no`
+pub no_pieces : (n p : ℕ) → ((((110 ∷ 111 ∷ 32 ∷ []) ++ decimal n) ++ (32 ∷ [])) ++ decimal p) ++ (10 ∷ []) ≡ line (no_line n p)
+unfolding line ascii
+no_pieces n p = simp append_assoc

@@ -1,38 +1,48 @@
-// What is written of numbers, names and refusals, to whatever writer: what is then appended is the definition's.
+// What is written of numbers, names and refusals, to whatever sink: what is then told is the definition's.
 #![tactic(auto)]
 
+mod sink;
+
+ghost use Rattle.names.specs.Decimal.{decimal};
 ghost use Rattle.text.specs.Words.{line, no_line, bytes_of, spelled};
-ghost use Rattle.std.specs.Prelude.{OnOk};
-ghost use Rattle.std.specs.Io.KnownBytes.{Appends};
 
 use names::Name;
-use std::io;
-use std::io::Write;
+pub use sink::{Buffer, Sink, Writer};
+
+// A number in decimal: the digits of the unit's name with that id.
+#[tactic(auto, unfolding(names::specs::Decimal::unit_name, names::specs::Bytes::ascii))]
+pub fn put_decimal<S: Sink>(out: &mut S, n: u64)
+    ensures { S.tells out.old (decimal n) out.new }
+{
+    out.put(names::after(names::unit_name(n).as_slice(), 5));
+}
 
 // The bytes of a word, big-endian, up to the first 0.
-fn put_word<W: Write>(out: &mut W, word: u64) -> io::Result<()>
-    ensures { OnOk result (Appends (W.contents out.old) (W.contents out.new) (bytes_of 8 word)) }
+fn put_word<S: Sink>(out: &mut S, word: u64)
+    ensures { S.tells out.old (bytes_of 8 word) out.new }
 {
     let bytes = word.to_be_bytes();
     let end = bytes.iter().position(|b| *b == 0).unwrap_or(bytes.len());
-    out.write_all(&bytes[..end])
+    out.put(&bytes[..end]);
 }
 
 // A name as it stands in the source.
-#[tactic(auto, using(crate::specs::Spelling::written), unfolding(crate::specs::Words::spelled))]
-pub fn put_name<W: Write>(out: &mut W, name: Name) -> io::Result<()>
-    ensures { OnOk result (Appends (W.contents out.old) (W.contents out.new) (spelled name)) }
+pub fn put_name<S: Sink>(out: &mut S, name: Name)
+    ensures { S.tells out.old (spelled name) out.new }
 {
-    put_word(out, name.w0)?;
-    put_word(out, name.w1)?;
-    put_word(out, name.w2)?;
-    put_word(out, name.w3)
+    put_word(out, name.w0);
+    put_word(out, name.w1);
+    put_word(out, name.w2);
+    put_word(out, name.w3);
 }
 
 // A line `no`, a number and a place.
-#[tactic(auto, using(crate::specs::Spelling::written), unfolding(crate::specs::Words::line, names::specs::Bytes::ascii))]
-pub fn put_no<W: Write>(out: &mut W, n: u64, p: u64) -> io::Result<()>
-    ensures { OnOk result (Appends (W.contents out.old) (W.contents out.new) (line (no_line n p))) }
+pub fn put_no<S: Sink>(out: &mut S, n: u64, p: u64)
+    ensures { S.tells out.old (line (no_line n p)) out.new }
 {
-    writeln!(out, "no {n} {p}")
+    out.put(b"no ");
+    put_decimal(out, n);
+    out.put(b" ");
+    put_decimal(out, p);
+    out.put(b"\n");
 }

@@ -1,11 +1,12 @@
 -- LAWS for the code: what is printed of an entry, as the code has it, and the lines of one entry more. Assumes nothing.
-use Rattle.std.specs.Prelude.{ℕ, zero, suc, ◌+◌, ◌-◌, ◌<◌, ◌≤◌, ◌≡◌, refl, Bool, true, false, cond, eqb, List, [], ◌∷◌, ◌++◌, length, get_or, take}
-use Rattle.std.proofs.Common.{arith, add-one, sym, ap, ◌∙◌, take_all, take-suc, length-take}
+use Rattle.std.specs.Prelude.{ℕ, zero, suc, ◌+◌, ◌-◌, ◌<◌, ◌≤◌, ◌≡◌, ◌⊎◌, refl, Bool, true, false, cond, eqb, List, [], ◌∷◌, ◌++◌, length, get_or, take}
+use Rattle.std.proofs.Common.{arith, ⊎_elim, add-one, sym, ap, subst, ◌∙◌, append_assoc, append-nil, eq-eqb, ne_eqb, take-suc, length-take}
 use Rattle.std.proofs.Math.Decide.{dec_lt}
 use Rattle.std.proofs.Math.ListN.{get_or-eq_default}
 use Rattle.names.specs.Bytes.{ascii}
 use Rattle.text.specs.LineLaws.{lines-append}
-use Rattle.text.specs.Words.{Text, lines, spelled}
+use Rattle.names.specs.Decimal.{decimal}
+use Rattle.text.specs.Words.{Text, line, lines, spelled}
 use Rattle.scope_tree.specs.Flat.{Entry, none}
 use Rattle.scope_tree.specs.Rows.{length-tab, get_d_tab}
 use Rattle.scope_tree.specs.Trees.{part, view, flat_of}
@@ -41,6 +42,38 @@ path_more (suc d) (suc i) l h k =
     let y : suc i - 1 ≡ i = omega arith in
     rw (z, y)
 
+pub path_none : (d s : ℕ) (l : List Entry) → (s ≡ 0) ⊎ (d ≡ 0) → (99 ∷ 114 ∷ 97 ∷ 116 ∷ 101 ∷ []) ≡ module_path d l s
+unfolding module_path ascii
+path_none zero s l h = refl
+path_none (suc d) zero l h = refl
+path_none (suc d) (suc i) l h = absurd (⊎_elim (λ e. omega arith) (λ e. omega arith) h)
+
+-- the modules around it, then its own name
+pub path_told : (d s : ℕ) (l : List Entry) (x : Shown) → (d ≡ 0 → ⊥) → (s ≡ 0 → ⊥) → x ≡ shown_of (get_or l (s - 1) none)
+    → (module_path (d - 1) l x.scope ++ (58 ∷ 58 ∷ [])) ++ spelled x.name ≡ module_path d l s
+path_told d s l x h k e =
+    subst (λ (y : Shown). (module_path (d - 1) l y.scope ++ (58 ∷ 58 ∷ [])) ++ spelled y.name ≡ module_path d l s) (sym e)
+    (append_assoc (module_path (d - 1) l (get_or l (s - 1) none).scope) (58 ∷ 58 ∷ []) (spelled (get_or l (s - 1) none).shows.name) ∙ sym (path_more d s l h k))
+
+-- AN ENTRY'S LINE, piece by piece; k bounds how deep a module lies
+abbrev pieces : List Entry → Shown → ℕ → Text
+pieces l x k =
+    ((((((((104 ∷ 97 ∷ 115 ∷ 32 ∷ []) ++ module_path k l x.scope) ++ (32 ∷ [])) ++ decimal x.kind) ++ (32 ∷ [])) ++ spelled x.name) ++ (32 ∷ [])) ++ decimal x.mark) ++ (10 ∷ [])
+
+line_pieces : (l : List Entry) (e : Entry) → (e.scope ≡ 0 → ⊥) → pieces l (shown_of e) (length l) ≡ lines (has_lines l (e ∷ []))
+unfolding has_lines lines line ascii
+line_pieces l e h = rw (ne_eqb e.scope 0 h) (simp (append_assoc, append-nil))
+
+pub line_told : (l : List Entry) (e : Entry) (x : Shown) (k : ℕ) → x ≡ shown_of e → k ≡ length l → (x.scope ≡ 0 → ⊥) → pieces l x k ≡ lines (has_lines l (e ∷ []))
+line_told l e x k is deep h =
+    subst (λ (n : ℕ). pieces l x n ≡ lines (has_lines l (e ∷ []))) (sym deep)
+    (subst (λ (y : Shown). (y.scope ≡ 0 → ⊥) → pieces l y (length l) ≡ lines (has_lines l (e ∷ []))) (sym is) (line_pieces l e) h)
+
+-- a unit has none
+pub unit_told : (l : List Entry) (e : Entry) (x : Shown) → x ≡ shown_of e → x.scope ≡ 0 → [] ≡ lines (has_lines l (e ∷ []))
+unfolding has_lines lines
+unit_told l e x is h = rw (eq-eqb e.scope 0 (sym (ap (λ (y : Shown). y.scope) is) ∙ h)) refl
+
 -- ALL ENTRIES
 has_append : (l a b : List Entry) → has_lines l (a ++ b) ≡ has_lines l a ++ has_lines l b
 unfolding has_lines
@@ -57,5 +90,3 @@ entries_more l i h =
     ap (λ (n : ℕ). lines (has_lines l (take n l))) (add-one i)
     ∙ (ap (λ (k : List Entry). lines (has_lines l k)) (take-suc l i none h)
     ∙ (ap lines (has_append l (take i l) (get_or l i none ∷ [])) ∙ lines-append (has_lines l (take i l)) (has_lines l (get_or l i none ∷ []))))
-
-pub ruleset all_entries = (entries_more, take_all)

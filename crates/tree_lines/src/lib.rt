@@ -1,8 +1,7 @@
-// The lines `has` of a tree, to whatever writer.
+// The lines `has` of a tree, to whatever sink.
 #![tactic(auto)]
 
-ghost use Rattle.std.specs.Prelude.{◌≡◌, [], ◌∷◌, get_or, OnOk};
-ghost use Rattle.std.specs.Io.KnownBytes.{Appends};
+ghost use Rattle.std.specs.Prelude.{◌≡◌, [], ◌∷◌, get_or};
 ghost use Rattle.text.specs.Words.{line, lines};
 ghost use Rattle.scope_tree.specs.Flat.{none};
 ghost use Rattle.scope_tree.specs.Trees.{flat_of};
@@ -11,17 +10,16 @@ ghost use Rattle.tree_lines.specs.EntryLaws.{shown_of};
 
 use names::Name;
 use scopes::{ENTRIES, Tree};
-use std::io;
-use std::io::Write;
+use text::Sink;
 
 // What is printed of an entry.
 #[derive(Clone, Copy)]
 struct Shown {
     // 0 the root, i + 1 the module at entry i
     scope: usize,
-    kind: u16,
+    kind: u64,
     name: Name,
-    mark: u16,
+    mark: u64,
 }
 
 // What is printed where there is no entry.
@@ -48,54 +46,55 @@ fn entry_at(tree: &Tree, i: usize) -> Shown
     }
     Shown {
         scope: usize::from(tree.scopes[i]),
-        kind: scopes::kind_at(&tree.cells, i),
+        kind: u64::from(scopes::kind_at(&tree.cells, i)),
         name: Name {
             w0: tree.n0[i],
             w1: tree.n1[i],
             w2: tree.n2[i],
             w3: tree.n3[i],
         },
-        mark: tree.marks[i],
+        mark: u64::from(tree.marks[i]),
     }
 }
 
 // The path of the module of a scope, from `crate` on: the modules around it, outermost first, of which there are at most `depth`.
-#[tactic(auto, using(text::specs::Spelling::written, crate::specs::EntryLaws::path_more), unfolding(crate::specs::Entries::module_path, names::specs::Bytes::ascii))]
-fn put_module<W: Write>(out: &mut W, tree: &Tree, scope: usize, depth: usize) -> io::Result<()>
-    ensures { OnOk result (Appends (W.contents out.old) (W.contents out.new) (module_path depth (flat_of tree.now).entries scope)) }
+fn put_module<S: Sink>(out: &mut S, tree: &Tree, scope: usize, depth: usize)
+    ensures { S.tells out.old (module_path depth (flat_of tree.now).entries scope) out.new }
 {
     if scope == 0 || depth == 0 {
-        return out.write_all(b"crate");
+        out.put(b"crate");
+        return;
     }
     let module = entry_at(tree, scope - 1);
-    put_module(out, tree, module.scope, depth - 1)?;
-    out.write_all(b"::")?;
-    text::put_name(out, module.name)
+    put_module(out, tree, module.scope, depth - 1);
+    out.put(b"::");
+    text::put_name(out, module.name);
 }
 
 // The line of entry i; none of a unit.
-#[tactic(auto, using(text::specs::Spelling::written, crate::specs::EntryLaws::entries_at), unfolding(crate::specs::Entries::has_lines, text::specs::Words::lines, text::specs::Words::line, names::specs::Bytes::ascii))]
-fn put_entry<W: Write>(out: &mut W, tree: &Tree, i: usize) -> io::Result<()>
-    ensures { OnOk result (Appends (W.contents out.old) (W.contents out.new) (lines (has_lines (flat_of tree.now).entries (get_or (flat_of tree.now).entries i none ∷ [])))) }
+fn put_entry<S: Sink>(out: &mut S, tree: &Tree, i: usize)
+    ensures { S.tells out.old (lines (has_lines (flat_of tree.now).entries (get_or (flat_of tree.now).entries i none ∷ []))) out.new }
 {
     let entry = entry_at(tree, i);
     if entry.scope == 0 {
-        return Ok(());
+        return;
     }
-    out.write_all(b"has ")?;
-    put_module(out, tree, entry.scope, scopes::count_of(&tree.opened))?;
-    write!(out, " {} ", entry.kind)?;
-    text::put_name(out, entry.name)?;
-    writeln!(out, " {}", entry.mark)
+    out.put(b"has ");
+    put_module(out, tree, entry.scope, scopes::count_of(&tree.opened));
+    out.put(b" ");
+    text::put_decimal(out, entry.kind);
+    out.put(b" ");
+    text::put_name(out, entry.name);
+    out.put(b" ");
+    text::put_decimal(out, entry.mark);
+    out.put(b"\n");
 }
 
 // The entries in the order made; units are not shown.
-#[tactic(auto, using(text::specs::Spelling::written, crate::specs::EntryLaws::entries_at, crate::specs::EntryLaws::all_entries), unfolding(crate::specs::Entries::has_lines, text::specs::Words::lines))]
-pub fn put_tree<W: Write>(out: &mut W, tree: &Tree) -> io::Result<()>
-    ensures { OnOk result (Appends (W.contents out.old) (W.contents out.new) (lines (has_lines (flat_of tree.now).entries (flat_of tree.now).entries))) }
+pub fn put_tree<S: Sink>(out: &mut S, tree: &Tree)
+    ensures { S.tells out.old (lines (has_lines (flat_of tree.now).entries (flat_of tree.now).entries)) out.new }
 {
     for i in 0..scopes::count_of(&tree.opened) {
-        put_entry(out, tree, i)?;
+        put_entry(out, tree, i);
     }
-    Ok(())
 }

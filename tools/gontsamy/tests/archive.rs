@@ -6,7 +6,7 @@ use std::process::Command;
 
 use common::{archive, compile, root, scratch};
 
-/// The archive needs memcpy, memmove and memset alone.
+/// The archive needs memcpy and memset alone.
 #[test]
 fn undefined_symbols() {
     let output = Command::new("nm")
@@ -21,7 +21,7 @@ fn undefined_symbols() {
         .collect();
     assert!(!names.is_empty());
     for name in names {
-        assert!(["memcpy", "memmove", "memset"].contains(&name), "{name}");
+        assert!(["memcpy", "memset"].contains(&name), "{name}");
     }
 }
 

@@ -1,26 +1,20 @@
-use Rattle.std.proofs.Common.{rules}
-use Rattle.discovery.specs.Places.{fresh}
-use Rattle.linker.specs.Join.{rows_none, rows_on}
+-- `link_rows` meets its contract. Assumes nothing.
+use Rattle.std.proofs.Common.{ap, sym, subst, ◌∙◌, ◌≤◌, get_or}
+use Rattle.scope_tree.specs.Trees.{cleared, flat_of}
+use Rattle.scope_tree.specs.declared.Tree.{Tree}
+use Rattle.rows.specs.TreeRows.{listed_as}
+use Rattle.linker.specs.Join.{comes, no_rows, rows-due}
 use Rattle.linker.proofs.link_rows.Goals as goal
 
-pub reported-a-requires : goal.reported-a-requires
-reported-a-requires c = fresh
+pub returns-then-not-has_image-clause-listed : goal.returns-then-not-has_image-clause-listed
+returns-then-not-has_image-clause-listed c =
+    rows-due c.args.s.now c.args.image.now cleared (rw (sym c.has_image.ensures ∙ c.if-not-has_image.true) at c.link_into-answer.ensures.link_tree cleared) _ _ _ (no_rows c.args.out.now)
 
-pub returns-then-n-eq0 : goal.returns-then-n-eq0
-returns-then-n-eq0 c =
-    let told = rows_none c.args.s.now c.args.report.now _ _ c.reported-a.result c.reported-a.ensures c.args.image.now c.args.out.now c.if-n-eq0.true in
-    record { answer_value = told.0; report_after = told.1.0; image_after = told.1.1.0; listed = told.1.1.1 }
+pub put_rows-entries-requires : goal.put_rows-entries-requires
+put_rows-entries-requires c =
+    subst (λ (t : Tree). get_or t.opened 9 0 ≤ 1024) (sym c.view.ensures)
+    (comes c.link_into-answer.new.tree c.args.s.now c.args.image.now (rw (sym c.has_image.ensures ∙ c.if-not-has_image.false) at c.link_into-answer.ensures.link_tree cleared)).small
 
-pub slice_bounds-tell_units-end : goal.slice_bounds-tell_units-end
-slice_bounds-tell_units-end c = search (rules, c.reported-a.ensures.long)
-
-pub slice_bounds-tell_units-end-2 : goal.slice_bounds-tell_units-end-2
-slice_bounds-tell_units-end-2 c = search (rules, c.reported-a)
-
-pub tell_units-requires : goal.tell_units-requires
-tell_units-requires c = c.reported-a.ensures.given c.if-n-eq0.false
-
-pub returns : goal.returns
-returns c =
-    let told = rows_on c.args.s.now c.args.report.now _ _ c.reported-a.result c.reported-a.ensures c.args.image.now c.args.out.now c.if-n-eq0.false _ _ c.tell_units.result c.tell_units.ensures in
-    record { answer_value = told.0; report_after = told.1.0; image_after = told.1.1.0; listed = told.1.1.1 }
+pub returns-clause-listed : goal.returns-clause-listed
+returns-clause-listed c =
+    rows-due c.args.s.now c.args.image.now c.link_into-answer.new.tree (rw (sym c.has_image.ensures ∙ c.if-not-has_image.false) at c.link_into-answer.ensures.link_tree cleared) _ _ _ (listed_as _ _ (ap (λ (t : Tree). (flat_of t).entries) c.view.ensures) _ _ _ c.put_rows-entries.ensures)

@@ -1,9 +1,5 @@
-use Prim.Native.Nat.{◌-◌}
 use Rattle.scopes_c.specs.Lists.{Walking}
 use Rattle.scopes_c.proofs.replayed.Given as goal
 
 abbrev pub invariant-loop-i : goal.invariant-loop-i
-invariant-loop-i l = Walking l.s l.initial.out l.out l.t l.p l.i
-
-abbrev pub decreases-loop-i : goal.decreases-loop-i
-decreases-loop-i l = 16000000 - l.i
+invariant-loop-i l = Walking l.s l.initial.out l.out l.tree l.p l.i

@@ -3,22 +3,16 @@ use mathlib.Core.Path.{sym, ◌∙◌}
 use Rattle.steps_c.specs.Steps.{told-ok, told-refused, refused, accepted, graph-told}
 use Rattle.steps_c.proofs.steps_discover.Goals as goal
 
--- src/lib.rt:165:21
-pub discover_dependencies-g-requires : goal.discover_dependencies-g-requires
-discover_dependencies-g-requires c = sym c.in-Ok.ensures
-
--- src/lib.rt:153:1
 pub returns-in-Err : goal.returns-in-Err
 returns-in-Err c =
-    let e = sym c.in-Err.ensures in
+    let e = sym c.in-Err.ensures.tells in
     record { value = c.from.ensures ∙ told-refused _ _ _ e; graph_told = refused _ _ e c.tell.ensures }
 
--- src/lib.rt:153:1
 pub returns-in-Ok : goal.returns-in-Ok
 returns-in-Ok c =
-    let e = sym c.in-Ok.ensures in
+    let e = sym c.in-Ok.ensures.tells in
     record {
       value = told-ok _ e;
-      graph_told = accepted c.discover_dependencies-g.result e c.discover_dependencies-g.ensures
+      graph_told = accepted c.discover_dependencies-g.result e (rw c.in-Ok.ensures.same at c.discover_dependencies-g.ensures)
           (graph-told c.discover_dependencies-g.result c.args.out.now _ _ _ _ _ c.tell-in-Ok.ensures c.tell_places.ensures c.tell_ids.ensures c.tell_ids-in-Ok.ensures c.tell_ids-in-Ok-2.ensures);
     }

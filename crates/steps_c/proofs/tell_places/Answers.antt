@@ -1,30 +1,17 @@
 -- `tell_places` meets its contract. Assumes nothing.
-use Prim.Native.Nat.{ℕ}
+use Rattle.std.proofs.Common.{ℕ, ◌≡◌, ap, ◌∙◌}
 use native.Mathlib.Omega.{arith}
-use mathlib.Core.Path.{◌≡◌, ap, ◌∙◌}
+use Prim.Native.Nat.{min}
+use Rattle.std.proofs.lemmas.List.{take_min}
 use lib.ListN.{length, take}
-use lib.Seq.{sets, length-sets}
-use Rattle.steps_c.specs.Steps.{told-next, told-end}
+use lib.Seq.{sets}
+use Rattle.steps_c.specs.Steps.{told-next}
 use Rattle.steps_c.proofs.tell_places.Goals as goal
 
--- src/lib.rt:102:13
-pub shape_of-out-then-i-l : goal.shape_of-out-then-i-l
-shape_of-out-then-i-l c = ap length c.loop-i.invariant.1 ∙ length-sets c.args.out.now c.args.at (take c.loop-i.i c.args.l.now)
-
--- src/lib.rt:102:13
-pub returns-then-i-l : goal.returns-then-i-l
-returns-then-i-l c = told-end c.args.out.now c.args.at c.args.l.now c.loop-i.i c.args.n c.loop-i.out c.if-i-l.true c.loop-i.invariant.0 c.loop-i.invariant.1
-
--- src/lib.rt:100:5
 pub loop-i-preserved : goal.loop-i-preserved
-loop-i-preserved c = (omega (arith, c.loop-i-test.true), c.tell.ensures ∙ told-next c.args.out.now c.args.at c.args.l.now c.loop-i.i c.loop-i.out c.if-i-l.false c.loop-i.invariant.1)
+loop-i-preserved c = c.tell.ensures ∙ told-next c.args.out.now c.args.at c.args.l.now c.loop-i.i c.loop-i.out (omega (arith, c.loop-i-test.true, c.min-i-end.ensures)) c.loop-i.invariant
 
--- src/lib.rt:95:1
-pub shape_of-out : goal.shape_of-out
-shape_of-out c = ap length c.loop-i.invariant.1 ∙ length-sets c.args.out.now c.args.at (take c.loop-i.i c.args.l.now)
-
--- src/lib.rt:95:1
 pub returns : goal.returns
 returns c =
-    let e : c.loop-i.i ≡ c.args.n = omega (arith, c.loop-i.invariant.0, c.loop-i-test.false) in
-    c.loop-i.invariant.1 ∙ ap (λ (k : ℕ). sets c.args.out.now c.args.at (take k c.args.l.now)) e
+    let e : c.loop-i.i ≡ min c.args.n (length c.args.l.now) = omega (arith, c.loop-i.auto.i-end, c.loop-i-test.false, c.min-i-end.ensures) in
+    c.loop-i.invariant ∙ (ap (λ (k : ℕ). sets c.args.out.now c.args.at (take k c.args.l.now)) e ∙ ap (sets c.args.out.now c.args.at) (take_min c.args.n c.args.l.now))

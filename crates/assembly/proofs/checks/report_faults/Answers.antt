@@ -1,44 +1,47 @@
-use Rattle.std.proofs.Common.{rules}
-use native.Mathlib.Omega.{arith}
-use Prim.Native.Nat.{ℕ, ◌-◌}
-use mathlib.Core.Path.{◌≡◌, sym, ap, ◌∙◌}
-use mathlib.Core.List.{List, map}
-use lib.ListN.{replicate, length-replicate, length-set, length, take}
+-- `report_faults`: all faults are told, in the order of their pushes. Assumes nothing.
+use Rattle.std.proofs.Common.{arith, ap, ◌∙◌, ◌-◌, ◌++◌, List, map, length, take, length-append}
+use Rattle.std.proofs.lemmas.List.{length-map}
+use Rattle.refusal.specs.declared.Refusal.{Refusal}
 use Rattle.bundle.specs.Decode.{decode}
 use Rattle.discovery.specs.Discovery.{Fault}
+use Rattle.driver.specs.Meaning.{fault_told}
 use Rattle.order.specs.Report.{fault, lent_report, reporting}
-use Rattle.assembly.specs.EnumRoom.{enums_fit, zero-unit, step5-faults, with_main, without-main}
 use Rattle.assembly.specs.Faults.{enums_of}
+use Rattle.assembly.specs.FaultRoom.{foreign, main_told, main_few}
+use Rattle.assembly.specs.EnumRoom.{enums_fit, all-meant}
 use Rattle.assembly.proofs.checks.report_faults.Goals as goal
 
-pub all_enums-n-requires : goal.all_enums-n-requires
-all_enums-n-requires c = (c.requires, let e = enums_fit c.args.s.now (λ i. omega (arith, c.type_inv.s i)) c.args.files.now c.args.ids.now c.args.units c.requires in omega arith)
+pub forbid_enum_dec_in_deps-requires : goal.forbid_enum_dec_in_deps-requires
+forbid_enum_dec_in_deps-requires c =
+    let e = enums_fit c.args.program.now.bytes.now c.args.program.now.fit c.args.program.now.known.now c.args.program.now.ids.now c.args.program.now.given in
+    let n = ap length c.new-faults.ensures in
+    omega arith
 
-pub main_there-requires : goal.main_there-requires
-main_there-requires c = zero-unit c.args.s.now (λ i. omega (arith, c.type_inv.s i)) c.args.files.now c.args.ids.now c.args.units c.requires
+pub require_main-requires : goal.require_main-requires
+require_main-requires c =
+    let e = enums_fit c.args.program.now.bytes.now c.args.program.now.fit c.args.program.now.known.now c.args.program.now.ids.now c.args.program.now.given in
+    let n = ap length (rw c.new-faults.ensures at c.forbid_enum_dec_in_deps.ensures) in
+    omega (arith, length-map (enums_of (decode c.args.program.now.bytes.now) (take (length c.args.program.now.ids.now - 1) c.args.program.now.ids.now)) foreign)
 
 pub write_faults-requires : goal.write_faults-requires
-write_faults-requires c = let e = enums_fit c.args.s.now (λ i. omega (arith, c.type_inv.s i)) c.args.files.now c.args.ids.now c.args.units c.requires in let r : c.all_enums-n.result ≡ length (enums_of (decode c.args.s.now) (take (c.args.units - 1) c.args.ids.now)) = c.all_enums-n.ensures.0 in search rules
+write_faults-requires c =
+    let e = enums_fit c.args.program.now.bytes.now c.args.program.now.fit c.args.program.now.known.now c.args.program.now.ids.now c.args.program.now.given in
+    let marks = enums_of (decode c.args.program.now.bytes.now) (take (length c.args.program.now.ids.now - 1) c.args.program.now.ids.now) in
+    let n = ap length (c.as_slice.ensures ∙ (c.require_main.ensures ∙ ap (λ l. l ++ main_told (decode c.args.program.now.bytes.now)) (rw c.new-faults.ensures at c.forbid_enum_dec_in_deps.ensures))) in
+    omega (arith, length-map marks foreign, length-append (map foreign marks) (main_told (decode c.args.program.now.bytes.now)), main_few (decode c.args.program.now.bytes.now))
 
-pub returns-then-main_there : goal.returns-then-main_there
-returns-then-main_there c = let f = (with_main (enums_of (decode c.args.s.now) (take (c.args.units - 1) c.args.ids.now)) (replicate 1025 0) c.all_enums-n.new.marks c.all_enums-n.result 1025 (length-replicate {A = ℕ} 1025 0) (let e = enums_fit c.args.s.now (λ i. omega (arith, c.type_inv.s i)) c.args.files.now c.args.ids.now c.args.units c.requires in omega arith) c.all_enums-n.ensures.1 c.all_enums-n.ensures.0 (decode c.args.s.now) (sym c.main_there.ensures ∙ c.if-main_there.true) ∙ sym (step5-faults c.args.s.now (λ i. omega (arith, c.type_inv.s i)) c.args.files.now c.args.ids.now c.args.units c.requires)) in
-    record { value = c.write_faults.ensures.value ∙ ap (λ (l : List Fault). reporting (map fault l) (length c.args.report.now)) f; report_after = c.write_faults.ensures.out_after ∙ ap (λ (l : List Fault). lent_report (map fault l) c.args.report.now) f }
+pub returns-clause-value : goal.returns-clause-value
+returns-clause-value c =
+    let p = c.args.program.now in
+    let all = c.as_slice.ensures ∙ (c.require_main.ensures ∙ ap (λ l. l ++ main_told (decode p.bytes.now)) (rw c.new-faults.ensures at c.forbid_enum_dec_in_deps.ensures)) in
+    c.write_faults.ensures.value
+    ∙ (ap (λ (l : List Refusal). reporting (map fault (map fault_told l)) (length c.args.report.now)) all
+    ∙ ap (λ (l : List Fault). reporting (map fault l) (length c.args.report.now)) (all-meant p.bytes.now p.fit p.known.now p.ids.now p.given))
 
-pub bounds-numbers-n : goal.bounds-numbers-n
-bounds-numbers-n c = let e = enums_fit c.args.s.now (λ i. omega (arith, c.type_inv.s i)) c.args.files.now c.args.ids.now c.args.units c.requires in let r : c.all_enums-n.result ≡ length (enums_of (decode c.args.s.now) (take (c.args.units - 1) c.args.ids.now)) = c.all_enums-n.ensures.0 in omega arith
-
-pub offset_bounds-places-n : goal.offset_bounds-places-n
-offset_bounds-places-n c = let e = enums_fit c.args.s.now (λ i. omega (arith, c.type_inv.s i)) c.args.files.now c.args.ids.now c.args.units c.requires in let r : c.all_enums-n.result ≡ length (enums_of (decode c.args.s.now) (take (c.args.units - 1) c.args.ids.now)) = c.all_enums-n.ensures.0 in search rules
-
-pub bounds-places-n : goal.bounds-places-n
-bounds-places-n c = let e = enums_fit c.args.s.now (λ i. omega (arith, c.type_inv.s i)) c.args.files.now c.args.ids.now c.args.units c.requires in let r : c.all_enums-n.result ≡ length (enums_of (decode c.args.s.now) (take (c.args.units - 1) c.args.ids.now)) = c.all_enums-n.ensures.0 in omega arith
-
-pub overflow_add-n : goal.overflow_add-n
-overflow_add-n c = let e = enums_fit c.args.s.now (λ i. omega (arith, c.type_inv.s i)) c.args.files.now c.args.ids.now c.args.units c.requires in let r : c.all_enums-n.result ≡ length (enums_of (decode c.args.s.now) (take (c.args.units - 1) c.args.ids.now)) = c.all_enums-n.ensures.0 in search rules
-
-pub write_faults-requires-2 : goal.write_faults-requires-2
-write_faults-requires-2 c = let e = enums_fit c.args.s.now (λ i. omega (arith, c.type_inv.s i)) c.args.files.now c.args.ids.now c.args.units c.requires in let r : c.all_enums-n.result ≡ length (enums_of (decode c.args.s.now) (take (c.args.units - 1) c.args.ids.now)) = c.all_enums-n.ensures.0 in let z = length-set (replicate {A = ℕ} 1025 28) c.all_enums-n.result 27 ∙ length-replicate {A = ℕ} 1025 28 in let p = length-set c.all_enums-n.new.marks c.all_enums-n.result 0 in let q : length c.all_enums-n.new.marks ≡ 1025 = search (rules, c.all_enums-n) in (omega arith, omega arith, omega arith)
-
-pub returns : goal.returns
-returns c = let f = (without-main (enums_of (decode c.args.s.now) (take (c.args.units - 1) c.args.ids.now)) (replicate 1025 0) c.all_enums-n.new.marks c.all_enums-n.result 1025 (length-replicate {A = ℕ} 1025 0) (let e = enums_fit c.args.s.now (λ i. omega (arith, c.type_inv.s i)) c.args.files.now c.args.ids.now c.args.units c.requires in omega arith) c.all_enums-n.ensures.1 c.all_enums-n.ensures.0 (decode c.args.s.now) (sym c.main_there.ensures ∙ c.if-main_there.false) ∙ sym (step5-faults c.args.s.now (λ i. omega (arith, c.type_inv.s i)) c.args.files.now c.args.ids.now c.args.units c.requires)) in
-    record { value = c.write_faults-2.ensures.value ∙ ap (λ (l : List Fault). reporting (map fault l) (length c.args.report.now)) f; report_after = c.write_faults-2.ensures.out_after ∙ ap (λ (l : List Fault). lent_report (map fault l) c.args.report.now) f }
+pub returns-clause-report_after : goal.returns-clause-report_after
+returns-clause-report_after c =
+    let p = c.args.program.now in
+    let all = c.as_slice.ensures ∙ (c.require_main.ensures ∙ ap (λ l. l ++ main_told (decode p.bytes.now)) (rw c.new-faults.ensures at c.forbid_enum_dec_in_deps.ensures)) in
+    c.write_faults.ensures.out_after
+    ∙ (ap (λ (l : List Refusal). lent_report (map fault (map fault_told l)) c.args.report.now) all
+    ∙ ap (λ (l : List Fault). lent_report (map fault l) c.args.report.now) (all-meant p.bytes.now p.fit p.known.now p.ids.now p.given))

@@ -1,6 +1,6 @@
 -- `bundle::steps::past` meets its contract. Assumes nothing.
 use native.Mathlib.Omega.{arith}
-use mathlib.Core.Path.{◌≡◌, refl, sym, ◌∙◌}
+use mathlib.Core.Path.{refl, sym, ◌∙◌}
 use Rattle.bundle.specs.Decode.{far}
 use Rattle.bundle.specs.ListLaws.{far-more}
 use Rattle.bundle.proofs.steps.past.Goals as goal

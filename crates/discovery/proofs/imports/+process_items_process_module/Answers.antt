@@ -1,76 +1,53 @@
 -- The walk over items meets its contract. Assumes nothing.
-use mathlib.Core.Path.{◌≡◌, ap, ◌∙◌}
-use native.Mathlib.Omega.{arith}
-use Prim.Native.Nat.{◌<◌}
-use borrow.Author.Rules.{rules}
-use lib.ListN.{length}
-use Rattle.bundle.specs.Limits.{use_limit}
-use Rattle.discovery.specs.Walk.{gathered_none, gathered_use, so_far-room, so_far-next, so_far-all, kind-byte, use_mark, use_item, other_item, module_flat, module_deep}
+use Rattle.std.proofs.Common.{ap, arith, length}
+use Rattle.bundle.specs.Kinds.{module_byte}
+use Rattle.discovery.specs.Walk.{gathered_none, gathered_use, so_far-none, so_far-before, so_far-room, so_far-next, so_far-all, use_mark, use_item, other_item, module_flat, module_deep}
 use Rattle.discovery.proofs.imports.+process_items_process_module.Goals as goal
 
-pub process_items-bounds-w-n : goal.process_items-bounds-w-n
-process_items-bounds-w-n t c =
-    let e = ap length (use_item c.args.depth c.args.s.now c.loop-a.a c.item_kind-kind.result c.item_kind-kind.ensures c.if-kind-eq-USE.true) in
-    let r = so_far-room c.args.depth c.args.s.now c.args.end c.args.u c.args.at c.loop-a.w c.loop-a.a c.loop-a.invariant.0 c.loop-a-test.true c.loop-a.invariant.1 in
+pub process_items-loop-at-init : goal.process_items-loop-at-init
+process_items-loop-at-init t c =
+    rw (c.into_iter-at-iterator.ensures.into_iter_gives, c.of-at-items.ensures) (so_far-none c.args.depth c.args.s.now c.args.uses.now c.args.items.end c.args.items.at c.requires.1)
+
+pub process_items-kind-requires : goal.process_items-kind-requires
+process_items-kind-requires t c = let before = so_far-before c.loop-at.invariant c.in-Some.ensures.steps in omega arith
+
+pub process_items-push-requires : goal.process_items-push-requires
+process_items-push-requires t c =
+    let e = ap length (use_item c.args.depth c.args.s.now c.in-Some.at c.kind.ensures.byte c.in-Use.is) in
+    let r = so_far-room c.loop-at.invariant c.in-Some.ensures.steps in
     omega arith
 
-pub process_items-loop-a-preserved-then-kind-eq-USE : goal.process_items-loop-a-preserved-then-kind-eq-USE
-process_items-loop-a-preserved-then-kind-eq-USE t c =
-    let e = use_item c.args.depth c.args.s.now c.loop-a.a c.item_kind-kind.result c.item_kind-kind.ensures c.if-kind-eq-USE.true in
-    let l = ap length e in
-    let r = so_far-room c.args.depth c.args.s.now c.args.end c.args.u c.args.at c.loop-a.w c.loop-a.a c.loop-a.invariant.0 c.loop-a-test.true c.loop-a.invariant.1 in
-    let b : c.loop-a.w.count < use_limit = omega arith in
-    let z : length c.args.u.marks ≡ use_limit = search (rules, c.well_formed) in
-    let g = c.loop-a.invariant.0.gathered.wide in (
-      so_far-next c.args.depth c.args.s.now c.args.end c.args.u c.args.at c.loop-a.w c.loop-a.a c.loop-a.invariant.0 _ _ c.loop-a-test.true
-          (rw e (gathered_use c.args.s.now c.loop-a.w c.loop-a.a
-          (use_mark c.args.depth c.args.s.now c.loop-a.a c.item_kind-kind.result c.item_kind-kind.ensures c.if-kind-eq-USE.true (omega arith)) (omega arith)))
-          (c.next_item-a.ensures.0 _ _ c.loop-a-test.true),
-      c.loop-a.invariant.1,
+pub process_items-process_module-requires : goal.process_items-process_module-requires
+process_items-process_module-requires t c =
+    let before = so_far-before c.loop-at.invariant c.in-Some.ensures.steps in (
+      rw (← c.decreases) (omega arith),
+      (omega arith, (so_far-room c.loop-at.invariant c.in-Some.ensures.steps, module_byte c.kind.ensures.byte c.in-Module.is)),
     )
 
-pub process_items-process_module-w-requires : goal.process_items-process_module-w-requires
-process_items-process_module-w-requires t c = (
-  rw (← c.decreases) (omega arith),
-  (
-    omega arith,
-    (
-      so_far-room c.args.depth c.args.s.now c.args.end c.args.u c.args.at c.loop-a.w c.loop-a.a c.loop-a.invariant.0 c.loop-a-test.true c.loop-a.invariant.1,
-      kind-byte c.args.depth c.args.s.now c.loop-a.a c.item_kind-kind.result c.item_kind-kind.ensures ∙ c.if-kind-eq-MODULE.true,
-    ),
-  ),
-)
+pub process_items-loop-at-preserved-in-Use : goal.process_items-loop-at-preserved-in-Use
+process_items-loop-at-preserved-in-Use t c =
+    let before = so_far-before c.loop-at.invariant c.in-Some.ensures.steps in
+    let mark = use_mark c.args.depth c.args.s.now c.in-Some.at c.kind.ensures.byte c.in-Use.is (omega arith) in
+    rw c.push.ensures (so_far-next c.loop-at.invariant c.in-Some.ensures.steps
+    (rw (use_item c.args.depth c.args.s.now c.in-Some.at c.kind.ensures.byte c.in-Use.is) (gathered_use c.args.s.now c.loop-at.uses c.in-Some.at mark)))
 
-pub process_items-loop-a-preserved-then-kind-eq-MODULE : goal.process_items-loop-a-preserved-then-kind-eq-MODULE
-process_items-loop-a-preserved-then-kind-eq-MODULE t c = (
-  so_far-next c.args.depth c.args.s.now c.args.end c.args.u c.args.at c.loop-a.w c.loop-a.a c.loop-a.invariant.0 _ _ c.loop-a-test.true
-      c.process_module-w.ensures (c.next_item-a.ensures.0 _ _ c.loop-a-test.true),
-  c.loop-a.invariant.1,
-)
+pub process_items-loop-at-preserved-in-Module : goal.process_items-loop-at-preserved-in-Module
+process_items-loop-at-preserved-in-Module t c = so_far-next c.loop-at.invariant c.in-Some.ensures.steps c.process_module.ensures
 
-pub process_items-loop-a-preserved : goal.process_items-loop-a-preserved
-process_items-loop-a-preserved t c = (
-  so_far-next c.args.depth c.args.s.now c.args.end c.args.u c.args.at c.loop-a.w c.loop-a.a c.loop-a.invariant.0 _ _ c.loop-a-test.true
-      (rw (other_item c.args.depth c.args.s.now c.loop-a.a c.item_kind-kind.result c.item_kind-kind.ensures c.if-kind-eq-USE.false c.if-kind-eq-MODULE.false)
-      (gathered_none c.args.s.now c.loop-a.w))
-      (c.next_item-a.ensures.0 _ _ c.loop-a-test.true),
-  c.loop-a.invariant.1,
-)
+pub process_items-loop-at-preserved : goal.process_items-loop-at-preserved
+process_items-loop-at-preserved t c =
+    so_far-next c.loop-at.invariant c.in-Some.ensures.steps (rw (other_item c.args.depth c.args.s.now c.in-Some.at c.kind.ensures.byte c.in-Named.is) (gathered_none _ _))
 
 pub process_items-returns : goal.process_items-returns
-process_items-returns t c =
-    so_far-all c.args.depth c.args.s.now c.args.end c.args.u c.args.at c.loop-a.w c.loop-a.a c.loop-a.invariant.0 c.loop-a-test.false
-
-pub process_module-returns-then-depth-eq0 : goal.process_module-returns-then-depth-eq0
-process_module-returns-then-depth-eq0 t c =
-    rw (module_flat c.args.depth c.args.s.now c.args.at c.requires.1.1 c.if-depth-eq0.true) (gathered_none c.args.s.now c.args.u)
+process_items-returns t c = so_far-all c.loop-at.invariant c.in-None.ensures.steps.0
 
 pub process_module-process_items-requires : goal.process_module-process_items-requires
 process_module-process_items-requires t c =
-    let e = module_deep c.args.depth c.args.s.now c.args.at c.requires.1.1 c.module_items-inner.result.end c.module_items-inner.result.at c.if-depth-eq0.false c.module_items-inner.ensures.0 in
-    (rw (← c.decreases) (omega arith), (search rules, rw e at c.requires.1.0))
+    let e = module_deep _ _ _ c.requires.1.1 _ _ c.if-depth-gt0.true c.module_items.ensures.0 in
+    (rw (← c.decreases) (omega arith), (omega arith, rw e at c.requires.1.0))
 
-pub process_module-returns : goal.process_module-returns
-process_module-returns t c =
-    rw (module_deep c.args.depth c.args.s.now c.args.at c.requires.1.1 c.module_items-inner.result.end c.module_items-inner.result.at c.if-depth-eq0.false c.module_items-inner.ensures.0)
-    c.process_items.ensures
+pub process_module-returns-then-depth-gt0 : goal.process_module-returns-then-depth-gt0
+process_module-returns-then-depth-gt0 t c = rw (module_deep _ _ _ c.requires.1.1 _ _ c.if-depth-gt0.true c.module_items.ensures.0) c.process_items.ensures
+
+pub process_module-returns-else-depth-gt0 : goal.process_module-returns-else-depth-gt0
+process_module-returns-else-depth-gt0 t c = rw (module_flat c.args.depth c.args.s.now c.args.at c.requires.1.1 (omega arith)) (gathered_none _ _)

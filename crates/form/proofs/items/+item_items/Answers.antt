@@ -1,13 +1,21 @@
 -- `form::items::item` and `form::items::items` meet their contracts: each way through an item, and the loop over siblings. Assumes nothing.
-use mathlib.Core.Path.{refl, sym, ◌∙◌}
+use mathlib.Core.Path.{◌≡◌, sym, ◌∙◌}
+use Rattle.std.specs.Prelude.{ℕ, ◌⊎◌}
+use Rattle.bundle.specs.declared.kinds.Kind.{Kind}
+use Rattle.bundle.specs.declared.kinds.Kind.TheVariants.{Named, Use, Module, Ignored}
 use native.Mathlib.Omega.{arith}
+use Rattle.std.proofs.Common.{⊎_elim}
 use Prim.Native.Nat.{◌+◌}
 use Rattle.std.proofs.lemmas.Result.{err_from_is_err_and}
+use Rattle.bundle.specs.Kinds.{module_byte, no_module}
 use Rattle.bundle.specs.Scan.{scan_item}
 use Rattle.bundle.specs.Steps.{head-next, formed-next, string-next}
 use Rattle.bundle.specs.Walks.{goes, siblings-next, siblings-fault, siblings-done, head-fault, too_deep, name-fault, enters, leaf_fault, leaf_past}
 use Rattle.names.specs.Identifier.{is_identifier}
 use Rattle.form.proofs.items.+item_items.Goals as goal
+
+other : {k : Kind} → ((m : ℕ) × (k ≡ Named m)) ⊎ ((k ≡ Use) ⊎ (k ≡ Ignored)) → k ≡ Module → ⊥
+other h e = ⊎_elim (λ p. let q = p.1 in cc) (λ f. ⊎_elim (λ q. cc) (λ q. cc) f) h
 
 pub item-returns-in_err-next : goal.item-returns-in_err-next
 item-returns-in_err-next t c =
@@ -17,46 +25,46 @@ item-returns-in_err-next t c =
 pub item-returns-then-depth-eq0 : goal.item-returns-then-depth-eq0
 item-returns-then-depth-eq0 t c =
     rw c.at.ensures (too_deep c.args.depth c.args.s.now c.args.end c.args.w.at c.args.w.items c.args.w.uses c.in_ok-next.next (sym c.in_ok-next.ensures)
-    (sym c.byte_at.ensures.0 ∙ c.if-byte_at-eq-MODULE.true) c.if-depth-eq0.true)
+    (module_byte c.kind.ensures.byte c.in-Module.is) c.if-depth-eq0.true)
 
 pub item-name_end-requires : goal.item-name_end-requires
 item-name_end-requires t c =
     let hd = head-next c.args.s.now c.args.end c.args.w.at c.args.w.items c.args.w.uses (sym c.in_ok-next.ensures) in
     omega (arith, hd.within, c.requires)
 
-pub item-returns-in_err-inner : goal.item-returns-in_err-inner
-item-returns-in_err-inner t c =
-    let p = err_from_is_err_and c.from_residual-in_err-inner.result c.from_residual-in_err-inner.ensures.1 in
+pub item-returns-in_err-inner-in-Module : goal.item-returns-in_err-inner-in-Module
+item-returns-in_err-inner-in-Module t c =
+    let p = err_from_is_err_and c.from_residual-in_err-inner-in-Module.result c.from_residual-in_err-inner-in-Module.ensures.1 in
     rw (p.1, p.2) (name-fault c.args.depth c.args.s.now c.args.end c.args.w.at c.args.w.items c.args.w.uses c.in_ok-next.next (sym c.in_ok-next.ensures) _ _
-    (sym c.byte_at.ensures.0 ∙ c.if-byte_at-eq-MODULE.true) c.if-depth-eq0.false (sym c.in_err-inner.ensures))
+    (module_byte c.kind.ensures.byte c.in-Module.is) c.if-depth-eq0.false (sym c.in_err-inner-in-Module.ensures))
 
 pub item-items-requires : goal.item-items-requires
 item-items-requires t c =
     let hd = head-next c.args.s.now c.args.end c.args.w.at c.args.w.items c.args.w.uses (sym c.in_ok-next.ensures) in
-    let n = formed-next c.args.s.now c.in_ok-next.next (c.args.w.at + 4) is_identifier 5 (sym c.in_ok-inner.ensures) in
+    let n = formed-next c.args.s.now c.in_ok-next.next (c.args.w.at + 4) is_identifier 5 (sym c.in_ok-inner-in-Module.ensures) in
     let b = string-next c.args.s.now c.in_ok-next.next (c.args.w.at + 4) n.0 in
     (omega arith, ((b.2, omega (arith, hd.within, c.requires)), (omega (arith, hd.count_small), c.requires.1.1)))
 
-pub item-returns-then-byte_at-eq-MODULE : goal.item-returns-then-byte_at-eq-MODULE
-item-returns-then-byte_at-eq-MODULE t c =
+pub item-returns-in_ok-inner-in-Module : goal.item-returns-in_ok-inner-in-Module
+item-returns-in_ok-inner-in-Module t c =
     c.items.ensures ∙ enters c.args.depth c.args.s.now c.args.end c.args.w.at c.args.w.items c.args.w.uses c.in_ok-next.next (sym c.in_ok-next.ensures) _
-    (sym c.byte_at.ensures.0 ∙ c.if-byte_at-eq-MODULE.true) c.if-depth-eq0.false (sym c.in_ok-inner.ensures)
+    (module_byte c.kind.ensures.byte c.in-Module.is) c.if-depth-eq0.false (sym c.in_ok-inner-in-Module.ensures)
 
 pub item-leaf_end-requires : goal.item-leaf_end-requires
 item-leaf_end-requires t c =
     let hd = head-next c.args.s.now c.args.end c.args.w.at c.args.w.items c.args.w.uses (sym c.in_ok-next.ensures) in
     (hd.long, omega (arith, hd.within, c.requires))
 
-pub item-returns-in_err-past : goal.item-returns-in_err-past
-item-returns-in_err-past t c =
-    let p = err_from_is_err_and c.from_residual-in_err-past.result c.from_residual-in_err-past.ensures.1 in
+pub item-returns-in_err-past-in-Named : goal.item-returns-in_err-past-in-Named
+item-returns-in_err-past-in-Named t c =
+    let p = err_from_is_err_and c.from_residual-in_err-past-in-Named.result c.from_residual-in_err-past-in-Named.ensures.1 in
     rw (p.1, p.2) (leaf_fault c.args.depth c.args.s.now c.args.end c.args.w.at c.args.w.items c.args.w.uses c.in_ok-next.next (sym c.in_ok-next.ensures) _ _
-    (λ e. c.if-byte_at-eq-MODULE.false (c.byte_at.ensures.0 ∙ e)) (sym c.in_err-past.ensures))
+    (no_module c.kind.ensures.byte (other c.in-Named.is)) (sym c.in_err-past-in-Named.ensures))
 
-pub item-returns : goal.item-returns
-item-returns t c =
+pub item-returns-in_ok-past-in-Named : goal.item-returns-in_ok-past-in-Named
+item-returns-in_ok-past-in-Named t c =
     rw c.uses_after.ensures (leaf_past c.args.depth c.args.s.now c.args.end c.args.w.at c.args.w.items c.args.w.uses c.in_ok-next.next (sym c.in_ok-next.ensures) _
-    (λ e. c.if-byte_at-eq-MODULE.false (c.byte_at.ensures.0 ∙ e)) (sym c.in_ok-past.ensures))
+    (no_module c.kind.ensures.byte (other c.in-Named.is)) (sym c.in_ok-past-in-Named.ensures))
 
 pub items-returns-in_err-x : goal.items-returns-in_err-x
 items-returns-in_err-x t c =

@@ -1,10 +1,6 @@
 -- `order::report::write_ring` meets its contract. Assumes nothing.
-use Prim.Native.Nat.{◌-◌}
 use Rattle.order.specs.Writing.{RingTo}
 use Rattle.order.proofs.report.write_ring.Given as goal
 
 abbrev pub invariant-loop-i : goal.invariant-loop-i
-invariant-loop-i l = RingTo l.ids l.initial.out l.out l.count l.i
-
-abbrev pub decreases-loop-i : goal.decreases-loop-i
-decreases-loop-i l = l.count - l.i
+invariant-loop-i l = RingTo l.ids l.initial.out l.out l.i

@@ -1,6 +1,5 @@
 -- The lines of the units so far are written.
 use Rattle.std.proofs.Common.{map, take}
-use Rattle.std.specs.Io.KnownBytes.{Appends}
 use Rattle.text.specs.Words.{lines}
 use Rattle.bundle.specs.Decode.{decode}
 use Rattle.order.specs.Run.{units_of}
@@ -8,4 +7,4 @@ use Rattle.printing.specs.Lines.{unit_line}
 use Rattle.printing.proofs.units.put_units.Given as goal
 
 abbrev pub invariant-loop-unit : goal.invariant-loop-unit
-invariant-loop-unit g l = Appends (g.W.Write.contents l.initial.out) (g.W.Write.contents l.out) (lines (map (unit_line (units_of (decode l.s))) (take l.unit-index l.units)))
+invariant-loop-unit g l = g.S.Sink.tells l.initial.out (lines (map (unit_line (units_of (decode l.s))) (take l.unit-index l.units))) l.out

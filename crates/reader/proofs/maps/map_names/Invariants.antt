@@ -3,4 +3,4 @@ use Rattle.reader.specs.Mapping.{Mapping}
 use Rattle.reader.proofs.maps.map_names.Given as goal
 
 abbrev pub invariant-loop-j : goal.invariant-loop-j
-invariant-loop-j l = Mapping l.s l.initial.card l.card l.folders l.first l.n l.a l.j
+invariant-loop-j l = Mapping l.s l.fn.card l.card l.list.first l.list.count l.a l.j

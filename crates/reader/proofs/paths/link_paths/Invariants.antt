@@ -3,4 +3,4 @@ use Rattle.reader.specs.Linking.{Linking}
 use Rattle.reader.proofs.paths.link_paths.Given as goal
 
 abbrev pub invariant-loop-i : goal.invariant-loop-i
-invariant-loop-i l = Linking l.s l.initial.card l.card l.folders l.n l.i
+invariant-loop-i l = Linking l.s l.fn.card l.card l.i

@@ -1,4 +1,4 @@
--- `parent_of` meets its contract. Assumes nothing.
+-- `reader::paths::parent_of` meets its contract. Assumes nothing.
 use native.Mathlib.Omega.{arith}
 use mathlib.Core.Path.{sym}
 use lib.Seq.{length-take-le}
@@ -6,10 +6,7 @@ use Rattle.reader.specs.Linking.{parent-fits, at-parent}
 use Rattle.reader.proofs.paths.parent_of.Goals as goal
 
 pub slice_bounds-folder_of-end : goal.slice_bounds-folder_of-end
-slice_bounds-folder_of-end c = sym (length-take-le _ _ (omega (arith, c.parent_len-k.ensures, parent-fits _ c.requires.1)))
-
-pub folder_of-requires : goal.folder_of-requires
-folder_of-requires c = c.requires.0
+slice_bounds-folder_of-end c = sym (length-take-le _ _ (omega (arith, c.parent_len.ensures, parent-fits _ c.requires)))
 
 pub returns : goal.returns
-returns c = at-parent c.args.s.now c.args.p.now c.requires.1 _ c.parent_len-k.ensures c.folder_of.result c.folder_of.ensures
+returns c = at-parent c.args.index.now.bytes.now c.args.p.now c.requires _ c.parent_len.ensures c.folder_of.result c.folder_of.ensures

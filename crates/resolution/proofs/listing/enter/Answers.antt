@@ -5,13 +5,13 @@ use Rattle.resolution.specs.LookupLaws.{segment-named, named-byte, entered, ente
 use Rattle.resolution.proofs.listing.enter.Goals as goal
 
 pub find_child-requires : goal.find_child-requires
-find_child-requires c = (c.requires.0, (folder-listed c.requires.0 _ c.requires.1.0, segment-named _ c.requires.1.1))
+find_child-requires c = (folder-listed c.args.b.now.is _ c.requires.0, segment-named _ c.requires.1)
 
 pub returns-in_err-i : goal.returns-in_err-i
-returns-in_err-i c = rw c.from_residual.ensures (entered-none c.requires.0 _ _ (named-byte _ c.requires.1.1) c.in_err-i.ensures)
+returns-in_err-i c = rw c.from_residual.ensures (entered-none c.args.b.now.is _ _ (named-byte _ c.requires.1) c.in_err-i.ensures)
 
-pub returns-then-i-folder_count : goal.returns-then-i-folder_count
-returns-then-i-folder_count c = entered_file c.requires.0 _ _ (named-byte _ c.requires.1.1) _ c.in_ok-i.ensures (omega (arith, c.requires.0.folders))
+pub returns-then-i-b : goal.returns-then-i-b
+returns-then-i-b c = entered_file c.args.b.now.is _ _ (named-byte _ c.requires.1) _ c.in_ok-i.ensures (omega (arith, c.args.b.now.is.folders))
 
 pub returns : goal.returns
-returns c = entered c.requires.0 _ _ (named-byte _ c.requires.1.1) _ c.in_ok-i.ensures (omega (arith, c.requires.0.folders))
+returns c = entered c.args.b.now.is _ _ (named-byte _ c.requires.1) _ c.in_ok-i.ensures (omega (arith, c.args.b.now.is.folders))

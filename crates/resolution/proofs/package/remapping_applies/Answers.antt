@@ -1,13 +1,14 @@
 -- `remapping_applies` meets its contract. Assumes nothing.
+use Rattle.names.specs.Bytes.{same_is}
 use Rattle.resolution.specs.TakenLaws.{applies-is}
 use Rattle.resolution.proofs.package.remapping_applies.Goals as goal
 
-pub returns-then-same_bytes : goal.returns-then-same_bytes
-returns-then-same_bytes c =
-    let z = applies-is c.requires.0.card _ c.requires.1.0 c.args.name.now _ c.requires.1.1 in
-    rw (c.is_below.ensures, c.remapping_context.ensures) (rw (← c.remapping_place-place.ensures, ← c.remapping_name.ensures, ← c.same_bytes.ensures, c.if-same_bytes.true) at z)
+pub returns-then-eq : goal.returns-then-eq
+returns-then-eq c =
+    let z = applies-is c.args.b.now.is _ c.requires.0 c.args.name.now _ c.requires.1 in
+    rw (c.is_below.ensures, c.from.ensures) (rw (← c.remapping_name.ensures, ← same_is c.remapping_name.result.now c.args.name.now, ← c.eq.ensures, c.if-eq.true) at z)
 
-pub returns-else-same_bytes : goal.returns-else-same_bytes
-returns-else-same_bytes c =
-    let z = applies-is c.requires.0.card _ c.requires.1.0 c.args.name.now _ c.requires.1.1 in
-    rw c.if-same_bytes.false (rw (← c.remapping_place-place.ensures, ← c.remapping_name.ensures, ← c.same_bytes.ensures, c.if-same_bytes.false) at z)
+pub returns-else-eq : goal.returns-else-eq
+returns-else-eq c =
+    let z = applies-is c.args.b.now.is _ c.requires.0 c.args.name.now _ c.requires.1 in
+    rw c.if-eq.false (rw (← c.remapping_name.ensures, ← same_is c.remapping_name.result.now c.args.name.now, ← c.eq.ensures, c.if-eq.false) at z)

@@ -9,15 +9,15 @@ pub loop-j-init : goal.loop-j-init
 loop-j-init c = taking_none _ _ _
 
 pub longer-requires : goal.longer-requires
-longer-requires c = (c.requires.0.card.above, (can-within c.requires.0.card _ c.requires.1 c.args.name.now c.loop-j.best c.requires.0.few c.loop-j.invariant.can, omega (arith, c.requires.0.card.remappings, c.requires.0.few)))
+longer-requires c = (can-within c.args.b.now.is _ c.requires c.args.name.now c.loop-j.best c.loop-j.invariant.can, omega (arith, c.args.b.now.is.few))
 
 pub loop-j-preserved : goal.loop-j-preserved
 loop-j-preserved c =
-    let h : c.loop-j.j < length (decode c.args.s.now).remappings = omega (arith, c.requires.0.card.remappings) in
+    let h : c.loop-j.j < length (decode c.args.b.now.bytes.now).remappings = omega (arith, c.args.b.now.is.remappings) in
     elim c.if-remapping_applies.branch [
-      | then-remapping_applies w ↦ rw (w.best-is, w.longer.ensures) (taking-new c.requires.0.card c.requires.1 c.loop-j.invariant h (sym c.remapping_applies.ensures ∙ w.if-remapping_applies.true))
-      | else-remapping_applies w ↦ rw w.best-is (taking-other c.requires.0.card c.requires.1 c.loop-j.invariant h (sym c.remapping_applies.ensures ∙ w.if-remapping_applies.false))
+      | then-remapping_applies w ↦ rw (w.best-is, w.longer.ensures) (taking-new c.args.b.now.is c.requires c.loop-j.invariant h (sym c.remapping_applies.ensures ∙ w.if-remapping_applies.true))
+      | else-remapping_applies w ↦ rw w.best-is (taking-other c.args.b.now.is c.requires c.loop-j.invariant h (sym c.remapping_applies.ensures ∙ w.if-remapping_applies.false))
     ]
 
 pub returns : goal.returns
-returns c = taking_all c.requires.0.card c.requires.1 c.loop-j.invariant (omega (arith, c.requires.0.card.remappings))
+returns c = taking_all c.args.b.now.is c.requires c.loop-j.invariant (omega (arith, c.args.b.now.is.remappings))

@@ -5,18 +5,18 @@ use Rattle.resolution.specs.UseLaws.{no_root, crate_found, crate_itself}
 use Rattle.resolution.proofs.uses.resolve_crate_path.Goals as goal
 
 pub returns-in_default : goal.returns-in_default
-returns-in_default c = no_root c.requires.0 _ _ (root_is c.requires.0 _ c.requires.1.listed _ (sym c.in_default.is ∙ c.nearest_marked.ensures))
+returns-in_default c = no_root c.args.b.now.is _ _ (root_is c.args.b.now.is _ c.requires.listed _ (sym c.in_default.is ∙ c.nearest_root.ensures))
 
 pub build_and_verify_path-requires : goal.build_and_verify_path-requires
-build_and_verify_path-requires c = (c.requires.0, root-is-folder c.requires.0 _ c.requires.1.listed _ (sym c.in-Some.is ∙ c.nearest_marked.ensures) _ refl)
+build_and_verify_path-requires c = root-is-folder c.args.b.now.is _ c.requires.listed _ (sym c.in-Some.is ∙ c.nearest_root.ensures) _ refl
 
 pub returns-in-Some-build_and_verify_path : goal.returns-in-Some-build_and_verify_path
 returns-in-Some-build_and_verify_path c =
-    let r = root_is c.requires.0 _ c.requires.1.listed _ (sym c.in-Some.is ∙ c.nearest_marked.ensures) in
-    c.resolved.ensures ∙ crate_found c.requires.0 _ _ _ r _ c.in-Some-build_and_verify_path.ensures
+    let r = root_is c.args.b.now.is _ c.requires.listed _ (sym c.in-Some.is ∙ c.nearest_root.ensures) in
+    c.resolved.ensures ∙ crate_found c.args.b.now.is _ _ _ r _ c.in-Some-build_and_verify_path.ensures
 
 pub returns-in-None : goal.returns-in-None
 returns-in-None c =
-    let m = sym c.in-Some.is ∙ c.nearest_marked.ensures in
-    rw c.len-n.ensures at c.itself.ensures ∙ crate_itself c.requires.0 _ _ _ c.requires.1 (root_is c.requires.0 _ c.requires.1.listed _ m)
-    (directly c.requires.0 _ c.requires.1.listed _ m _ (λ z. omega (arith, c.requires.1.file)) refl) c.in-None.ensures
+    let m = sym c.in-Some.is ∙ c.nearest_root.ensures in
+    rw c.len-n.ensures at c.itself.ensures ∙ crate_itself c.args.b.now.is _ _ _ c.requires (root_is c.args.b.now.is _ c.requires.listed _ m)
+    (directly c.args.b.now.is _ c.requires.listed _ m _ (λ z. omega (arith, c.requires.file)) refl) c.in-None.ensures

@@ -14,5 +14,5 @@ returns-in_default-remapping_for c = rw c.in-Some.ensures.steps.0 (use_unknown _
 
 pub returns : goal.returns
 returns c =
-    let k = rw (c.remapping_target-target.ensures, (target_path c.requires.0.card _ c.in-Some-remapping_for.ensures.1.0).1) at c.resolve_external_path.ensures in
+    let k = rw (c.from.ensures, (target_path c.args.b.now.is _ c.in-Some-remapping_for.ensures.1.0).1) at c.resolve_external_path.ensures in
     rw c.in-Some.ensures.steps.0 (k ∙ use_external _ _ _ _ (sym c.is_crate.ensures ∙ c.if-is_crate.false) _ (sym c.in-Some-remapping_for.ensures.0))

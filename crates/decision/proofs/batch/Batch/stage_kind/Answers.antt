@@ -17,5 +17,8 @@ returns-clause-told c =
 
 pub returns-clause-left : goal.returns-clause-left
 returns-clause-left c =
-    c.push.ensures ∙ rw (c.in_ok-entry.ensures.shown.0, c.in_ok-entry.ensures.shown.1)
+    c.push.ensures.stored ∙ rw (c.in_ok-entry.ensures.shown.0, c.in_ok-entry.ensures.shown.1)
     (ap (numbered 0) (sym (item-put _ _ _ _ _ _ _ (omega arith) _ _ _ c.in_ok-entry.ensures.told refl c.holds.ensures c.if-holds.false)))
+
+pub returns-clause-fresh : goal.returns-clause-fresh
+returns-clause-fresh c = c.push.ensures.fresh _ _ c.requires.fresh

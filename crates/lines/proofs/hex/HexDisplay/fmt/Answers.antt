@@ -1,5 +1,5 @@
 -- One byte more.
-use Rattle.std.proofs.Common.{rules, arith, ◌≡◌, ◌+◌, ◌<◌, ◌++◌, [], length, take, get_or, sym, ap, ◌∙◌}
+use Rattle.std.proofs.Common.{arith, ◌≡◌, ◌+◌, ◌<◌, ◌++◌, [], length, take, get_or, sym, ap, ◌∙◌}
 use Rattle.std.proofs.Output.{has_written_append, has_written_of_eq}
 use Rattle.std.proofs.lemmas.List.{take_more, flat_map_more}
 use Rattle.std.specs.Fmt.{HasWritten}
@@ -14,5 +14,5 @@ loop-b-preserved g c = λ p.
     let lt : i < length xs = omega arith in
     let more : hex (take i xs) ++ pair b ≡ hex (take (i + 1) xs) = flat_map_more pair [] (take i xs) b ∙ ap hex (sym (take_more xs i 0 lt)) in
     let so_far = c.loop-b.invariant p in
-    let one : HasWritten g.W.Write.write_str_gives c.loop-b.f (pair b) c.write.new.self = (rw (c.laid_out.ensures, c.in_radix.ensures) at c.in_ok-write.ensures.writes) so_far.plain (search rules) in
+    let one : HasWritten g.W.Write.write_str_gives c.loop-b.f (pair b) c.put_pair.new.f = c.in_ok-put_pair.ensures so_far.plain in
     has_written_of_eq _ _ _ _ _ more (has_written_append _ _ _ _ _ _ so_far one)

@@ -1,0 +1,2 @@
+-- DEFINITIONS: the code's answers in the specification's numbers
+pub mod Told

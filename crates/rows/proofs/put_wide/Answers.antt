@@ -1,8 +1,0 @@
-use Rattle.rows.specs.Written.{put-inside, put-outside}
-use Rattle.rows.proofs.put_wide.Goals as goal
-
-pub returns-then-at-out : goal.returns-then-at-out
-returns-then-at-out c = put-inside c.args.out.now c.args.at c.args.v c.if-at-out.true
-
-pub returns-else-at-out : goal.returns-else-at-out
-returns-else-at-out c = put-outside c.args.out.now c.args.at c.args.v c.if-at-out.false
