@@ -7,9 +7,8 @@ ghost use Rattle.assembly.specs.Call.{faults_told};
 ghost use Rattle.assembly.specs.Faults.{enums_of};
 ghost use Rattle.assembly.specs.FaultRoom.{fault_limit, main_told, Told};
 
-use crate::Program;
 use crate::enums::forbid_enum_dec;
-use crate::faults::Faults;
+use crate::{Faults, Program};
 use refusal::{Cause, Refusal};
 
 // 28 for the enums of all units but the last, which is unit 0.
@@ -38,7 +37,7 @@ pub fn report_faults(program: &Program<'_>, report: &mut [u8]) -> Result<usize, 
     ensures value { report_told result ≡ reporting (faults_told (decode program.now.bytes.now) program.now.ids.now) (length report.old) }
     ensures report_after { report.new ≡ lent_report (faults_told (decode program.now.bytes.now) program.now.ids.now) report.old }
 {
-    let mut faults = Faults::new();
+    let mut faults = Faults::new(Cause::Cut.at(0));
     forbid_enum_dec_in_deps(program, &mut faults);
     require_main(program, &mut faults);
     order::write_faults(faults.as_slice(), report)

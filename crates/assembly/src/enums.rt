@@ -8,14 +8,10 @@ ghost use Rattle.assembly.specs.Assemble.{items_of, enum_declarations};
 ghost use Rattle.assembly.specs.FaultRoom.{fault_limit, foreign, Told};
 ghost use Rattle.assembly.specs.Walk.{item_enums, items_enums, named_enums};
 
-use crate::Unit;
-use crate::faults::Faults;
-use bundle::limits::DEPTH;
+use crate::{Faults, Unit};
+use bundle::limits::{DEPTH, ENUM};
 use bundle::{Items, Kind, Range};
 use refusal::Cause;
-
-// The kind of an enum.
-const ENUM: u8 = 4;
 
 // 28 for an item of this kind, if it is an enum.
 fn tell_named(kind: u8, at: usize, faults: &mut Faults)

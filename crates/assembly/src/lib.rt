@@ -4,10 +4,17 @@
 
 mod checks;
 mod enums;
-mod faults;
 mod targets;
 mod units;
 
 pub use checks::report_faults;
+use fixed_vec::FixedVec;
+use refusal::Refusal;
 pub use targets::Target;
 pub use units::{Program, Unit};
+
+// The most faults of step 5: every item an enum, and no main.
+const FAULTS: usize = bundle::limits::ITEMS + 1;
+
+// The faults of step 5, in the order of their pushes.
+type Faults = FixedVec<Refusal, FAULTS>;

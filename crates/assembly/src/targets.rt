@@ -27,7 +27,8 @@ impl<'a> Unit<'a> {
             .position(|f| *f == file)
     }
 
-    // Which unit a use resolves to, or their number. A folder is no unit.
+    // Which unit a use resolves to. A folder is no unit, nor a file that nothing reaches: the definition gives these the number past the
+    // last unit, which no linked program has.
     fn unit_of(&self, target: resolution::Target) -> usize
         ensures { result ≡ unit_by self.now.known.now.files self.now.units target }
     {

@@ -9,11 +9,9 @@ ghost use Rattle.assembly.specs.Given.{PlacedUnit, OrderGiven};
 ghost use Rattle.assembly.specs.Targets.{UnitOf};
 ghost use Rattle.assembly.specs.Walk.{main_at};
 
+use bundle::limits::FUNCTION;
 use bundle::{Items, Kind, Range};
 use discovery::Known;
-
-// The kind of a function.
-const FUNCTION: u8 = 2;
 
 // A checked bundle, what discovery keeps of it, and the ids of its units in linked order.
 #[derive(Clone, Copy)]

@@ -204,16 +204,8 @@ pub fn element_alias(s: &[u8], at: usize) -> &[u8]
 }
 
 // AN ITEM'S PARTS. Its mark is its position. The items from `at` to `end` are read with modules `depth` deep, as the items of
-// a file are with `depth_limit`; a module's items are read one less deep. An item is (s, at), no struct with the bound of `at`: marks are
+// a file are with `depth_limit`; a module's items are read one less deep. A part is (s, at), no struct with the bound of `at`: marks are
 // kept as numbers, in arrays and by C, and a struct would be made and taken apart at each call.
-pub fn item_kind(s: &[u8], at: usize) -> usize
-    requires { at < 2 ^ 62 }
-    ensures { (depth end : ℕ) → at < end → result ≡ kind_of (items_at depth s.now end at) }
-{
-    byte_at(s, at + 2)
-}
-
-// The same as an enum.
 pub fn kind(s: &[u8], at: usize) -> Kind
     requires { at < 2 ^ 63 }
     ensures item { (depth end : ℕ) → at < end → result ≡ kind_from (kind_of (items_at depth s.now end at)) }
@@ -266,12 +258,4 @@ pub fn module_items(s: &[u8], at: usize) -> Range
         at: inner,
         end: end,
     }
-}
-
-// The next item.
-pub fn next_item(s: &[u8], at: usize) -> usize
-    requires { at < 2 ^ 62 }
-    ensures { ((depth end : ℕ) → at < end → items_at depth s.now end result ≡ rest_of (items_at depth s.now end at)) × ((at < result) × (result ≤ at + file_size)) }
-{
-    after_length(s, at)
 }

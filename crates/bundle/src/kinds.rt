@@ -3,7 +3,8 @@ ghost use Rattle.std.specs.Prelude.{◌≡◌};
 ghost use Rattle.bundle.specs.Told.{kind_from, kind_number};
 
 // What a kind says of an item's body: a use, a module, an ignored item, or a name alone. Named are a type alias, a function and
-// an enum, and of bytes that are no bundle any other number.
+// an enum, and of bytes that are no bundle any other number: the byte, not three variants, since what is written is the byte that was
+// read, and a function and an enum are told apart at the ends of three walks alone (main, 28, a declaration).
 #[derive(Clone, Copy, Debug, PartialEq, Eq)]
 pub enum Kind {
     Named(u8),

@@ -10,9 +10,9 @@ mod walk;
 
 pub use access::{
     Listed, Range, element_alias, element_name, file_at, file_items, file_path, files, folder_at,
-    folders, item_kind, item_name, item_visibility, kind, module_items, next_element, next_file,
-    next_item, next_remapping, next_string, remapping_at, remapping_context, remapping_name,
-    remapping_target, remappings, root, string, use_elements, use_segments,
+    folders, item_name, item_visibility, kind, module_items, next_element, next_file,
+    next_remapping, next_string, remapping_at, remapping_context, remapping_name, remapping_target,
+    remappings, root, string, use_elements, use_segments,
 };
 pub use bytes::{byte_at, count_at, text_at, version_of, word_at};
 pub use kinds::Kind;

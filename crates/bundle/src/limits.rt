@@ -28,11 +28,14 @@ pub const ELEMENTS: usize = 32;
 
 pub const DEPTH: usize = 8;
 
+// Kinds as the format's bytes: for what is written, and of an item that is a name alone; what is read is `Kind`.
+pub const FUNCTION: u8 = 2;
+
+pub const ENUM: u8 = 4;
+
 pub const USE: usize = 3;
 
 pub const MODULE: usize = 5;
-
-pub const IGNORED: usize = 6;
 
 // Whether a version is defined.
 pub fn is_defined(version: usize) -> bool

@@ -5,6 +5,7 @@ ghost use Rattle.card.specs.Layout.{node_limit};
 ghost use Rattle.card.specs.Index.{Looked};
 ghost use Rattle.card.specs.Card.{IndexOf, nodes_in, is_at, is_up_to, met, Chain, InFolder};
 
+use crate::chain;
 use crate::hash::hash_of;
 use crate::parts::{Card, NODES};
 
@@ -34,13 +35,10 @@ impl<'a> Index<'a> {
         requires { Chain (nodes_in self.now.bytes.now) self.now.card.now h t.now from }
         ensures { Looked (is_up_to (nodes_in self.now.bytes.now) t.now last) (suc from) result }
     {
-        // A `while`: a chain has no count, each link says the next.
-        let mut i = from;
-        while i != 0 {
+        for i in chain::Chain::of(self.card, from) {
             if self.is_path_at(i, last, h, t) {
                 return Some(i);
             }
-            i = usize::from(self.card.links[i].next);
         }
         None
     }

@@ -2,6 +2,7 @@
 // the bundle's order: folder i is i + 1, file i is folders + 1 + i. Crate reader makes it.
 #![tactic(auto)]
 
+mod chain;
 pub mod hash;
 mod index;
 mod look;

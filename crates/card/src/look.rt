@@ -11,6 +11,7 @@ ghost use Rattle.card.specs.Laws.{nearest};
 ghost use Rattle.card.specs.Index.{Looked};
 ghost use Rattle.card.specs.Card.{CardIs, nodes_in, is_at, hit, cut_of, sought};
 
+use crate::chain::Chain;
 use crate::hash::mix;
 use crate::index::Index;
 use crate::parts::Card;
@@ -80,13 +81,10 @@ impl<'a> Carded<'a> {
         let b = mix(card.key, a, name);
         let h = mix(card.key, b, ending);
         let cut = self.cut_of(d);
-        // Index::walk has this loop with another test: with closures the two would take more lines than they have.
-        let mut i = card.last_of(h);
-        while i != 0 {
+        for i in Chain::of(card, card.last_of(h)) {
             if self.is_hit(i, h, d, cut, name, ending) {
                 return Some(i);
             }
-            i = usize::from(card.links[i].next);
         }
         None
     }

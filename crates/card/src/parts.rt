@@ -19,7 +19,8 @@ pub struct Node {
     pub is_root: bool,
 }
 
-// A listed path in its chain: its hash, and the index before it. 0 is none, and no Option: index 0, `/`, is looked for in no chain.
+// A listed path in its chain: its hash, and the index before it. 0 is none: index 0, `/`, is looked for in no chain. No
+// Option, which takes twice the bytes, and the card is cleared twice a reading.
 #[derive(Clone, Copy, Debug, Default, PartialEq, Eq)]
 pub struct Link {
     pub hash: u32,

@@ -12,7 +12,7 @@ use Rattle.commit.specs.declared.Lent.{Lent}
 -- the entry in the numbers that the arrays hold
 abbrev pub entry_told : Given → Entry
 entry_told e =
-    record { kind = kind_number e.kind; visible = bit_of e.public; scope = e.scope; mark = e.mark; name = e.name; origin = e.origin; target = e.target; moment = e.moment; opens = e.opens }
+    record { kind = kind_number e.staged.kind; visible = bit_of e.public; scope = e.scope; mark = e.staged.mark; name = e.staged.name; origin = e.staged.origin; target = e.staged.target; moment = e.staged.moment; opens = e.opens }
 
 -- the tree of the arrays
 abbrev pub lent_in : Lent → Tree

@@ -9,22 +9,16 @@ ghost use Rattle.decision.specs.Batches.{staged_of};
 ghost use Rattle.commit.specs.Lending.{entry_told, lent_in, Kept};
 ghost use Rattle.commit.specs.Filled.{filled};
 
-use decision::batch::Batch;
-use names::Name;
+use decision::batch::{Batch, Staged};
 use scope_tree::look::{Key, View, free_slot};
-use scope_tree::{CELLS, COUNT, DEPTH, INDEX, KINDS, Kind, OPENED, ORIGINS, TARGETS, TIMES};
+use scope_tree::{CELLS, COUNT, DEPTH, INDEX, KINDS, OPENED, ORIGINS, TARGETS, TIMES};
 
-// An entry to add.
+// An entry to add, and where it stands.
 #[derive(Clone, Copy)]
 pub struct Entry {
-    pub kind: Kind,
+    pub staged: Staged,
     pub public: bool,
     pub scope: u16,
-    pub mark: u16,
-    pub name: Name,
-    pub origin: u16,
-    pub target: u16,
-    pub moment: u16,
     // whether a module opens
     pub opens: bool,
 }
@@ -70,25 +64,33 @@ impl<'a> Lent<'a> {
     {
         let depth = usize::from(self.opened[DEPTH]);
         let scope = (at + 1) as u16;
+        let Staged {
+            kind,
+            name,
+            mark,
+            origin,
+            target,
+            moment,
+        } = entry.staged;
         let slot = free_slot(
             &*self.cells,
             Key {
                 scope: entry.scope,
-                kind: entry.kind,
-                name: entry.name,
+                kind,
+                name,
             },
         );
         self.visible[at] = u8::from(entry.public);
         self.scopes[at] = entry.scope;
-        self.marks[at] = entry.mark;
-        self.n0[at] = entry.name.w0;
-        self.n1[at] = entry.name.w1;
-        self.n2[at] = entry.name.w2;
-        self.n3[at] = entry.name.w3;
-        self.cells[KINDS + at] = u16::from(entry.kind);
-        self.cells[ORIGINS + at] = entry.origin;
-        self.cells[TARGETS + at] = entry.target;
-        self.cells[TIMES + at] = entry.moment;
+        self.marks[at] = mark;
+        self.n0[at] = name.w0;
+        self.n1[at] = name.w1;
+        self.n2[at] = name.w2;
+        self.n3[at] = name.w3;
+        self.cells[KINDS + at] = u16::from(kind);
+        self.cells[ORIGINS + at] = origin;
+        self.cells[TARGETS + at] = target;
+        self.cells[TIMES + at] = moment;
         self.cells[INDEX + slot] = scope;
         self.opened[COUNT] = scope;
         if entry.opens {
@@ -104,21 +106,14 @@ impl<'a> Lent<'a> {
         ensures filled { lent_in self.new ≡ filled (get_or self.old.opened.now 9 0) (lent_in self.old) (staged_of batch.now) scope (bit_of public) batch.now.count }
     {
         let first = self.view().count();
-        for (i, e) in batch.entries[..batch.count].iter().enumerate() {
-            self.add(
-                first + i,
-                Entry {
-                    kind: e.kind,
-                    public,
-                    scope,
-                    mark: e.mark,
-                    name: e.name,
-                    origin: e.origin,
-                    target: e.target,
-                    moment: e.moment,
-                    opens: false,
-                },
-            );
+        for (i, staged) in batch.entries[..batch.count].iter().enumerate() {
+            let entry = Entry {
+                staged: *staged,
+                public,
+                scope,
+                opens: false,
+            };
+            self.add(first + i, entry);
         }
     }
 }

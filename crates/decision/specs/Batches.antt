@@ -6,8 +6,12 @@ use Rattle.names.specs.Packed.{same_name}
 use Rattle.refusal.specs.declared.Cause.{Cause}
 use Rattle.refusal.specs.Numbers.{number_of}
 use Rattle.scope_tree.specs.Kinds.{kind_number}
+use Rattle.scope_tree.specs.Rows.{Arrays}
+use Rattle.scope_tree.specs.Trees.{tree_in}
+use Rattle.scope_tree.specs.Looks.{arrays_in}
 use Rattle.scope_tree.specs.Staging.{Staged, Choice, no_choice, refusal}
 use Rattle.decision.specs.declared.batch.Batch.{Batch}
+use Rattle.decision.specs.declared.batch.Import.{Import}
 use Rattle.decision.specs.declared.batch.Staged.{Staged as Entry}
 
 -- a number of each of the first n entries, and 0 past them
@@ -44,6 +48,10 @@ is_named k n e = eqb (kind_number e.kind) k && has_name n e
 -- none of the first i entries has the name
 abbrev pub Fresh : Name → ℕ → Batch → Type 0
 Fresh n i b = (i ≤ b.count) × AllWithin (λ e. has_name n e ≡ false) b.entries 0 i
+
+-- a definition at an import's tree, current module and module of the path
+abbrev pub of_import : {X : Type 0} → (Arrays → ℕ → ℕ → ℕ → ℕ → X) → Import → X
+of_import f m = f (arrays_in (tree_in m.tree.now)) m.here.time m.here.scope m.from.scope m.from.time
 
 -- what an item copies, or its number
 abbrev pub choice_told : Result Entry Cause → Choice

@@ -1,8 +1,18 @@
-// What a use adds.
+// What a use adds, and from where.
 ghost use Rattle.std.specs.Prelude.{◌≤◌};
 
 use names::Name;
 use scope_tree::Kind;
+use scope_tree::look::{Place, View};
+
+// What a use imports into the module `here` from the module `from`, in the tree before the use.
+#[derive(Clone, Copy)]
+pub struct Import<'a> {
+    pub tree: &'a View<'a>,
+    pub here: Place,
+    pub from: Place,
+    ghost few: { from.time ≤ 1024 },
+}
 
 // The most entries that a use adds, three of each element.
 pub const STAGED: usize = 96;
@@ -18,7 +28,8 @@ pub struct Staged {
     pub moment: u16,
 }
 
-// What a use adds: the first `count` entries.
+// What a use adds: the first `count` entries. No FixedVec: its methods are the stage's, and the commit's definitions read an entry by its
+// index.
 #[derive(Clone, Copy)]
 pub struct Batch {
     pub count: usize,

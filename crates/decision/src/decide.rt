@@ -8,8 +8,7 @@ ghost use Rattle.decision.specs.Plan.{plan_told, planned_of};
 ghost use Rattle.decision.specs.Decided.{Decided};
 ghost use Rattle.decision.specs.Batches.{batch_told};
 
-use crate::batch::Batch;
-use crate::stage::stage;
+use crate::batch::{Batch, Import};
 use names::Name;
 use refusal::Cause;
 use scope_tree::look::View;
@@ -76,7 +75,12 @@ pub fn uses(tree: &View, decl: &[u8]) -> Result<Batch, Cause>
     if form::any_main(decl, first, elements) {
         return Err(Cause::AliasMain);
     }
-    let batch = stage(tree, here, way.to, decl, first, elements)?;
+    let import = Import {
+        tree,
+        here,
+        from: way.to,
+    };
+    let batch = import.stage(decl, first, elements)?;
     if ENTRIES < here.time + batch.count {
         return Err(Cause::TreeFull);
     }

@@ -3,17 +3,14 @@ ghost use Rattle.std.specs.Prelude.{◌≡◌, ◌+◌, ◌<◌, ◌≤◌, IfOk
 ghost use Rattle.std.specs.List.{list_any};
 ghost use Rattle.scope_tree.specs.Kinds.{kind_number};
 ghost use Rattle.scope_tree.specs.Forms.{fault};
-ghost use Rattle.scope_tree.specs.Trees.{tree_in};
-ghost use Rattle.scope_tree.specs.Looks.{arrays_in};
 ghost use Rattle.scope_tree.specs.Staging.{refusal, numbered, stored, verdict_so_far, choice_of, staged_item, staged_element, staged_all};
-ghost use Rattle.decision.specs.Batches.{Fresh, has_name, is_named, staged_of, choice_told, Stages};
+ghost use Rattle.decision.specs.Batches.{Fresh, has_name, is_named, staged_of, choice_told, Stages, of_import};
 
-use crate::batch::{Batch, STAGED, Staged};
+use crate::batch::{Batch, Import, STAGED, Staged};
 use names::Name;
 use refusal::Cause;
 use scope_tree::Kind;
 use scope_tree::form::{local_at, name_at, next};
-use scope_tree::look::{Place, View};
 
 impl Staged {
     #[tactic(auto, unfolding(names::specs::Packed::same_name))]
@@ -54,7 +51,7 @@ impl Batch {
         }
     }
 
-    // The first entry of this name, or how many there are.
+    // The first entry of this name, or how many there are: where the next search begins.
     fn first_named(&self, name: Name) -> usize
         ensures { Fresh name result self.now }
     {
@@ -89,21 +86,19 @@ impl Batch {
     #[tactic(auto, unfolding(scope_tree::specs::Staging::with_choice))]
     fn stage_kind(
         &mut self,
-        tree: &View,
-        here: Place,
-        from: Place,
+        import: &Import,
         kind: Kind,
         name: Name,
         local: Name,
         first: usize,
     ) -> Result<(), Cause>
-        requires small { (from.time ≤ 1024) × (self.old.count < 96) }
+        requires small { self.old.count < 96 }
         requires fresh { Fresh local first self.old }
         ensures fresh { Fresh local first self.new }
-        ensures told { fault result ≡ (staged_item (arrays_in (tree_in tree.now)) here.time here.scope from.scope from.time (staged_of self.old) (kind_number kind) name local).number }
-        ensures left { staged_of self.new ≡ numbered 0 (staged_item (arrays_in (tree_in tree.now)) here.time here.scope from.scope from.time (staged_of self.old) (kind_number kind) name local) }
+        ensures told { fault result ≡ (of_import staged_item import.now (staged_of self.old) (kind_number kind) name local).number }
+        ensures left { staged_of self.new ≡ numbered 0 (of_import staged_item import.now (staged_of self.old) (kind_number kind) name local) }
     {
-        let entry = choose(tree, here, from, kind, name, local)?;
+        let entry = import.choose(kind, name, local)?;
         if self.holds(first, kind, local) {
             return Err(Cause::Clash);
         }
@@ -113,22 +108,15 @@ impl Batch {
 
     // One element: what there is of its name, type, function or module. One success is enough.
     #[tactic(auto, using(scope_tree::specs::Staging::kinding_steps))]
-    fn stage_element(
-        &mut self,
-        tree: &View,
-        here: Place,
-        from: Place,
-        name: Name,
-        local: Name,
-    ) -> Result<(), Cause>
-        requires { (from.time ≤ 1024) × (self.old.count + 3 ≤ 96) }
-        ensures told { fault result ≡ (staged_element (arrays_in (tree_in tree.now)) here.time here.scope from.scope from.time (staged_of self.old) name local).number }
-        ensures left { staged_of self.new ≡ numbered 0 (staged_element (arrays_in (tree_in tree.now)) here.time here.scope from.scope from.time (staged_of self.old) name local) }
+    fn stage_element(&mut self, import: &Import, name: Name, local: Name) -> Result<(), Cause>
+        requires { self.old.count + 3 ≤ 96 }
+        ensures told { fault result ≡ (of_import staged_element import.now (staged_of self.old) name local).number }
+        ensures left { staged_of self.new ≡ numbered 0 (of_import staged_element import.now (staged_of self.old) name local) }
     {
         let first = self.first_named(local);
         let mut told = Err(Cause::NoItem);
         for kind in [Kind::Type, Kind::Function, Kind::Module] {
-            let staged = self.stage_kind(tree, here, from, kind, name, local, first);
+            let staged = self.stage_kind(import, kind, name, local, first);
             told = verdict(told, staged);
         }
         told
@@ -147,58 +135,46 @@ fn verdict(told: Result<(), Cause>, next: Result<(), Cause>) -> Result<(), Cause
     }
 }
 
-// The entry of a kind and a name in the module `from`, in the tree before the use, under its local name.
-#[tactic(auto, unfolding(scope_tree::specs::Staging::choice_of, scope_tree::specs::Staging::sought, scope_tree::specs::Staging::chosen, scope_tree::specs::Staging::occupied))]
-fn choose(
-    tree: &View,
-    here: Place,
-    from: Place,
-    kind: Kind,
-    name: Name,
-    local: Name,
-) -> Result<Staged, Cause>
-    requires { from.time ≤ 1024 }
-    ensures told { choice_told result ≡ choice_of (arrays_in (tree_in tree.now)) here.time here.scope from.scope from.time (kind_number kind) name local }
-    ensures shown { IfOk result (λ e. (e.kind ≡ kind) × (e.name ≡ local)) }
-{
-    let Some(i) = tree.find(from, kind, name) else {
-        return Err(Cause::NoItem);
-    };
-    if tree.visible[i] != 1 {
-        return Err(Cause::PrivateItem);
+impl Import<'_> {
+    // The entry of a kind and a name in the module `from`, under its local name.
+    #[tactic(auto, unfolding(scope_tree::specs::Staging::choice_of, scope_tree::specs::Staging::sought, scope_tree::specs::Staging::chosen, scope_tree::specs::Staging::occupied))]
+    fn choose(&self, kind: Kind, name: Name, local: Name) -> Result<Staged, Cause>
+        ensures told { choice_told result ≡ of_import choice_of self.now (kind_number kind) name local }
+        ensures shown { IfOk result (λ e. (e.kind ≡ kind) × (e.name ≡ local)) }
+    {
+        let tree = self.tree;
+        let Some(i) = tree.find(self.from, kind, name) else {
+            return Err(Cause::NoItem);
+        };
+        if tree.visible[i] != 1 {
+            return Err(Cause::PrivateItem);
+        }
+        if tree.find(self.here, kind, local).is_some() {
+            return Err(Cause::Clash);
+        }
+        let inside = tree.inside(i, self.from.time);
+        Ok(Staged {
+            kind,
+            name: local,
+            mark: tree.marks[i],
+            origin: (i + 1) as u16,
+            target: inside.scope,
+            moment: inside.time as u16,
+        })
     }
-    if tree.find(here, kind, local).is_some() {
-        return Err(Cause::Clash);
-    }
-    let inside = tree.inside(i, from.time);
-    Ok(Staged {
-        kind,
-        name: local,
-        mark: tree.marks[i],
-        origin: (i + 1) as u16,
-        target: inside.scope,
-        moment: inside.time as u16,
-    })
-}
 
-// `count` elements that stand at `at`.
-#[tactic(auto, using(scope_tree::specs::Staging::staging_steps))]
-pub fn stage(
-    tree: &View,
-    here: Place,
-    from: Place,
-    decl: &[u8],
-    at: usize,
-    count: usize,
-) -> Result<Batch, Cause>
-    requires { (from.time ≤ 1024) × ((count ≤ 32) × (at < 32768)) }
-    ensures { Stages result (staged_all (arrays_in (tree_in tree.now)) here.time here.scope from.scope from.time decl.now count at (refusal 0)) }
-{
-    let mut batch = Batch::new();
-    let mut p = at;
-    for _ in 0..count {
-        batch.stage_element(tree, here, from, name_at(decl, p), local_at(decl, p))?;
-        p = next(decl, next(decl, p));
+    // `count` elements that stand at `at`.
+    #[tactic(auto, using(scope_tree::specs::Staging::staging_steps))]
+    pub fn stage(&self, decl: &[u8], at: usize, count: usize) -> Result<Batch, Cause>
+        requires { (count ≤ 32) × (at < 32768) }
+        ensures { Stages result (of_import staged_all self.now decl.now count at (refusal 0)) }
+    {
+        let mut batch = Batch::new();
+        let mut p = at;
+        for _ in 0..count {
+            batch.stage_element(self, name_at(decl, p), local_at(decl, p))?;
+            p = next(decl, next(decl, p));
+        }
+        Ok(batch)
     }
-    Ok(batch)
 }

@@ -26,7 +26,8 @@ pub struct Entry {
     pub found: Option<Found>,
 }
 
-// Unit u is the file files[u] of the bundle; the first `next` entries are there. Arrays, not Vecs: the linker has no heap.
+// Unit u is the file files[u] of the bundle; the first `next` entries are there, and a row says which of them
+// are a file's, so that no FixedVec holds them. Arrays, not Vecs: the linker has no heap.
 #[derive(Drop)]
 pub struct Known {
     pub files: [usize; UNITS],

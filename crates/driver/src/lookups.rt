@@ -30,30 +30,28 @@ pub fn resolve_imports(
     b: &Carded<'_>,
     f: usize,
     uses: &Uses,
-    g: Graph,
+    g: &mut Graph,
     known: &mut Known,
     first: usize,
-) -> Graph
+)
     requires importer { Importer b.now.bytes.now f }
     requires uses { UseMarks b.now.bytes.now uses.now × Every NamedUse (use_list b.now.bytes.now uses.now) }
     requires wide { Wide known.old }
-    requires room { (length uses.now ≤ use_limit) × ((g.fault_count + length uses.now ≤ use_limit) × (first + length uses.now ≤ use_limit)) }
-    ensures value { result ≡ looked_all (lists_in b.now.bytes.now) (path_in b.now.bytes.now f) (use_list b.now.bytes.now uses.now) (no_imports g) }
+    requires room { (length uses.now ≤ use_limit) × ((g.old.fault_count + length uses.now ≤ use_limit) × (first + length uses.now ≤ use_limit)) }
+    ensures value { g.new ≡ looked_all (lists_in b.now.bytes.now) (path_in b.now.bytes.now f) (use_list b.now.bytes.now uses.now) (no_imports g.old) }
     ensures fills { Fills (lists_in b.now.bytes.now) (path_in b.now.bytes.now f) known.old known.new first (use_list b.now.bytes.now uses.now) (length uses.now) }
 {
-    let mut w = g;
-    w.import_count = 0;
+    g.import_count = 0;
     for (i, mark) in uses.as_slice().iter().enumerate() {
         let mark = *mark;
         let found = resolve_single(b, f, mark);
         known.keep(first + i, mark, found.ok());
         match found {
-            Ok(found) => w.push_import(Import {
+            Ok(found) => g.push_import(Import {
                 target: found.target,
                 mark,
             }),
-            Err(cause) => w.push_fault(cause.at(mark)),
+            Err(cause) => g.push_fault(cause.at(mark)),
         }
     }
-    w
 }

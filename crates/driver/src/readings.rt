@@ -33,29 +33,29 @@ fn load(g: &Graph, first: usize, target: Target) -> Reading
 }
 
 // All readings of a unit, whose imports were gathered, and its list.
-pub fn load_and_parse_dependencies(g: Graph, unit: usize) -> Graph
-    requires { ReadsRoom g unit }
-    ensures { result ≡ read_all g unit }
+pub fn load_and_parse_dependencies(g: &mut Graph, unit: usize)
+    requires { ReadsRoom g.old unit }
+    ensures { g.new ≡ read_all g.old unit }
 {
     let first = g.count;
-    let mut w = g;
+    // A copy, which no push changes.
+    let imports = g.imports;
     for i in 0..g.import_count {
-        let import = g.imports[i];
-        match load(&w, first, import.target) {
+        let import = imports[i];
+        match load(g, first, import.target) {
             Reading::Nothing => {}
-            Reading::Listed(id) => w.push_id(id),
+            Reading::Listed(id) => g.push_id(id),
             Reading::New(file) => {
-                let id = w.units as u16;
-                w.push_unit(file);
-                w.push_id(id);
+                let id = g.units as u16;
+                g.push_unit(file);
+                g.push_id(id);
             }
             Reading::Told(folder) => {
-                w.push_unread(folder);
-                w.push_fault(Cause::NoFile.at(import.mark));
+                g.push_unread(folder);
+                g.push_fault(Cause::NoFile.at(import.mark));
             }
         }
     }
-    w.start[unit] = first as u16;
-    w.len[unit] = (w.count - first) as u16;
-    w
+    g.start[unit] = first as u16;
+    g.len[unit] = (g.count - first) as u16;
 }

@@ -17,8 +17,8 @@ pub struct Import {
 
 // The graph: unit u, below `units`, is the file files[u] of the bundle and lists the ids from start[u] on, len[u] of them, among
 // the first `count` of ids. The faults stand in the order of their pushes. The first `unread` of folders are those that could
-// not be read. The imports are those of the unit that is handled. Arrays in a record by value, not lists: the linker has no heap, and
-// document 01 has this form of a graph.
+// not be read. The imports are those of the unit that is handled. Arrays in a record by value, and no FixedVec,
+// which is no Copy: document 01, "Form by location", has a graph as a struct by value that holds arrays, start and length per unit.
 #[derive(Clone, Copy)]
 pub struct Graph {
     pub files: [usize; UNITS],

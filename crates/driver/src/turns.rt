@@ -12,17 +12,17 @@ use card::Carded;
 use discovery::{Known, uses_of};
 
 // All lookups of a unit, then all its readings.
-fn turn(b: &Carded<'_>, g: Graph, unit: usize, known: &mut Known) -> Graph
-    requires graph { Invariant (decode b.now.bytes.now) unit g × (unit < g.units) }
-    requires table { Table (decode b.now.bytes.now) unit g known.old × Places b.now.bytes.now known.old }
-    ensures graph { Invariant (decode b.now.bytes.now) (unit + 1) result }
-    ensures table { Table (decode b.now.bytes.now) (unit + 1) result known.new × Places b.now.bytes.now known.new }
+fn turn(b: &Carded<'_>, g: &mut Graph, unit: usize, known: &mut Known)
+    requires graph { Invariant (decode b.now.bytes.now) unit g.old × (unit < g.old.units) }
+    requires table { Table (decode b.now.bytes.now) unit g.old known.old × Places b.now.bytes.now known.old }
+    ensures graph { Invariant (decode b.now.bytes.now) (unit + 1) g.new }
+    ensures table { Table (decode b.now.bytes.now) (unit + 1) g.new known.new × Places b.now.bytes.now known.new }
 {
     let index = g.files[unit];
     let uses = uses_of(b.bytes, known.place_of(index));
     let first = known.begin(index, uses.as_slice().len());
-    let w = resolve_imports(b, b.card.folders + 1 + index, &uses, g, known, first);
-    load_and_parse_dependencies(w, unit)
+    resolve_imports(b, b.card.folders + 1 + index, &uses, g, known, first);
+    load_and_parse_dependencies(g, unit);
 }
 
 // The graph of a checked bundle; what every use of a reached file resolves to is kept. Ruled out: a graph of unit 0 alone where it
@@ -37,7 +37,7 @@ pub fn discover(b: &Carded<'_>, known: &mut Known) -> Graph
     let mut unit = 0;
     // A `while`, since each turn can add units: the bound grows in the loop.
     while unit < g.units {
-        g = turn(b, g, unit, known);
+        turn(b, &mut g, unit, known);
         unit += 1;
     }
     g

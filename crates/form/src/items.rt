@@ -1,10 +1,10 @@
 // Items, and modules of items: two functions that call each other. Siblings are a loop; only a module is entered.
-ghost use Rattle.std.specs.Prelude.{◌≡◌, ◌+◌, ◌≤◌, ◌<◌, ◌^◌, length};
+ghost use Rattle.std.specs.Prelude.{◌≡◌, ◌+◌, ◌≤◌, ◌<◌, ◌^◌};
 ghost use Rattle.bundle.specs.Told.{scanned, walked};
 ghost use Rattle.bundle.specs.Limits.{item_limit, use_limit};
 ghost use Rattle.bundle.specs.Scan.{uses_after, scan_head, scan_body, scan_item, scan_items, and_then, scan_end};
 
-use crate::fields::{length_end, mark_end, name_end, nothing_left, use_end};
+use crate::fields::{Container, nothing_left};
 use bundle::limits::{ITEMS, most_uses};
 use bundle::{Kind, Passed, version_of};
 use refusal::{Cause, Refusal};
@@ -22,56 +22,59 @@ fn uses_after(s: &[u8], at: usize, uses: usize) -> usize
 
 // An item's length, kind, visibility, and the limits on items and uses.
 #[tactic(auto, unfolding(bundle::specs::Scan::scan_head))]
-fn head_end(s: &[u8], end: usize, w: Passed) -> Result<usize, Refusal>
-    requires { ((w.at ≤ end) × (end ≤ length s.now)) × (w.uses ≤ use_limit) }
-    ensures { scanned result ≡ scan_head s.now end w.at w.items w.uses }
+fn head_end(container: &Container<'_>, w: Passed) -> Result<usize, Refusal>
+    requires { (w.at ≤ container.now.end) × (w.uses ≤ use_limit) }
+    ensures { scanned result ≡ scan_head container.now.bytes.now container.now.end w.at w.items w.uses }
 {
-    let next = length_end(s, w.at, end)?;
-    let visibility = mark_end(s, w.at + 2, next, 1, 6)?;
-    mark_end(s, visibility, next, 0, 1)?;
+    let s = container.bytes;
+    let end = container.length_end(w.at)?;
+    let item = Container { bytes: s, end };
+    let visibility = item.mark_end(w.at + 2, 1, 6)?;
+    item.mark_end(visibility, 0, 1)?;
     if w.items >= ITEMS || uses_after(s, w.at, w.uses) > most_uses(version_of(s)) {
         return Err(Cause::TooMany.at(w.at));
     }
-    Ok(next)
+    Ok(end)
 }
 
 // What follows the visibility of an item that is no module, to the item's end.
 #[tactic(auto, unfolding(bundle::specs::Scan::scan_body))]
-fn body_end(s: &[u8], at: usize, end: usize) -> Result<usize, Refusal>
-    requires { (at + 4 ≤ end) × (end ≤ length s.now) }
-    ensures { scanned result ≡ scan_body s.now end at }
+fn body_end(item: &Container<'_>, at: usize) -> Result<usize, Refusal>
+    requires { at + 4 ≤ item.now.end }
+    ensures { scanned result ≡ scan_body item.now.bytes.now item.now.end at }
 {
-    match bundle::kind(s, at) {
+    match bundle::kind(item.bytes, at) {
         Kind::Ignored => Ok(at + 4),
-        Kind::Use => use_end(s, at + 4, end),
-        Kind::Named(_) | Kind::Module => name_end(s, at + 4, end),
+        Kind::Use => item.use_end(at + 4),
+        Kind::Named(_) | Kind::Module => item.name_end(at + 4),
     }
 }
 
-fn leaf_end(s: &[u8], at: usize, end: usize) -> Result<usize, Refusal>
-    requires { (at + 4 ≤ end) × (end ≤ length s.now) }
-    ensures { scanned result ≡ and_then (scan_body s.now end at) (scan_end end) }
+fn leaf_end(item: &Container<'_>, at: usize) -> Result<usize, Refusal>
+    requires { at + 4 ≤ item.now.end }
+    ensures { scanned result ≡ and_then (scan_body item.now.bytes.now item.now.end at) (scan_end item.now.end) }
 {
-    let past = body_end(s, at, end)?;
-    nothing_left(past, end)
+    let past = body_end(item, at)?;
+    nothing_left(past, item.end)
 }
 
-// The item at `w.at`, in a container that ends at `end`; modules may nest `depth` deep.
+// The item at `w.at`; modules may nest `depth` deep.
 #[cycle(item_items)]
-pub fn item(s: &[u8], end: usize, depth: usize, w: Passed) -> Result<Passed, Refusal>
-    requires { ((w.at ≤ end) × (end ≤ length s.now)) × ((w.items ≤ item_limit) × (w.uses ≤ use_limit)) }
-    ensures { walked result ≡ scan_item depth s.now end w.at w.items w.uses }
+pub fn item(container: &Container<'_>, depth: usize, w: Passed) -> Result<Passed, Refusal>
+    requires { (w.at ≤ container.now.end) × ((w.items ≤ item_limit) × (w.uses ≤ use_limit)) }
+    ensures { walked result ≡ scan_item depth container.now.bytes.now container.now.end w.at w.items w.uses }
 {
-    let next = head_end(s, end, w)?;
+    let s = container.bytes;
+    let end = head_end(container, w)?;
+    let item = Container { bytes: s, end };
     match bundle::kind(s, w.at) {
         Kind::Module => {
             if depth == 0 {
                 return Err(Cause::TooMany.at(w.at));
             }
-            let inner = name_end(s, w.at + 4, next)?;
+            let inner = item.name_end(w.at + 4)?;
             items(
-                s,
-                next,
+                &item,
                 depth - 1,
                 Passed {
                     at: inner,
@@ -81,7 +84,7 @@ pub fn item(s: &[u8], end: usize, depth: usize, w: Passed) -> Result<Passed, Ref
             )
         }
         Kind::Named(_) | Kind::Use | Kind::Ignored => {
-            let past = leaf_end(s, w.at, next)?;
+            let past = leaf_end(&item, w.at)?;
             Ok(Passed {
                 at: past,
                 items: w.items + 1,
@@ -91,16 +94,16 @@ pub fn item(s: &[u8], end: usize, depth: usize, w: Passed) -> Result<Passed, Ref
     }
 }
 
-// The items from `w.at` to `end`.
+// The items from `w.at` to the container's end.
 #[cycle(item_items)]
-pub fn items(s: &[u8], end: usize, depth: usize, w: Passed) -> Result<Passed, Refusal>
-    requires { ((w.at ≤ end) × (end ≤ length s.now)) × ((w.items ≤ item_limit) × (w.uses ≤ use_limit)) }
-    ensures { walked result ≡ scan_items depth s.now end w.at w.items w.uses }
+pub fn items(container: &Container<'_>, depth: usize, w: Passed) -> Result<Passed, Refusal>
+    requires { (w.at ≤ container.now.end) × ((w.items ≤ item_limit) × (w.uses ≤ use_limit)) }
+    ensures { walked result ≡ scan_items depth container.now.bytes.now container.now.end w.at w.items w.uses }
 {
     // A `while`: each item says where the next one starts, once its form is told.
     let mut x = w;
-    while x.at < end {
-        x = item(s, end, depth, x)?;
+    while x.at < container.end {
+        x = item(container, depth, x)?;
     }
     Ok(x)
 }

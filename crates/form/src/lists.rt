@@ -1,11 +1,11 @@
 // The refusals 1 to 6.
-ghost use Rattle.std.specs.Prelude.{◌≡◌, ◌≤◌, length};
+ghost use Rattle.std.specs.Prelude.{◌≡◌, ◌≤◌};
 ghost use Rattle.bundle.specs.Told.{checked, scanned, walked};
 ghost use Rattle.bundle.specs.Limits.{item_limit, use_limit};
 ghost use Rattle.bundle.specs.Scan.{scan_file, scan_files, scan_header};
 ghost use Rattle.bundle.specs.Read.{form as read_form, files as read_files, lists as read_lists};
 
-use crate::fields::{count_end, length_end, list_end, nothing_left, path_end};
+use crate::fields::{Container, nothing_left};
 use crate::items::items;
 use bundle::limits::{
     DEPTH, HEADER, REMAPPINGS, file_width, folder_width, is_defined, most_files, most_folders,
@@ -14,15 +14,16 @@ use bundle::{Field, Passed, Width, count_at, version_of, word_at};
 use refusal::{Cause, Refusal};
 
 #[tactic(auto, unfolding(bundle::specs::Scan::scan_file))]
-fn file_end(s: &[u8], end: usize, w: Passed) -> Result<Passed, Refusal>
-    requires { (end ≤ length s.now) × ((w.items ≤ item_limit) × (w.uses ≤ use_limit)) }
-    ensures { walked result ≡ scan_file s.now end w.at w.items w.uses }
+fn file_end(bundle: &Container<'_>, w: Passed) -> Result<Passed, Refusal>
+    requires { (w.items ≤ item_limit) × (w.uses ≤ use_limit) }
+    ensures { walked result ≡ scan_file bundle.now.bytes.now bundle.now.end w.at w.items w.uses }
 {
-    let size = path_end(s, w.at, end)?;
-    let next = length_end(s, size, end)?;
+    let s = bundle.bytes;
+    let size = bundle.path_end(w.at)?;
+    let end = bundle.length_end(size)?;
+    let file = Container { bytes: s, end };
     items(
-        s,
-        next,
+        &file,
         DEPTH,
         Passed {
             at: size + 2,
@@ -32,9 +33,8 @@ fn file_end(s: &[u8], end: usize, w: Passed) -> Result<Passed, Refusal>
     )
 }
 
-fn files_end(s: &[u8], at: usize, end: usize, n: usize) -> Result<Passed, Refusal>
-    requires { end ≤ length s.now }
-    ensures { walked result ≡ scan_files n s.now end at 0 0 }
+fn files_end(bundle: &Container<'_>, at: usize, n: usize) -> Result<Passed, Refusal>
+    ensures { walked result ≡ scan_files n bundle.now.bytes.now bundle.now.end at 0 0 }
 {
     let mut w = Passed {
         at: at,
@@ -42,7 +42,7 @@ fn files_end(s: &[u8], at: usize, end: usize, n: usize) -> Result<Passed, Refusa
         uses: 0,
     };
     for _ in 0..n {
-        w = file_end(s, end, w)?;
+        w = file_end(bundle, w)?;
     }
     Ok(w)
 }
@@ -75,10 +75,11 @@ fn files_form(s: &[u8], at: usize) -> Result<(), Refusal>
     ensures { checked result ≡ read_files s.now at }
 {
     let end = s.len();
+    let bundle = Container { bytes: s, end };
     let version = version_of(s);
     let width = file_width(version);
-    let first = count_end(s, at, end, width, 1, most_files(version))?;
-    let all = files_end(s, first, end, count_at(s, at, width))?;
+    let first = bundle.count_end(at, width, 1, most_files(version))?;
+    let all = files_end(&bundle, first, count_at(s, at, width))?;
     nothing_left(all.at, end)?;
     Ok(())
 }
@@ -89,17 +90,11 @@ fn lists_form(s: &[u8], at: usize) -> Result<(), Refusal>
     ensures { checked result ≡ read_lists s.now at }
 {
     let end = s.len();
+    let bundle = Container { bytes: s, end };
     let version = version_of(s);
     let width = folder_width(version);
-    let remappings = list_end(s, at, end, width, Field::Path, most_folders(version))?;
-    let files = list_end(
-        s,
-        remappings,
-        end,
-        Width::Byte,
-        Field::Remapping,
-        REMAPPINGS,
-    )?;
+    let remappings = bundle.list_end(at, width, Field::Path, most_folders(version))?;
+    let files = bundle.list_end(remappings, Width::Byte, Field::Remapping, REMAPPINGS)?;
     files_form(s, files)
 }
 
@@ -107,7 +102,9 @@ fn lists_form(s: &[u8], at: usize) -> Result<(), Refusal>
 pub fn form(s: &[u8]) -> Result<(), Refusal>
     ensures { checked result ≡ read_form s.now }
 {
+    let end = s.len();
+    let bundle = Container { bytes: s, end };
     let root = header_end(s)?;
-    let folders = path_end(s, root, s.len())?;
+    let folders = bundle.path_end(root)?;
     lists_form(s, folders)
 }

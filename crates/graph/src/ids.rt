@@ -7,7 +7,8 @@ ghost use Rattle.graph.specs.Padded.{padded};
 use crate::UNITS;
 use std::marker::Model;
 
-// Up to UNITS ids; contracts see the list. An array and a count, not a Vec: the linker has no heap. The places behind are 0.
+// Up to UNITS ids; contracts see the list. An array and a count, not a Vec: the linker has no heap. The places behind
+// are 0, as C gets them, so it is no FixedVec, which says nothing of these.
 #[derive(Clone, Debug, Drop, PartialEq, Eq)]
 pub struct Ids {
     ids: [u16; UNITS],

@@ -1,4 +1,5 @@
-// The eight tree calls on a tree that the caller lends as nine arrays (scopes::Tree has what each holds): zeros are a tree with no entry,
+// The eight tree calls on a tree that the caller lends as nine arrays (scopes::Tree has what each holds; nine parameters, since these are
+// C's functions): zeros are a tree with no entry,
 // and no call copies it. On any arrays a call returns, and a refusal leaves them as they were; on a tree that calls from zeros
 // left, number and tree are the definition's (specs/TreeTold.antt). A visibility of 1 is public, any other private.
 ghost use Rattle.host.specs.TreeTold.{TreeTold, FoundTold, number_in, mark_in, rows_number, tree_rows, rows_count};

@@ -32,11 +32,7 @@ fn tell_image<W: Write>(out: &mut W, s: &[u8]) -> io::Result<()> {
     let Ok(Assembled::Image(_, n)) = linked.answer else {
         return Ok(());
     };
-    out.write_all(b"image ")?;
-    for b in image.iter().take(n) {
-        write!(out, "{b:02x}")?;
-    }
-    out.write_all(b"\n")
+    writeln!(out, "image {}", lines::Hex(image.get(..n).unwrap_or(&[])))
 }
 
 fn tell<W: Write>(out: &mut W, s: &[u8]) -> io::Result<()> {
@@ -49,6 +45,7 @@ fn tell<W: Write>(out: &mut W, s: &[u8]) -> io::Result<()> {
 fn main(rt: HostRuntime) -> io::Result<()> {
     let mut reader = rt.reader();
     let mut out = BufWriter::new(rt.alloc(), io::writer(&rt))?;
+    // A count, since nothing says that a reader ends.
     for _ in 0..u64::MAX {
         let Some(bundle) = next(rt.alloc(), &mut reader)? else {
             break;

@@ -7,7 +7,8 @@ use std::marker::Model;
 // Five letters and at most twenty digits.
 const ROOM: usize = 25;
 
-// A unit's name: its bytes, and zeros after them. An array and a length, not a String: the linker has no heap.
+// A unit's name: its bytes, and zeros after them. An array and a length, not a String: the linker has no heap. Filled from
+// its end, so no FixedVec.
 #[derive(Clone, Copy)]
 pub struct UnitName {
     bytes: [u8; ROOM],

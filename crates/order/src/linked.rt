@@ -6,7 +6,7 @@ ghost use Rattle.bundle.specs.Limits.{file_limit};
 pub const UNITS: usize = bundle::limits::FILES;
 
 // The units of a bundle: unit u, below `units`, is the file files[u] of the bundle, and the first `units` of ids are the linked order.
-// Behind them both have 0. Arrays and a count, not Vecs: the linker has no heap.
+// Behind them both have 0, as C gets them, which a FixedVec says nothing of. Arrays and a count, not Vecs: the linker has no heap.
 #[derive(Clone, Copy)]
 pub struct Linked {
     pub units: usize,

@@ -23,6 +23,8 @@ pub fn assemble(s: &[u8], report: &mut [u8], image: &mut [u8]) -> Result<Assembl
     ensures report_after { report.new ≡ assemble_report s.now report.old }
     ensures image_after { image.new ≡ assemble_image s.now image.old }
 {
+    // The first steps as in linker's `reported`, whose contract speaks of what step 6 comes to: one function for both would need a third
+    // contract, from which each of the two has to be proved.
     let mut known = Known::new();
     match order::order_known(s, report, &mut known)? {
         Ordered::Report(n) => Ok(Assembled::Report(n)),

@@ -1,7 +1,10 @@
 -- The segments of a use, one after the other. Assumes nothing.
-use Rattle.std.specs.Prelude.{ℕ, suc, ◌+◌, ◌-◌, ◌*◌, ◌≤◌, ◌<◌, ◌^◌, List, [], ◌∷◌, ◌≡◌, length}
-use Rattle.std.proofs.Common.{arith, subst}
+use Rattle.std.specs.Prelude.{ℕ, suc, ◌+◌, ◌-◌, ◌*◌, ◌≤◌, ◌<◌, ◌^◌, List, [], ◌∷◌, ◌≡◌, true, Result, Ok, Err, length}
+use Rattle.std.proofs.Common.{arith, subst, sym}
+use Rattle.std.specs.Result.{is_ok}
+use Rattle.names.specs.Bytes.{false_true}
 use Rattle.names.specs.Identifier.{is_identifier}
+use Rattle.refusal.specs.declared.Refusal.{Refusal}
 use Rattle.bundle.specs.Limits.{segment_limit, string_size}
 use Rattle.bundle.specs.Scan.{text, scan_field, scan_list}
 use Rattle.bundle.specs.Decode.{each, after}
@@ -14,6 +17,7 @@ use Rattle.bundle.specs.Sound.{formed-read, count-read}
 use Rattle.bundle.specs.declared.Field.TheVariants.{Name}
 use Rattle.bundle.specs.declared.Width.TheVariants.{Byte}
 use Rattle.bundle.specs.Results.{Next}
+use Rattle.bundle.specs.Told.{scanned}
 use Rattle.resolution.specs.declared.segments.Segments.TheInside.{Inside}
 use Rattle.resolution.specs.Segments.{left_of, AreNames}
 use Rattle.resolution.specs.Call.{scan_segments, segments}
@@ -24,6 +28,11 @@ unfolding scan_segments scan_list scan_field
 segments-named u B x h =
     let m = read-then (scan_list Byte Name segment_limit u (length u) 0) h in
     (count-read u B (length u) (omega arith) Byte IsName string (after u) (text u) (scan_field Name u (length u)) (formed-read u B (length u) (omega arith) is_identifier 5) 0 segment_limit 0 m.mid m.first).every
+
+-- and so where the scan of them goes on
+pub scan-named : (u : List ℕ) → Bytes u → (r : Result ℕ Refusal) → scanned r ≡ scan_segments u → is_ok r ≡ true → Every IsName (segments u)
+scan-named u B (Ok x) e h = segments-named u B x (sym e)
+scan-named u B (Err x) e h = absurd (false_true h)
 
 -- ONE AFTER THE OTHER
 pub left-length : (a : Inside) → length (left_of a) ≡ a.count

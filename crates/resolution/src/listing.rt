@@ -21,6 +21,7 @@ fn enter(b: &Carded<'_>, dir: usize, name: &[u8]) -> Option<usize>
     requires { IsFolder b.now.bytes.now dir × IsName name.now }
     ensures { Enters b.now.bytes.now dir name.now result }
 {
+    // Tried: `filter`; what its closure answers is not found of an index that is not known.
     let i = b.find_child(dir, name, b"")?;
     if i > b.card.folders {
         return None;

@@ -15,6 +15,8 @@ use refusal::{Cause, Refusal};
 use std::marker::Model;
 
 // Names that stand one after the other, as a bundle has a use's segments. A clause sees those that are left.
+// encoder::Strings has these fields too, but its texts need not be names; one iterator for both would stand in bundle, the crate
+// below both.
 #[derive(Drop)]
 pub struct Segments<'a> {
     bytes: &'a [u8],
@@ -60,16 +62,12 @@ impl<'a> Segments<'a> {
     pub fn given(u: &'a [u8]) -> Result<Segments<'a>, Cause>
         ensures { Given u.now result }
     {
-        match segments_end(u) {
-            Err(e) => Err(e.cause),
-            Ok(_) => Ok(Segments::of(
-                u,
-                Listed {
-                    first: 1,
-                    count: bundle::byte_at(u, 0),
-                },
-            )),
-        }
+        segments_end(u).map_err(|e| e.cause)?;
+        let names = Listed {
+            first: 1,
+            count: bundle::byte_at(u, 0),
+        };
+        Ok(Segments::of(u, names))
     }
 
     // How many are left.

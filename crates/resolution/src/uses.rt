@@ -113,6 +113,7 @@ pub fn resolve_path_internal(
 fn importer_of(b: &Carded<'_>, file: &[u8]) -> Option<usize>
     ensures { ImporterIs b.now.bytes.now file.now result }
 {
+    // No `filter`: as for listing's `enter`.
     let f = b.find_path(file)?;
     if f <= b.card.folders {
         return None;

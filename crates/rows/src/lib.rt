@@ -8,19 +8,18 @@ ghost use Rattle.rows.specs.Written.{written};
 ghost use Rattle.rows.specs.TreeRows.{numbers, scope_of, time_of, Listed};
 
 use scope_tree::look::{View, cell};
-use scope_tree::{KINDS, Kind, ORIGINS, TARGETS, TIMES};
+use scope_tree::{KINDS, ORIGINS, TARGETS, TIMES};
 
 // How many numbers tell an entry.
 const ROW: usize = 11;
 
 // What entry i shows where it is a copy: a scope and a time. Zeros of a module's own.
-#[tactic(auto, using(scope_tree::specs::Pack::parts), unfolding(scope_tree::specs::Rows::is_own))]
+#[tactic(auto, using(scope_tree::specs::Pack::parts))]
 fn shown(tree: &View, i: usize) -> (u16, u16)
     requires { i < 1024 }
     ensures { (result.0 ≡ scope_of (rows (view (tree_in tree.now)) i).body) × (result.1 ≡ time_of (rows (view (tree_in tree.now)) i).body) }
 {
-    let kind = cell(tree.cells, KINDS, i);
-    if kind == u16::from(Kind::Module) && cell(tree.cells, ORIGINS, i) == 0 {
+    if tree.is_own(i) {
         return (0, 0);
     }
     let target = cell(tree.cells, TARGETS, i);
@@ -37,7 +36,7 @@ fn row_of(tree: &View, i: usize) -> [u64; ROW]
     let name = tree.name(i);
     [
         u64::from(cell(tree.cells, KINDS, i)),
-        u64::from(tree.visible[i] == 1),
+        u64::from(tree.is_public(i)),
         u64::from(tree.scopes[i]),
         u64::from(tree.marks[i]),
         u64::from(cell(tree.cells, ORIGINS, i)),

@@ -1,8 +1,8 @@
 // Lookups. Nothing here changes a tree.
-ghost use Rattle.std.specs.Prelude.{◌≡◌, ◌+◌, ◌*◌, ◌<◌, ◌≤◌, get_or, IfSome};
+ghost use Rattle.std.specs.Prelude.{◌≡◌, ◌+◌, ◌*◌, ◌<◌, ◌≤◌, eqb, get_or, IfSome};
 ghost use Rattle.scope_tree.specs.Kinds.{kind_number};
 ghost use Rattle.scope_tree.specs.Index.{Small, half_mix, mix_by, mix, word_at, bucket, turn, below, held_in, free_slot};
-ghost use Rattle.scope_tree.specs.Rows.{name_at};
+ghost use Rattle.scope_tree.specs.Rows.{name_at, is_own};
 ghost use Rattle.scope_tree.specs.Nav.{current_of};
 ghost use Rattle.scope_tree.specs.Trees.{part, index_of, doors_of, tree_in};
 ghost use Rattle.scope_tree.specs.Looks.{sought_in, found_in, site_in, leads_in, Led, Here};
@@ -226,6 +226,23 @@ impl<'a> View<'a> {
         }
     }
 
+    // Whether entry i is public.
+    pub fn is_public(&self, i: usize) -> bool
+        requires { i < 1024 }
+        ensures { result ≡ eqb (get_or self.now.visible.now i 0) 1 }
+    {
+        self.visible[i] == 1
+    }
+
+    // Whether entry i is a declared module, which has a scope of its own.
+    #[tactic(auto, unfolding(crate::specs::Rows::is_own))]
+    pub fn is_own(&self, i: usize) -> bool
+        requires { i < 1024 }
+        ensures { result ≡ is_own (get_or (part 0 self.now.cells.now) i 0) (get_or (part 1024 self.now.cells.now) i 0) }
+    {
+        cell(self.cells, KINDS, i) == u16::from(Kind::Module) && cell(self.cells, ORIGINS, i) == 0
+    }
+
     // Whether entry i is the one looked for: of those from the scope's first on and below the time.
     #[tactic(auto, unfolding(crate::specs::Rows::is_row, crate::specs::Index::within, names::specs::Packed::same_name))]
     fn is_sought(&self, i: usize, key: &Key, time: usize) -> bool
@@ -263,14 +280,13 @@ impl<'a> View<'a> {
     }
 
     // What is inside entry i, looked at among the first `time` entries: a declared module's own scope, or that of a copy at its time.
-    #[tactic(auto, unfolding(crate::specs::Rows::site, crate::specs::Rows::is_own))]
+    #[tactic(auto, unfolding(crate::specs::Rows::site))]
     pub fn inside(&self, i: usize, time: usize) -> Place
         requires { i < 1024 }
         ensures shown { result ≡ site_in (tree_in self.now) i time }
         ensures early { result.time ≤ time }
     {
-        let kind = cell(self.cells, KINDS, i);
-        if kind == u16::from(Kind::Module) && cell(self.cells, ORIGINS, i) == 0 {
+        if self.is_own(i) {
             return Place {
                 scope: (i + 1) as u16,
                 time,
@@ -339,7 +355,7 @@ impl<'a> View<'a> {
             let Some(e) = self.find(to, Kind::Module, name) else {
                 return Err(Cause::NoModule);
             };
-            if self.visible[e] != 1 && !led {
+            if !self.is_public(e) && !led {
                 return Err(Cause::PrivateModule);
             }
             to = self.inside(e, to.time);

@@ -13,14 +13,10 @@ ghost use Rattle.scope_walk.specs.Scopes.{asked, is_public};
 ghost use Rattle.scope_walk.specs.Steps.{Walks, stop_of, Fitting};
 
 use assembly::Unit;
+use bundle::limits::{ENUM, FUNCTION};
 use refusal::Refusal;
 use scopes::lent::Lent;
 use scopes::{Call, Item};
-
-// Kinds of declarations; a type alias has any other.
-const FUNCTION: u8 = 2;
-
-const ENUM: u8 = 4;
 
 // The most bytes of a use with its path rewritten.
 const USE_SIZE: usize = 2681;
@@ -55,7 +51,7 @@ pub fn item_at(s: &[u8], at: usize) -> Item<'_>
     }
 }
 
-// The declaration of an item of this kind.
+// The declaration of an item of this kind: a type alias has any that is no function's and no enum's.
 fn declaration(kind: u8, item: Item<'_>) -> Call<'_>
     ensures { request_of result ≡ declares kind item.entry.name.now item.entry.public item.entry.mark }
 {

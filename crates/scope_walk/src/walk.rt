@@ -95,6 +95,7 @@ pub fn walk_units(program: &Program<'_>, tree: &mut Tree) -> Result<(), Refusal>
     requires { tree.old ≡ cleared }
     ensures { Walks cleared (program_calls (decode program.now.bytes.now) program.now.ids.now) (stop_of result) tree.new }
 {
+    // Written out: of a struct of nine loans that a function hands out, no clause says what the tree then ends as (tried).
     let mut arrays = Lent {
         opened: &mut tree.opened,
         cells: &mut tree.cells,

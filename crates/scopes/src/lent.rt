@@ -11,6 +11,7 @@ ghost use Rattle.scopes.specs.Declares.{Declares};
 use crate::call::{Call, Item};
 use commit::Entry;
 pub use commit::Lent;
+use decision::batch::Staged;
 use decision::decide;
 use refusal::Cause;
 use scope_tree::{DEPTH, Kind, OPENED};
@@ -23,17 +24,20 @@ fn declare(tree: &mut Lent, kind: Kind, item: Item) -> Result<(), Cause>
     let view = tree.view();
     let plan = decide::planned(&view, item.name, kind)?;
     let at = view.count();
+    let staged = Staged {
+        kind,
+        name: plan.name,
+        mark: item.mark,
+        origin: 0,
+        target: 0,
+        moment: 0,
+    };
     tree.add(
         at,
         Entry {
-            kind,
+            staged,
             public: item.public,
             scope: plan.scope,
-            mark: item.mark,
-            name: plan.name,
-            origin: 0,
-            target: 0,
-            moment: 0,
             opens: kind.opens(),
         },
     );

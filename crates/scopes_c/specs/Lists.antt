@@ -222,18 +222,13 @@ module _ (s : List ℕ) (p : ℕ) {op : ℕ} (oq : op ≡ get_or s p 0) where
       go (yes l) = let z : op ≡ 7 = omega arith in rw (← oq, z, e)
       go (no l) = let z : op ≡ 8 = omega arith in rw (← oq, z, e)
 
-  pub after_low : op < 3 → (op ≡ 1 → ⊥) → p + 1 ≡ after_order s p
+  pub after_exit : op ≡ 2 → p + 1 ≡ after_order s p
   unfolding after_order
-  after_low h z = go (dec_lt op 1)
-    where
-      go : Dec (op < 1) → p + 1 ≡ after_order s p
-      go (yes l) = let e : op ≡ 0 = omega arith in rw (← oq, e)
-      go (no l) = let e : op ≡ 2 = omega arith in rw (← oq, e)
+  after_exit z = rw (← oq, z)
 
-  pub after_high : 8 < op → p + 1 ≡ after_order s p
+  pub after_none : (op ≡ 1 → ⊥) → (op ≡ 3 → ⊥) → (op ≡ 4 → ⊥) → (op ≡ 5 → ⊥) → (op ≡ 6 → ⊥) → (op ≡ 7 → ⊥) → (op ≡ 8 → ⊥) → p + 1 ≡ after_order s p
   unfolding after_order
-  after_high h =
-      rw (← oq, ne_eqb op 6 (λ e. omega arith), ne_eqb op 7 (λ e. omega arith), ne_eqb op 8 (λ e. omega arith), ne_eqb op 1 (λ e. omega arith), le-ltb op 3 (omega arith), le-ltb op 6 (omega arith))
+  after_none a c d e f g h = rw (← oq, ne_eqb op 6 f, ne_eqb op 7 g, ne_eqb op 8 h, ne_eqb op 1 a, undeclared c d e)
 
 -- the part that a slice of the bytes is
 pub part_is : (s : List ℕ) (p n : ℕ) {a b : ℕ} → a ≡ min (length s) p → b ≡ min (length s) (p + n) → take (b - a) (drop a s) ≡ part_of s p n
@@ -258,6 +253,10 @@ part_is s p n {a} {b} e f = go (dec_lt p (length s)) (dec_lt (p + n) (length s))
 -- an answer by its number
 pub said_as : {t u : Tree} {o : Order} {n m : ℕ} → m ≡ n → Turned t o n u → Turned t o m u
 said_as e c = record { good = c.good; tree = c.tree; said = λ g. e ∙ c.said g }
+
+-- a turn by its call
+pub turned_as : {t u : Tree} {o q : Order} {n : ℕ} → o ≡ q → Turned t o n u → Turned t q n u
+turned_as {t} {u} {o} {q} {n} e c = subst (λ (x : Order). Turned t x n u) e c
 
 -- the tree that all calls leave
 abbrev pub left_tree : List ℕ → Flat

@@ -8,14 +8,13 @@ ghost use Rattle.scope_tree.specs.Views.{told};
 ghost use Rattle.scope_tree.specs.Told.{call_told};
 ghost use Rattle.scope_tree.specs.Trees.{cleared};
 ghost use Rattle.commit.specs.Lending.{lent_in, Kept};
-ghost use Rattle.scopes.specs.Meets.{Meets, request_of, outcome_told};
 ghost use Rattle.scopes_c.specs.Lists.{pair_at, part_of, name_in, IsItem, order_at, order_told, after_order, shown, Turned, Called, left_tree, Walked, Replayed};
 ghost use Rattle.rows.specs.Written.{put_at};
 ghost use Rattle.rows.specs.TreeRows.{Listed};
 
 use refusal::Cause;
 use scopes::lent::Lent;
-use scopes::{CELLS, Call, Item, OPENED, Outcome, Tree, lent};
+use scopes::{CELLS, Call, Item, OPENED, Tree, lent};
 
 // The most calls that are made.
 const CALLS: usize = 16000000;
@@ -66,38 +65,27 @@ fn item_at<'a>(s: &'a [u8], p: usize) -> Item<'a>
     }
 }
 
-// The call at p; none for an empty tree.
-fn order_at<'a>(s: &'a [u8], p: usize) -> Option<Call<'a>>
+// The call at p, none for an empty tree; and the place after it.
+fn next_call<'a>(s: &'a [u8], p: usize) -> (Option<Call<'a>>, usize)
     requires { p < 16777216 }
-    ensures { order_told result ≡ order_at s.now p }
-{
-    match byte(s, p) {
-        1 => Some(Call::Enter(item_at(s, p))),
-        2 => Some(Call::Exit),
-        3 => Some(Call::Alias(item_at(s, p))),
-        4 => Some(Call::Enum(item_at(s, p))),
-        5 => Some(Call::Function(item_at(s, p))),
-        6 => {
-            let n = usize::from(pair(s, p + 1));
-            Some(Call::Use(part(s, p + 3, n), byte(s, p + 3 + n) == 1))
-        }
-        7 => Some(Call::GetAlias(name_at(s, p))),
-        8 => Some(Call::GetFunction(name_at(s, p))),
-        _ => None,
-    }
-}
-
-// The place after the call at p.
-fn after(s: &[u8], p: usize) -> usize
-    requires { p < 16777216 }
-    ensures { (result ≡ after_order s.now p) × (result ≤ p + 65539) }
+    ensures call { order_told result.0 ≡ order_at s.now p }
+    ensures next { (result.1 ≡ after_order s.now p) × (result.1 ≤ p + 65539) }
 {
     let name = usize::from(byte(s, p + 1));
     match byte(s, p) {
-        1 | 3 | 4 | 5 => p + 5 + name,
-        6 => p + 4 + usize::from(pair(s, p + 1)),
-        7 | 8 => p + 2 + name,
-        _ => p + 1,
+        1 => (Some(Call::Enter(item_at(s, p))), p + 5 + name),
+        2 => (Some(Call::Exit), p + 1),
+        3 => (Some(Call::Alias(item_at(s, p))), p + 5 + name),
+        4 => (Some(Call::Enum(item_at(s, p))), p + 5 + name),
+        5 => (Some(Call::Function(item_at(s, p))), p + 5 + name),
+        6 => {
+            let n = usize::from(pair(s, p + 1));
+            let public = byte(s, p + 3 + n) == 1;
+            (Some(Call::Use(part(s, p + 3, n), public)), p + 4 + n)
+        }
+        7 => (Some(Call::GetAlias(name_at(s, p))), p + 2 + name),
+        8 => (Some(Call::GetFunction(name_at(s, p))), p + 2 + name),
+        _ => (None, p + 1),
     }
 }
 
@@ -109,42 +97,20 @@ pub struct Step {
     pub next: usize,
 }
 
-// A call by value.
-fn made(tree: Tree, call: Call) -> Outcome
-    ensures { Meets tree (request_of call.entry) (outcome_told result) }
-{
-    match call {
-        Call::Enter(item) => scopes::enter(tree, item.name, item.public, item.mark),
-        Call::Exit => scopes::exit(tree),
-        Call::Alias(item) => scopes::insert_alias(tree, item.name, item.public, item.mark),
-        Call::Enum(item) => scopes::insert_enum(tree, item.name, item.public, item.mark),
-        Call::Function(item) => scopes::insert_function(tree, item.name, item.public, item.mark),
-        Call::Use(decl, public) => scopes::resolve_use(tree, decl, public),
-        Call::GetAlias(name) => Outcome {
-            answer: scopes::get_alias(tree, name).map(Some),
-            tree,
-        },
-        Call::GetFunction(name) => Outcome {
-            answer: scopes::get_function(tree, name).map(Some),
-            tree,
-        },
-    }
-}
-
 // The call at p.
 pub fn call_at(t: Tree, s: &[u8], p: usize) -> Step
     requires { p < 16777216 }
     ensures { Called t s.now p result }
 {
-    let next = after(s, p);
-    let Some(call) = order_at(s, p) else {
+    let (call, next) = next_call(s, p);
+    let Some(call) = call else {
         return Step {
             answer: Ok(None),
             tree: scopes::empty(),
             next,
         };
     };
-    let made = made(t, call);
+    let made = scopes::make(t, call);
     Step {
         answer: made.answer,
         tree: made.tree,
@@ -152,13 +118,12 @@ pub fn call_at(t: Tree, s: &[u8], p: usize) -> Step
     }
 }
 
-// The call at p on lent arrays.
-fn call_in(tree: &mut Lent, s: &[u8], p: usize) -> Result<Option<u16>, Cause>
-    requires { p < 16777216 }
+// A call, or an empty tree, on lent arrays.
+fn call_in(tree: &mut Lent, call: Option<Call>) -> Result<Option<u16>, Cause>
     ensures kept { Kept tree.old tree.new }
-    ensures turned { Turned (lent_in tree.old) (order_at s.now p) (shown (told (call_told result))) (lent_in tree.new) }
+    ensures turned { Turned (lent_in tree.old) (order_told call.entry) (shown (told (call_told result))) (lent_in tree.new) }
 {
-    let Some(call) = order_at(s, p) else {
+    let Some(call) = call else {
         *tree.opened = [0; OPENED];
         *tree.cells = [0; CELLS];
         return Ok(None);
@@ -228,8 +193,9 @@ fn walked(tree: &mut Lent, s: &[u8], out: &mut [u32]) -> usize
         if s.len().min(END) <= p {
             return i;
         }
-        put(out, i, shown(call_in(tree, s, p)));
-        p = after(s, p);
+        let (call, next) = next_call(s, p);
+        put(out, i, shown(call_in(tree, call)));
+        p = next;
     }
     CALLS
 }
@@ -240,6 +206,7 @@ pub fn scopes_walk(s: &[u8], out: &mut [u32]) -> usize
     ensures { Walked s.now out.old result out.new }
 {
     let mut tree = scopes::empty();
+    // Written out: of a struct of nine loans that a function hands out, no clause says what the tree then ends as (tried).
     let mut arrays = Lent {
         opened: &mut tree.opened,
         cells: &mut tree.cells,

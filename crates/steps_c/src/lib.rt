@@ -27,25 +27,21 @@ pub const GRAPH_LENGTHS: usize = GRAPH_STARTS + bundle::limits::FILES;
 
 pub const GRAPH_IDS: usize = GRAPH_LENGTHS + bundle::limits::FILES;
 
-fn bit(b: bool) -> u8
-    ensures { result ≡ bit_of b }
-{
-    if b { 1 } else { 0 }
-}
-
 // 1 where the path f lies at or below the path p, else 0. Ruled out: 1 for `/r/payroll` below `/r/pay`; 0 for a path below
 // itself.
+#[tactic(auto, unfolding(crate::specs::Steps::bit_of))]
 pub fn steps_starts_with(f: &[u8], p: &[u8]) -> u8
     ensures { result ≡ bit_of (starts_with f.now p.now) }
 {
-    bit(names::starts_with(f, p))
+    u8::from(names::starts_with(f, p))
 }
 
 // 1 where the bytes are a reserved word, else 0. Ruled out: 1 for `pu`; 0 for `simc`.
+#[tactic(auto, unfolding(crate::specs::Steps::bit_of))]
 pub fn steps_is_keyword(s: &[u8]) -> u8
     ensures { result ≡ bit_of (is_keyword s.now) }
 {
-    bit(names::is_keyword(s))
+    u8::from(names::is_keyword(s))
 }
 
 // Stores a number at i, if there is such a place.

@@ -9,6 +9,8 @@ ghost use Rattle.tree_lines.specs.Entries.{module_path, has_line, has_lines};
 ghost use Rattle.tree_lines.specs.EntryLaws.{shown_of};
 
 use names::Name;
+use scope_tree::KINDS;
+use scope_tree::look::cell;
 use scopes::{ENTRIES, Tree};
 use text::Sink;
 
@@ -40,19 +42,14 @@ const NONE: Shown = Shown {
 fn entry_at(tree: &Tree, i: usize) -> Shown
     ensures { result ≡ shown_of (get_or (flat_of tree.now).entries i none) }
 {
-    let count = scopes::count_of(&tree.opened);
-    if i >= count || i >= ENTRIES {
+    let view = tree.view();
+    if i >= view.count() || i >= ENTRIES {
         return NONE;
     }
     Shown {
         scope: usize::from(tree.scopes[i]),
-        kind: u64::from(scopes::kind_at(&tree.cells, i)),
-        name: Name {
-            w0: tree.n0[i],
-            w1: tree.n1[i],
-            w2: tree.n2[i],
-            w3: tree.n3[i],
-        },
+        kind: u64::from(cell(&tree.cells, KINDS, i)),
+        name: view.name(i),
         mark: u64::from(tree.marks[i]),
     }
 }
@@ -80,7 +77,7 @@ fn put_entry<S: Sink>(out: &mut S, tree: &Tree, i: usize)
         return;
     }
     out.put(b"has ");
-    put_module(out, tree, entry.scope, scopes::count_of(&tree.opened));
+    put_module(out, tree, entry.scope, tree.view().count());
     out.put(b" ");
     text::put_decimal(out, entry.kind);
     out.put(b" ");
@@ -94,7 +91,7 @@ fn put_entry<S: Sink>(out: &mut S, tree: &Tree, i: usize)
 pub fn put_tree<S: Sink>(out: &mut S, tree: &Tree)
     ensures { S.tells out.old (lines (has_lines (flat_of tree.now).entries (flat_of tree.now).entries)) out.new }
 {
-    for i in 0..scopes::count_of(&tree.opened) {
+    for i in 0..tree.view().count() {
         put_entry(out, tree, i);
     }
 }

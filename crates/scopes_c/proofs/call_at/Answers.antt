@@ -4,4 +4,4 @@ use Rattle.scopes_c.proofs.call_at.Goals as goal
 
 pub returns-in_default : goal.returns-in_default
 returns-in_default c =
-    record { turned = turned_clears (ap order_told (sym c.in_default.is) ∙ c.order_at.ensures) c.empty.ensures; next = c.after-next.ensures.0; near = c.after-next.ensures.1 }
+    record { turned = turned_clears (ap order_told (sym c.in_default.is) ∙ c.next_call-next.ensures.call) c.empty.ensures; next = c.next_call-next.ensures.next.0; near = c.next_call-next.ensures.next.1 }

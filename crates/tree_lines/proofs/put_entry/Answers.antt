@@ -19,4 +19,4 @@ returns g c =
     let path = then _ _ _ _ _ (then _ _ _ _ _ c.put.ensures c.put_module.ensures) c.put-2.ensures in
     let name = then _ _ _ _ _ (then _ _ _ _ _ (then _ _ _ _ _ path c.put_decimal.ensures) c.put-3.ensures) c.put_name.ensures in
     tells_as g.S.Sink.tells (then _ _ _ _ _ (then _ _ _ _ _ (then _ _ _ _ _ name c.put-4.ensures) c.put_decimal-2.ensures) c.put-5.ensures)
-    (line_told l (get_or l c.args.i none) c.entry_at-entry.result c.count_of.result c.entry_at-entry.ensures (search (rules, length-tab)) c.if-entry-eq0.false)
+    (line_told l (get_or l c.args.i none) c.entry_at-entry.result c.count.result c.entry_at-entry.ensures (search (rules, length-tab)) c.if-entry-eq0.false)

@@ -27,13 +27,13 @@ pub write_faults-requires : goal.write_faults-requires
 write_faults-requires c =
     let e = enums_fit c.args.program.now.bytes.now c.args.program.now.fit c.args.program.now.known.now c.args.program.now.ids.now c.args.program.now.given in
     let marks = enums_of (decode c.args.program.now.bytes.now) (take (length c.args.program.now.ids.now - 1) c.args.program.now.ids.now) in
-    let n = ap length (c.as_slice.ensures ∙ (c.require_main.ensures ∙ ap (λ l. l ++ main_told (decode c.args.program.now.bytes.now)) (rw c.new-faults.ensures at c.forbid_enum_dec_in_deps.ensures))) in
+    let n = ap length (c.as_slice.ensures.value ∙ (c.require_main.ensures ∙ ap (λ l. l ++ main_told (decode c.args.program.now.bytes.now)) (rw c.new-faults.ensures at c.forbid_enum_dec_in_deps.ensures))) in
     omega (arith, length-map marks foreign, length-append (map foreign marks) (main_told (decode c.args.program.now.bytes.now)), main_few (decode c.args.program.now.bytes.now))
 
 pub returns-clause-value : goal.returns-clause-value
 returns-clause-value c =
     let p = c.args.program.now in
-    let all = c.as_slice.ensures ∙ (c.require_main.ensures ∙ ap (λ l. l ++ main_told (decode p.bytes.now)) (rw c.new-faults.ensures at c.forbid_enum_dec_in_deps.ensures)) in
+    let all = c.as_slice.ensures.value ∙ (c.require_main.ensures ∙ ap (λ l. l ++ main_told (decode p.bytes.now)) (rw c.new-faults.ensures at c.forbid_enum_dec_in_deps.ensures)) in
     c.write_faults.ensures.value
     ∙ (ap (λ (l : List Refusal). reporting (map fault (map fault_told l)) (length c.args.report.now)) all
     ∙ ap (λ (l : List Fault). reporting (map fault l) (length c.args.report.now)) (all-meant p.bytes.now p.fit p.known.now p.ids.now p.given))
@@ -41,7 +41,7 @@ returns-clause-value c =
 pub returns-clause-report_after : goal.returns-clause-report_after
 returns-clause-report_after c =
     let p = c.args.program.now in
-    let all = c.as_slice.ensures ∙ (c.require_main.ensures ∙ ap (λ l. l ++ main_told (decode p.bytes.now)) (rw c.new-faults.ensures at c.forbid_enum_dec_in_deps.ensures)) in
+    let all = c.as_slice.ensures.value ∙ (c.require_main.ensures ∙ ap (λ l. l ++ main_told (decode p.bytes.now)) (rw c.new-faults.ensures at c.forbid_enum_dec_in_deps.ensures)) in
     c.write_faults.ensures.out_after
     ∙ (ap (λ (l : List Refusal). lent_report (map fault (map fault_told l)) c.args.report.now) all
     ∙ ap (λ (l : List Fault). lent_report (map fault l) c.args.report.now) (all-meant p.bytes.now p.fit p.known.now p.ids.now p.given))

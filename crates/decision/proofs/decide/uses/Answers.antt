@@ -40,7 +40,7 @@ pub stage-requires : goal.stage-requires
 stage-requires c =
     let m = element_bound _ (sym c.in_ok-use_form.ensures) c.byte_at-segments.ensures c.if-segments-eq0.false c.next.ensures c.in_ok-way.ensures.next c.byte_at-elements.ensures in
     let n = segment_bound _ (sym c.in_ok-use_form.ensures) c.byte_at-segments.ensures in
-    (omega (arith, c.in_ok-way.ensures.time, c.in_ok-here.ensures.few), (m, omega (arith, c.in_ok-way.ensures.below, c.next.ensures.1)))
+    (m, omega (arith, c.in_ok-way.ensures.below, c.next.ensures.1))
 
 pub returns-in_err-batch : goal.returns-in_err-batch
 returns-in_err-batch c =

@@ -7,5 +7,5 @@ use Rattle.driver.proofs.lookups.resolve_imports.Given as goal
 
 abbrev pub invariant-loop-i : goal.invariant-loop-i
 invariant-loop-i l =
-    LookedTo (lists_in l.b.bytes.now) (path_in l.b.bytes.now l.f) (use_list l.b.bytes.now l.uses) (no_imports l.fn.g) l.w l.i
+    LookedTo (lists_in l.b.bytes.now) (path_in l.b.bytes.now l.f) (use_list l.b.bytes.now l.uses) (no_imports l.initial.g) l.g l.i
     × Fills (lists_in l.b.bytes.now) (path_in l.b.bytes.now l.f) l.initial.known l.known l.first (use_list l.b.bytes.now l.uses) l.i

@@ -12,7 +12,7 @@ decreases-items l = 2 * l.depth + 1
 
 abbrev pub invariant-items-loop-x : goal.invariant-items-loop-x
 invariant-items-loop-x l =
-    ((l.x.at ≤ l.end) × (l.x.items ≤ item_limit) × (l.x.uses ≤ use_limit)) × (scan_items l.depth l.s l.end l.x.at l.x.items l.x.uses ≡ scan_items l.depth l.s l.end l.fn.w.at l.fn.w.items l.fn.w.uses)
+    ((l.x.at ≤ l.container.end) × (l.x.items ≤ item_limit) × (l.x.uses ≤ use_limit)) × (scan_items l.depth l.container.bytes.now l.container.end l.x.at l.x.items l.x.uses ≡ scan_items l.depth l.container.bytes.now l.container.end l.fn.w.at l.fn.w.items l.fn.w.uses)
 
 abbrev pub decreases-items-loop-x : goal.decreases-items-loop-x
-decreases-items-loop-x l = l.end - l.x.at
+decreases-items-loop-x l = l.container.end - l.x.at

@@ -7,20 +7,27 @@ use Rattle.form.proofs.lists.file_end.Goals as goal
 
 pub length_end-requires : goal.length_end-requires
 length_end-requires c =
-    let n = formed-next c.args.s.now c.args.end c.args.w.at is_path 4 (sym c.in_ok-size.ensures) in
-    let b = string-next c.args.s.now c.args.end c.args.w.at n.0 in
-    (b.2, c.requires.0)
+    let n = formed-next c.args.bundle.now.bytes.now c.args.bundle.now.end c.args.w.at is_path 4 (sym c.in_ok-size.ensures) in
+    let b = string-next c.args.bundle.now.bytes.now c.args.bundle.now.end c.args.w.at n.0 in
+    b.2
+
+pub invariant_of-file : goal.invariant_of-file
+invariant_of-file c =
+    let n = formed-next c.args.bundle.now.bytes.now c.args.bundle.now.end c.args.w.at is_path 4 (sym c.in_ok-size.ensures) in
+    let b = string-next c.args.bundle.now.bytes.now c.args.bundle.now.end c.args.w.at n.0 in
+    let l = length-next c.args.bundle.now.bytes.now c.args.bundle.now.end c.in_ok-size.size (sym c.in_ok-end.ensures) in
+    record { inside = omega (arith, c.args.bundle.now.inside) }
 
 pub overflow_add-size : goal.overflow_add-size
 overflow_add-size c =
-    let n = formed-next c.args.s.now c.args.end c.args.w.at is_path 4 (sym c.in_ok-size.ensures) in
-    let b = string-next c.args.s.now c.args.end c.args.w.at n.0 in
-    let l = length-next c.args.s.now c.args.end c.in_ok-size.size (sym c.in_ok-next.ensures) in
-    omega (arith, c.requires.0, c.well_formed.0)
+    let n = formed-next c.args.bundle.now.bytes.now c.args.bundle.now.end c.args.w.at is_path 4 (sym c.in_ok-size.ensures) in
+    let b = string-next c.args.bundle.now.bytes.now c.args.bundle.now.end c.args.w.at n.0 in
+    let l = length-next c.args.bundle.now.bytes.now c.args.bundle.now.end c.in_ok-size.size (sym c.in_ok-end.ensures) in
+    omega (arith, c.args.bundle.now.inside)
 
 pub items-requires : goal.items-requires
 items-requires c =
-    let n = formed-next c.args.s.now c.args.end c.args.w.at is_path 4 (sym c.in_ok-size.ensures) in
-    let b = string-next c.args.s.now c.args.end c.args.w.at n.0 in
-    let l = length-next c.args.s.now c.args.end c.in_ok-size.size (sym c.in_ok-next.ensures) in
-    ((omega arith, omega (arith, c.requires.0)), c.requires.1)
+    let n = formed-next c.args.bundle.now.bytes.now c.args.bundle.now.end c.args.w.at is_path 4 (sym c.in_ok-size.ensures) in
+    let b = string-next c.args.bundle.now.bytes.now c.args.bundle.now.end c.args.w.at n.0 in
+    let l = length-next c.args.bundle.now.bytes.now c.args.bundle.now.end c.in_ok-size.size (sym c.in_ok-end.ensures) in
+    (omega arith, c.requires)

@@ -7,4 +7,4 @@ use Rattle.form.proofs.lists.files_end.Given as goal
 
 abbrev pub invariant-loop : goal.invariant-loop
 invariant-loop l =
-    ((l.w.items ≤ item_limit) × (l.w.uses ≤ use_limit)) × (scan_files (l.n - l.counter) l.s l.end l.w.at l.w.items l.w.uses ≡ scan_files l.n l.s l.end l.at 0 0)
+    ((l.w.items ≤ item_limit) × (l.w.uses ≤ use_limit)) × (scan_files (l.n - l.counter) l.bundle.bytes.now l.bundle.end l.w.at l.w.items l.w.uses ≡ scan_files l.n l.bundle.bytes.now l.bundle.end l.at 0 0)

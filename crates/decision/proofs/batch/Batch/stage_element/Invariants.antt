@@ -8,5 +8,5 @@ use Rattle.decision.proofs.batch.Batch.stage_element.Given as goal
 
 abbrev pub invariant-loop-kind : goal.invariant-loop-kind
 invariant-loop-kind l =
-    Kinding (arrays_in (tree_in l.tree)) l.here.time l.here.scope l.from.scope l.from.time l.name l.local (staged_of l.fn.self) (l.kind-index + 1) (fault l.told) (staged_of l.self)
+    Kinding (arrays_in (tree_in l.import.tree.now)) l.import.here.time l.import.here.scope l.import.from.scope l.import.from.time l.name l.local (staged_of l.fn.self) (l.kind-index + 1) (fault l.told) (staged_of l.self)
     × Fresh l.local l.first l.self

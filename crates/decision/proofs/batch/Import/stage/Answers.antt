@@ -1,5 +1,5 @@
 use Rattle.scope_tree.specs.Staging.{staging_turn}
-use Rattle.decision.proofs.stage.stage.Goals as goal
+use Rattle.decision.proofs.batch.Import.stage.Goals as goal
 
 pub loop-preserved : goal.loop-preserved
 loop-preserved c =
