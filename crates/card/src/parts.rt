@@ -37,7 +37,7 @@ pub struct Map {
 
 // Of each chain the last index; the multiplier of the hash; how many folders, remappings and files; the index of the entry's root.
 // Arrays, not Vecs: the linker has no heap.
-#[derive(Drop)]
+#[derive(Clone, Copy)]
 pub struct Card {
     pub nodes: [Node; NODES],
     pub links: [Link; NODES],

@@ -96,6 +96,7 @@ with_entry t i mark found = record t { entries = set t.entries i (record { mark 
 -- THE FIRST n USES of a file, from the entry `first` on
 pub record Fills (l : Lists) (file : Text) (t r : Known) (first : ℕ) (us : List Use) (n : ℕ) : Type 0 where
   pub wide : length r.entries ≡ length t.entries
+  pub files : r.files ≡ t.files
   pub rows : r.rows ≡ t.rows
   pub next : r.next ≡ t.next
   pub before : (i : ℕ) → i < first → entry_of r i ≡ entry_of t i
@@ -103,12 +104,13 @@ pub record Fills (l : Lists) (file : Text) (t r : Known) (first : ℕ) (us : Lis
 
 module _ (l : Lists) (file : Text) (t : Known) (first : ℕ) (us : List Use) where
   pub fills_none : Fills l file t t first us 0
-  fills_none = record { wide = refl; rows = refl; next = refl; before = λ i h. refl; entries = λ j h. absurd (omega arith) }
+  fills_none = record { wide = refl; files = refl; rows = refl; next = refl; before = λ i h. refl; entries = λ j h. absurd (omega arith) }
 
   pub fills_one : (r : Known) (i : ℕ) (u : Use) (x : Option Found) → first + i < length t.entries → Fills l file t r first us i → get_or us i no_use ≡ u
       → x ≡ result_ok (answered l (resolve_path_internal l file u.segments)) → Fills l file t (with_entry r (first + i) u.mark x) first us (i + 1)
   fills_one r i u x lt f is e = record {
     wide = length-set r.entries (first + i) _ ∙ f.wide;
+    files = f.files;
     rows = f.rows;
     next = f.next;
     before = λ j h. get_or-set_other r.entries (first + i) j _ no_entry (λ z. omega arith) ∙ f.before j h;

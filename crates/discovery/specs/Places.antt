@@ -17,7 +17,7 @@ use Rattle.discovery.specs.Discovery.{Use}
 use Rattle.discovery.specs.Room.{checked-roomy}
 use Rattle.discovery.specs.declared.known.Known.{Known}
 use Rattle.discovery.specs.declared.known.FileRow.{FileRow}
-use Rattle.discovery.specs.Known.{Wide, no_row, row_of, place_of, begun, begun-place, Fills}
+use Rattle.discovery.specs.Known.{Wide, no_row, row_of, from_of, to_of, place_of, begun, begun-place, Fills}
 
 pub record Places (s : List ℕ) (t : Known) : Type 0 where
   pub small : (i : ℕ) → i < file_limit → place_of t i < 2 ^ 26
@@ -43,8 +43,10 @@ pub places-turn : (s : List ℕ) (t r : Known) (index n first count : ℕ) (l : 
 places-turn s t r index n first count l file us v w h f p =
     places-kept s t r p (λ i k. ap (λ (rows : List FileRow). (get_or rows i no_row).place) f.rows ∙ begun-place t w index n h i) v
 
--- THE STARTS of the files, from a card c
+-- THE STARTS of the files, from a card c; all else stays
 pub record StartsPut (c : Card) (t r : Known) : Type 0 where
+  pub files : r.files ≡ t.files
+  pub ends : (i : ℕ) → (from_of r i ≡ from_of t i) × (to_of r i ≡ to_of t i)
   pub rows : length r.rows ≡ length t.rows
   pub entries : r.entries ≡ t.entries
   pub next : r.next ≡ t.next
@@ -80,6 +82,8 @@ module _ (s : List ℕ) (c : Card) (t r : Known) (C : CardIs s c) (v : verdict s
 
 -- the loop: i are put
 pub record StartsTo (c : Card) (t₀ t : Known) (i : ℕ) : Type 0 where
+  pub files : t.files ≡ t₀.files
+  pub ends : (j : ℕ) → (from_of t j ≡ from_of t₀ j) × (to_of t j ≡ to_of t₀ j)
   pub wide : length t.rows ≡ length t₀.rows
   pub entries : t.entries ≡ t₀.entries
   pub next : t.next ≡ t₀.next
@@ -88,7 +92,7 @@ pub record StartsTo (c : Card) (t₀ t : Known) (i : ℕ) : Type 0 where
 
 module _ (c : Card) (t₀ : Known) where
   pub starts_none : StartsTo c t₀ t₀ 0
-  starts_none = record { wide = refl; entries = refl; next = refl; put = λ j h. absurd (omega arith); other = λ j h. refl }
+  starts_none = record { files = refl; ends = λ j. (refl, refl); wide = refl; entries = refl; next = refl; put = λ j h. absurd (omega arith); other = λ j h. refl }
 
   -- the place of row i is x
   abbrev pub with_place : Known → ℕ → ℕ → Known
@@ -96,6 +100,8 @@ module _ (c : Card) (t₀ : Known) where
 
   pub starts-one : (t : Known) (i x : ℕ) → StartsTo c t₀ t i → i < length t₀.rows → x ≡ start_at c (c.folders + 1 + i) → StartsTo c t₀ (with_place t i x) (i + 1)
   starts-one t i x p h e = record {
+    files = p.files;
+    ends = λ j. kept j (eqb j i) refl;
     wide = length-set t.rows i _ ∙ p.wide;
     entries = p.entries;
     next = p.next;
@@ -103,6 +109,19 @@ module _ (c : Card) (t₀ : Known) where
     other = λ j o. ap (λ (r : FileRow). r.place) (get_or-set_other t.rows i j _ no_row (λ q. omega arith)) ∙ p.other j (omega arith);
   }
     where
+      kept : (j : ℕ) (b : Bool) → eqb j i ≡ b → (from_of (with_place t i x) j ≡ from_of t₀ j) × (to_of (with_place t i x) j ≡ to_of t₀ j)
+      kept j true q =
+          let w = p.wide in
+          rw (eqb-true j i q) (
+            ap (λ (r : FileRow). r.from) (get_or-set_same t.rows i _ no_row (omega arith)) ∙ (p.ends i).0,
+            ap (λ (r : FileRow). r.to) (get_or-set_same t.rows i _ no_row (omega arith)) ∙ (p.ends i).1,
+          )
+      kept j false q =
+          let d = eqb-false j i q in (
+            ap (λ (r : FileRow). r.from) (get_or-set_other t.rows i j _ no_row d) ∙ (p.ends j).0,
+            ap (λ (r : FileRow). r.to) (get_or-set_other t.rows i j _ no_row d) ∙ (p.ends j).1,
+          )
+
       go : (j : ℕ) → j < i + 1 → (b : Bool) → eqb j i ≡ b → place_of (with_place t i x) j ≡ start_at c (c.folders + 1 + j)
       go j lt true q = let w = p.wide in rw (eqb-true j i q) (ap (λ (r : FileRow). r.place) (get_or-set_same t.rows i _ no_row (omega arith)) ∙ e)
       go j lt false q =
@@ -113,4 +132,4 @@ module _ (c : Card) (t₀ : Known) where
           below_other j i a b = omega arith
 
   pub starts-all : (t : Known) (i : ℕ) → StartsTo c t₀ t i → i ≡ c.files → StartsPut c t₀ t
-  starts-all t i p h = record { rows = p.wide; entries = p.entries; next = p.next; put = λ j lt. p.put j (omega arith); other = λ j o. p.other j (omega arith) }
+  starts-all t i p h = record { files = p.files; ends = p.ends; rows = p.wide; entries = p.entries; next = p.next; put = λ j lt. p.put j (omega arith); other = λ j o. p.other j (omega arith) }

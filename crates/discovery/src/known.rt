@@ -3,12 +3,12 @@
 ghost use Rattle.std.specs.Prelude.{◌≡◌, ℕ, ◌+◌, ◌<◌, ◌≤◌, ◌^◌, List, length, get_or};
 ghost use Rattle.bundle.specs.Bundle.{File};
 ghost use Rattle.bundle.specs.Decode.{decode, file_at};
-ghost use Rattle.bundle.specs.Limits.{file_limit, use_limit};
+ghost use Rattle.bundle.specs.Limits.{folder_limit, file_limit, use_limit};
 ghost use Rattle.discovery.specs.Known.{begun, with_entry, Held, Finds};
 ghost use Rattle.discovery.specs.Places.{Fresh, Places, StartsPut};
 
 use crate::{IDS, UNITS};
-use card::Carded;
+use card::Card;
 use resolution::Found;
 
 // Of a file: where its entries begin and end, and where it stands in the bundle.
@@ -28,7 +28,7 @@ pub struct Entry {
 
 // Unit u is the file files[u] of the bundle; the first `next` entries are there, and a row says which of them
 // are a file's, so that no FixedVec holds them. Arrays, not Vecs: the linker has no heap.
-#[derive(Drop)]
+#[derive(Clone, Copy)]
 pub struct Known {
     pub files: [usize; UNITS],
     pub rows: [FileRow; UNITS],
@@ -56,10 +56,10 @@ impl Known {
     }
 
     // The position of each file of the bundle is put in its place: the start of its path.
-    pub fn put_places(&mut self, b: &Carded<'_>)
-        ensures { StartsPut b.now.card.now self.old self.new }
+    pub fn put_places(&mut self, card: &Card)
+        requires { (card.now.folders ≤ folder_limit) × (card.now.files ≤ file_limit) }
+        ensures { StartsPut card.now self.old self.new }
     {
-        let card = b.card;
         for i in 0..card.files {
             self.rows[i].place = card.nodes[card.folders + 1 + i].start as usize;
         }

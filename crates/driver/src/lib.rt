@@ -8,4 +8,4 @@ mod turns;
 
 pub use readings::Reading;
 pub use record::{Graph, Import};
-pub use turns::{discover, discover_dependencies};
+pub use turns::{discover, discover_carded, discover_dependencies};

@@ -1,6 +1,8 @@
 // The driver of discovery: units are handled in the order of their ids, until none is left.
 ghost use Rattle.std.specs.Prelude.{◌≡◌, ◌+◌, ◌<◌};
 ghost use Rattle.bundle.specs.Decode.{decode};
+ghost use Rattle.bundle.specs.Read.{verdict};
+ghost use Rattle.bundle.specs.Results as Checked;
 ghost use Rattle.discovery.specs.Places.{Fresh, Places};
 ghost use Rattle.driver.specs.Complete.{Table, Complete};
 ghost use Rattle.driver.specs.Turns.{Invariant, Discovers};
@@ -8,7 +10,7 @@ ghost use Rattle.driver.specs.Turns.{Invariant, Discovers};
 use crate::Graph;
 use crate::lookups::resolve_imports;
 use crate::readings::load_and_parse_dependencies;
-use card::Carded;
+use card::{Card, Carded};
 use discovery::{Known, uses_of};
 
 // All lookups of a unit, then all its readings.
@@ -32,7 +34,7 @@ pub fn discover(b: &Carded<'_>, known: &mut Known) -> Graph
     ensures discovers { Discovers (decode b.now.bytes.now) result }
     ensures complete { Complete (decode b.now.bytes.now) known.new × Places b.now.bytes.now known.new }
 {
-    known.put_places(b);
+    known.put_places(b.card);
     let mut g = Graph::entry_alone();
     let mut unit = 0;
     // A `while`, since each turn can add units: the bound grows in the loop.
@@ -43,9 +45,20 @@ pub fn discover(b: &Carded<'_>, known: &mut Known) -> Graph
     g
 }
 
-// The graph alone.
-pub fn discover_dependencies(b: &Carded<'_>) -> Graph
+// The graph alone, of a bundle whose card is there.
+pub fn discover_carded(b: &Carded<'_>) -> Graph
     ensures { Discovers (decode b.now.bytes.now) result }
 {
     discover(b, &mut Known::new())
+}
+
+// The graph alone, of the bytes of a bundle.
+pub fn discover_dependencies(s: &[u8]) -> Graph
+    requires { verdict s.now ≡ Checked.Ok }
+    ensures { Discovers (decode s.now) result }
+{
+    match reader::read(s, &mut Card::empty()) {
+        Ok(b) => discover_carded(&b),
+        Err(_) => unreachable!(),
+    }
 }

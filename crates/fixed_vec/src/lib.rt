@@ -7,7 +7,7 @@ use std::marker::Model;
 
 // Up to N values, in order; a contract sees the list. An array and a count, not a Vec: the linker has no heap. Of the project's own,
 // since arrayvec's asks that the values have a default, and a refusal has none.
-#[derive(Drop)]
+#[derive(Clone, Drop)]
 pub struct FixedVec<T, const N: usize> {
     places: [T; N],
     count: usize,

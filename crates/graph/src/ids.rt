@@ -9,7 +9,7 @@ use std::marker::Model;
 
 // Up to UNITS ids; contracts see the list. An array and a count, not a Vec: the linker has no heap. The places behind
 // are 0, as C gets them, so it is no FixedVec, which says nothing of these.
-#[derive(Clone, Debug, Drop, PartialEq, Eq)]
+#[derive(Clone, Copy, Debug, PartialEq, Eq)]
 pub struct Ids {
     ids: [u16; UNITS],
     count: usize,

@@ -29,7 +29,7 @@ pub struct Graph {
 }
 
 // Why there is no linked order: a ring of units that list each other, or what the graph is refused for.
-#[derive(Clone, Debug, Drop, PartialEq, Eq)]
+#[derive(Clone, Copy, Debug, PartialEq, Eq)]
 pub enum Unordered {
     Ring(Ids),
     Refused(Cause),

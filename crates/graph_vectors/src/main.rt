@@ -4,16 +4,35 @@
 
 use graph::{Graph, IDS, Ids, UNITS, Unordered};
 use refusal::Cause;
+use std::alloc::{AllocError, Global};
 use std::io;
 use std::io::Write;
 
-// A number in decimal, 65,535 if it is larger.
-fn number(word: &str) -> u16 {
-    word.parse().unwrap_or(u16::MAX)
+// The number that a word spells in decimal, 65,535 if it is larger. A byte below the digits ends it; one above them counts as a
+// digit too, by tens of what is past `0`.
+fn number(word: &[u8]) -> u16 {
+    word.iter()
+        .take_while(|b| **b >= b'0')
+        .fold(0, |front: u16, b| {
+            front
+                .saturating_mul(10)
+                .saturating_add(u16::from(*b % b'0' % 10))
+        })
 }
 
-// The graph of two words: the lists `START+LEN` and the ids, each with commas between, and `-` for none.
-fn graph_of(lists: &str, ids: &str) -> Graph {
+// The numbers of a word; each byte below the digits ends one. None of `-`.
+fn numbers(alloc: Global, word: &[u8]) -> Result<Vec<u16>, AllocError> {
+    if let b"-" = word {
+        return Ok(Vec::new(alloc));
+    }
+    word.split_inclusive(|b| *b < b'0')
+        .map(number)
+        .collect(alloc)
+}
+
+// The graph of two words: the lists `START+LEN` and the ids, each with commas between, and `-` for none. A length that isn't there
+// is 0.
+fn graph_of(alloc: Global, lists: &[u8], ids: &[u8]) -> Result<Graph, AllocError> {
     let mut g = Graph {
         start: [0; UNITS],
         len: [0; UNITS],
@@ -21,25 +40,22 @@ fn graph_of(lists: &str, ids: &str) -> Graph {
         units: 0,
         count: 0,
     };
-    if lists != "-" {
-        for (u, list) in lists.split(',').enumerate() {
-            if u < UNITS {
-                let (start, len) = list.split_once('+').unwrap_or((list, "0"));
-                g.start[u] = number(start);
-                g.len[u] = number(len);
-            }
-            g.units = u + 1;
+    let lists = numbers(alloc, lists)?;
+    for (u, list) in lists.chunks(2).enumerate() {
+        if u < UNITS {
+            g.start[u] = list[0];
+            g.len[u] = list.get(1).copied().unwrap_or(0);
+        }
+        g.units = u + 1;
+    }
+    let ids = numbers(alloc, ids)?;
+    for (i, id) in ids.iter().enumerate() {
+        if i < IDS {
+            g.ids[i] = *id;
         }
     }
-    if ids != "-" {
-        for (i, id) in ids.split(',').enumerate() {
-            if i < IDS {
-                g.ids[i] = number(id);
-            }
-            g.count = i + 1;
-        }
-    }
-    g
+    g.count = ids.len();
+    Ok(g)
 }
 
 // Ends a line with the ids of an answer.
@@ -65,8 +81,9 @@ fn answer<W: Write>(out: &mut W, g: Graph) -> io::Result<()> {
 }
 
 fn main(rt: HostRuntime) -> io::Result<()> {
-    lines::each_line(&rt, |out, line| match line.split_once(' ') {
-        Some((lists, ids)) => answer(out, graph_of(lists, ids)),
+    let alloc = rt.alloc();
+    lines::each_line(&rt, |out, line| match lines::split_once(line, b' ') {
+        Some((lists, ids)) => answer(out, graph_of(alloc, lists, ids)?),
         None => Ok(()),
     })
 }

@@ -1,3 +1,4 @@
--- DEFINITIONS: parts led by their length, and bytes in hexadecimal
+-- DEFINITIONS: parts led by their length, bytes in hexadecimal, and words
 pub mod Frames
 pub mod Hex
+pub mod Words

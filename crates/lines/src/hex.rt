@@ -1,5 +1,5 @@
 // Bytes in hexadecimal.
-ghost use Rattle.std.specs.Prelude.{◌≡◌, ◌/◌, ◌<◌, ◌≤◌, length, min, Some, IfOk, IfSome, OnOk, vec_len};
+ghost use Rattle.std.specs.Prelude.{◌≡◌, ◌/◌, ◌<◌, ◌≤◌, length, min, Some, IfOk, OnOk, vec_len};
 ghost use Rattle.std.specs.Fmt.{HasWritten, IsPlainFormatter};
 ghost use Rattle.lines.specs.Hex.{hex, pair};
 
@@ -28,16 +28,20 @@ impl fmt::Display for Hex<'_> {
     }
 }
 
-// The value of a digit.
-fn digit(b: u8) -> Option<u8>
-    ensures { IfSome result (λ d. d < 16) }
+// The value of a digit; 0 of what is none, as of a capital one.
+fn digit(b: u8) -> u8
+    ensures { result < 16 }
 {
-    Some(char::from(b).to_digit(16)? as u8)
+    match b {
+        b'0'..=b'9' => b - b'0',
+        b'a'..=b'f' => b - b'a' + 10,
+        _ => 0,
+    }
 }
 
 // The byte of two digits.
-fn byte(high: u8, low: u8) -> Option<u8> {
-    Some(digit(high)? * 16 + digit(low)?)
+fn byte(high: u8, low: u8) -> u8 {
+    digit(high) * 16 + digit(low)
 }
 
 // The bytes that digits spell, two for each, at the start of the buffer, as many as there is room for; answers how many. What is
@@ -47,18 +51,16 @@ pub fn unhex(s: &[u8], out: &mut [u8]) -> usize
     ensures count { result ≡ min (length out.old) (length s.now / 2) }
 {
     for (slot, pair) in out.iter_mut().zip(s.chunks_exact(2)) {
-        *slot = digit(pair[0]).unwrap_or(0) * 16 + digit(pair[1]).unwrap_or(0);
+        *slot = byte(pair[0], pair[1]);
     }
     out.len().min(s.len() / 2)
 }
 
-// The bytes that a word's digits spell, two for each; one digit more spells none, and neither does `-`. Another word is an error.
-// Ruled out: a byte for each digit.
-pub fn unhexed(alloc: Global, word: &str) -> io::Result<Vec<u8>>
+// The bytes that a word's digits spell, two for each; one digit more spells none. What is no digit counts as 0. Ruled out: a byte
+// for each digit.
+pub fn unhexed(alloc: Global, word: &[u8]) -> io::Result<Vec<u8>>
     ensures { IfOk result (λ v. vec_len v ≡ length word.now / 2) }
 {
-    word.as_bytes()
-        .chunks_exact(2)
-        .map(|pair| byte(pair[0], pair[1]).ok_or(io::Error::from(io::ErrorKind::InvalidData)))
-        .try_collect(alloc)
+    let pairs = word.chunks_exact(2);
+    Ok(pairs.map(|pair| byte(pair[0], pair[1])).collect(alloc)?)
 }

@@ -11,10 +11,12 @@ pub fn tell_refusal<W: Write>(out: &mut W, n: u8, p: usize) -> io::Result<()> {
     writeln!(out, "no {n} {p}")
 }
 
-// A report of faults: a number and a place for each.
+// A report of faults: a number and a place for each; a byte of the last that isn't there is 0.
 pub fn tell_faults<W: Write>(out: &mut W, report: &[u8]) -> io::Result<()> {
-    for [number, high, low] in report.as_chunks::<3>().0 {
-        tell_refusal(out, *number, usize::from(u16::from_be_bytes([*high, *low])))?;
+    for fault in report.chunks(3) {
+        let byte = |i: usize| fault.get(i).copied().unwrap_or(0);
+        let place = u16::from_be_bytes([byte(1), byte(2)]);
+        tell_refusal(out, byte(0), usize::from(place))?;
     }
     Ok(())
 }

@@ -4,24 +4,26 @@
 
 use printing::{IMAGE, REPORT};
 use program::Assembled;
-use std::alloc::Global;
 use std::io;
 use std::io::{BufWriter, Read, Write};
 
 // No bundle that is longer is stored.
-const SIZE: u32 = 131072;
+const SIZE: usize = 131072;
 
-// The next bundle; none at the end.
-fn next<R: Read>(alloc: Global, reader: &mut R) -> io::Result<Option<Vec<u8>>> {
+// No more bundles are read.
+const BUNDLES: usize = 10_000_000;
+
+// The next bundle, in a lent buffer; none at the end.
+fn next<'a, R: Read>(reader: &mut R, buffer: &'a mut [u8]) -> io::Result<Option<&'a [u8]>> {
     let mut head = [0u8; 4];
     let n = lines::fill(reader, &mut head)?;
-    let size = u32::from_be_bytes(head);
-    if n < head.len() || size > SIZE {
+    let size = u32::from_be_bytes(head) as usize;
+    if n < head.len() || size > buffer.len() {
         return Ok(None);
     }
-    let mut bundle = Vec::new(alloc);
-    reader.take(u64::from(size)).read_to_end(&mut bundle)?;
-    Ok(Some(bundle))
+    let part = &mut buffer[..size];
+    let n = lines::fill(reader, part)?;
+    Ok(Some(&part[..n]))
 }
 
 // A line `image` and the image of a bundle in hexadecimal, where it is linked.
@@ -45,12 +47,12 @@ fn tell<W: Write>(out: &mut W, s: &[u8]) -> io::Result<()> {
 fn main(rt: HostRuntime) -> io::Result<()> {
     let mut reader = rt.reader();
     let mut out = BufWriter::new(rt.alloc(), io::writer(&rt))?;
-    // A count, since nothing says that a reader ends.
-    for _ in 0..u64::MAX {
-        let Some(bundle) = next(rt.alloc(), &mut reader)? else {
+    let mut buffer = [0u8; SIZE];
+    for _ in 0..BUNDLES {
+        let Some(bundle) = next(&mut reader, &mut buffer)? else {
             break;
         };
-        tell(&mut out, &bundle)?;
+        tell(&mut out, bundle)?;
     }
     Ok(())
 }

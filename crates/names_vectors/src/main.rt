@@ -3,10 +3,16 @@
 // stdout.
 #![tactic(auto)]
 
-use lines::{Hex, unhexed};
+use lines::{Hex, split_once, unhexed};
 use std::alloc::Global;
 use std::io;
 use std::io::Write;
+
+// No operand has more bytes; what a longer one has beyond them is left out.
+const OPERAND: usize = 512;
+
+// The largest number to which a digit can be added, whatever it is.
+const FRONT: u64 = u64::MAX / 10 - 1;
 
 // The parent's bytes; `-` of `/`.
 fn tell_parent<W: Write>(out: &mut W, path: &[u8]) -> io::Result<()> {
@@ -24,32 +30,50 @@ fn tell_unit<W: Write>(out: &mut W, id: u64) -> io::Result<()> {
     writeln!(out)
 }
 
+// The number that a word spells in decimal; 0 where it is too large, or has a byte below the digits. A byte above them counts as
+// the digit that it is so far past `0`, by tens.
+fn number(word: &[u8]) -> u64 {
+    word.iter()
+        .try_fold(0, |front: u64, b| {
+            if front <= FRONT && *b >= b'0' {
+                Some(front * 10 + u64::from((*b - b'0') % 10))
+            } else {
+                None
+            }
+        })
+        .unwrap_or(0)
+}
+
 // What is asked of three operands, of which there may be fewer: an operand that isn't there has no bytes. `None` of another word.
-fn holds(word: &str, a: &[u8], b: &[u8], c: &[u8]) -> Option<bool> {
+fn holds(word: &[u8], a: &[u8], b: &[u8], c: &[u8]) -> Option<bool> {
     Some(match word {
-        "keyword" => names::is_keyword(a),
-        "identifier" => names::is_identifier(a),
-        "path" => names::is_path(a),
-        "prefix" => names::starts_with(a, b),
-        "in" => names::is_directly_in(a, b),
-        "child" => names::is_child(a, b, c),
-        "simf" => names::is_child_file(a, b, c),
-        "same" => names::name_of(a) == names::name_of(b),
+        b"keyword" => names::is_keyword(a),
+        b"identifier" => names::is_identifier(a),
+        b"path" => names::is_path(a),
+        b"prefix" => names::starts_with(a, b),
+        b"in" => names::is_directly_in(a, b),
+        b"child" => names::is_child(a, b, c),
+        b"simf" => names::is_child_file(a, b, c),
+        b"same" => names::name_of(a) == names::name_of(b),
         _ => return None,
     })
 }
 
-fn answer<W: Write>(alloc: Global, out: &mut W, line: &str) -> io::Result<()> {
-    let Some((word, operands)) = line.split_once(' ') else {
+fn operand(alloc: Global, digits: &[u8]) -> io::Result<Vec<u8>> {
+    unhexed(alloc, &digits[..digits.len().min(2 * OPERAND)])
+}
+
+fn answer<W: Write>(alloc: Global, out: &mut W, line: &[u8]) -> io::Result<()> {
+    let Some((word, operands)) = split_once(line, b' ') else {
         return Ok(());
     };
-    if word == "unit" {
-        return tell_unit(out, operands.parse().unwrap_or(0));
+    if let b"unit" = word {
+        return tell_unit(out, number(operands));
     }
-    let mut operands = operands.split(' ');
-    let mut next = || unhexed(alloc, operands.next().unwrap_or(""));
+    let mut operands = operands.split(|b| *b == b' ');
+    let mut next = || operand(alloc, operands.next().unwrap_or(&[]));
     let a = next()?;
-    if word == "parent" {
+    if let b"parent" = word {
         return tell_parent(out, &a);
     }
     let b = next()?;

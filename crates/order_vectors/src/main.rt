@@ -28,7 +28,7 @@ fn path_of(bundle: &[u8], index: usize) -> &[u8] {
 
 // The units of a bundle, by id, with their lists.
 fn tell_units<W: Write>(out: &mut W, b: &Carded<'_>) -> io::Result<()> {
-    let g = driver::discover_dependencies(b);
+    let g = driver::discover_carded(b);
     for u in 0..g.units.min(UNITS) {
         write!(out, "unit {u} ")?;
         out.write_all(path_of(b.bytes, g.files[u]))?;

@@ -1,4 +1,4 @@
--- Where the text is written into a lent buffer, cut at the buffer's end: how much of a file and of a buffer is enough. Assumes nothing.
+-- What is sent of the buffer that tell wrote: as many of its first bytes as tell answers. Assumes nothing.
 use Rattle.std.specs.Prelude.{ℕ, ◌≤◌, ◌≡◌, List, ◌++◌, length, take, drop, replicate}
 use Rattle.std.proofs.Common.{arith, ap, subst, ◌∙◌, length-append, length-take, length-drop, take_all}
 use Rattle.std.proofs.lemmas.List.{length-replicate, take-append-le}
@@ -22,7 +22,7 @@ told-counts ls o o₁ r x =
     let l : r ≤ length o₁ = omega arith in
     (l, omega (arith, length-take r o₁))
 
--- WHERE IT HAS ROOM FOR IT, its first r bytes are all that is printed of the bytes, and nothing else
+-- WHERE THE BUFFER HAS ROOM FOR IT, what is sent is all that is printed of the bytes, and nothing else
 pub sent_whole : (s o o₁ : List ℕ) (r : ℕ) → length (printed s) ≤ length o → Shows (reading_lines (read s)) o o₁ r → take r o₁ ≡ printed s
 unfolding printed
 sent_whole s o o₁ r room x =
@@ -39,7 +39,7 @@ sent_of-size s B o o₁ r l x =
     (omega (arith, printed-fits s B))
     (subst (λ (z : Reading). Shows (reading_lines z) o o₁ r) (read_enough s B read_size (omega arith)) x)
 
--- OF A FILE of whatever bytes, of which the first read_size are read, into a buffer of text_size: they are all that is printed of
--- the file
+-- THE PROGRAM: of a file of whatever bytes it reads the first read_size, and its buffer has text_size. What it sends is all that
+-- is printed of the file
 pub program_sends : (s : List ℕ) → Bytes s → (o₁ : List ℕ) (r : ℕ) → Shows (reading_lines (read (take read_size s))) (replicate text_size 0) o₁ r → take r o₁ ≡ printed s
 program_sends s B o₁ r x = sent_of-size s B (replicate text_size 0) o₁ r (length-replicate {A = ℕ} text_size 0) x

@@ -7,6 +7,9 @@ use lines::{Frames, Hex};
 use std::io;
 use std::io::{BufWriter, Write};
 
+// No buffer is longer; what is beyond these bytes is not lent.
+const SIZE: usize = 32768;
+
 // Reads the list into the buffer that is lent.
 fn tell<W: Write>(out: &mut W, list: &[u8], lent: &mut [u8]) -> io::Result<()> {
     match remapping_lines::read_lines(list, lent) {
@@ -19,9 +22,16 @@ fn tell<W: Write>(out: &mut W, list: &[u8], lent: &mut [u8]) -> io::Result<()> {
 fn main(rt: HostRuntime) -> io::Result<()> {
     let input = lines::input(&rt)?;
     let mut out = BufWriter::new(rt.alloc(), io::writer(&rt))?;
-    let parts = Frames(&input).collect::<Vec<&[u8]>>(rt.alloc())?;
-    for [list, lent] in parts.as_chunks::<2>().0 {
-        tell(&mut out, list, &mut lent.to_vec(rt.alloc())?)?;
+    let mut list = None;
+    for part in Frames(&input) {
+        list = match list {
+            None => Some(part),
+            Some(list) => {
+                let lent = &part[..part.len().min(SIZE)];
+                tell(&mut out, list, &mut lent.to_vec(rt.alloc())?)?;
+                None
+            }
+        };
     }
     out.flush()
 }

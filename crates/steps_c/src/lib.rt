@@ -122,7 +122,7 @@ pub fn steps_discover(s: &[u8], out: &mut [usize]) -> u8
             u8::from(e.cause)
         }
         Ok(b) => {
-            let g = driver::discover_dependencies(&b);
+            let g = driver::discover_carded(&b);
             tell(out, 0, g.units);
             tell_places(out, GRAPH_FILES, &g.files, g.units);
             tell_ids(out, GRAPH_STARTS, &g.start, g.units);

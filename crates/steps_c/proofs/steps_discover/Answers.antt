@@ -13,6 +13,6 @@ returns-in-Ok c =
     let e = sym c.in-Ok.ensures.tells in
     record {
       value = told-ok _ e;
-      graph_told = accepted c.discover_dependencies-g.result e (rw c.in-Ok.ensures.same at c.discover_dependencies-g.ensures)
-          (graph-told c.discover_dependencies-g.result c.args.out.now _ _ _ _ _ c.tell-in-Ok.ensures c.tell_places.ensures c.tell_ids.ensures c.tell_ids-in-Ok.ensures c.tell_ids-in-Ok-2.ensures);
+      graph_told = accepted c.discover_carded-g.result e (rw c.in-Ok.ensures.same at c.discover_carded-g.ensures)
+          (graph-told c.discover_carded-g.result c.args.out.now _ _ _ _ _ c.tell-in-Ok.ensures c.tell_places.ensures c.tell_ids.ensures c.tell_ids-in-Ok.ensures c.tell_ids-in-Ok-2.ensures);
     }

@@ -6,6 +6,12 @@ use Rattle.driver.specs.Complete.{table-first, all_known}
 use Rattle.driver.specs.Turns.{unit_small, entry-only, all_units, sources-count}
 use Rattle.driver.proofs.turns.discover.Goals as goal
 
+pub put_places-requires : goal.put_places-requires
+put_places-requires c =
+    let few = bytes-roomy _ c.args.b.now.fit c.args.b.now.ok in
+    let is = c.args.b.now.is in
+    (omega (arith, is.folders, few.folders), omega (arith, is.files, few.files))
+
 pub loop-unit-init : goal.loop-unit-init
 loop-unit-init c =
     let w = starts-wide _ _ _ _ c.args.b.now.is c.args.b.now.ok c.requires c.put_places.ensures in

@@ -1,6 +1,5 @@
 -- `Known::put_places` meets its contract. Assumes nothing.
 use Rattle.std.proofs.Common.{arith, refl}
-use Rattle.discovery.specs.Room.{checked-roomy}
 use Rattle.discovery.specs.Places.{starts_none, starts-one, starts-all}
 use Rattle.discovery.proofs.known.Known.put_places.Goals as goal
 
@@ -8,10 +7,10 @@ pub loop-i-init : goal.loop-i-init
 loop-i-init c = starts_none _ _
 
 pub bounds-self-i : goal.bounds-self-i
-bounds-self-i c = let few = checked-roomy _ c.args.b.now.ok in omega arith
+bounds-self-i c = omega arith
 
 pub loop-i-preserved : goal.loop-i-preserved
-loop-i-preserved c = let few = checked-roomy _ c.args.b.now.ok in starts-one _ _ _ _ _ c.loop-i.invariant (omega arith) refl
+loop-i-preserved c = starts-one _ _ _ _ _ c.loop-i.invariant (omega arith) refl
 
 pub returns : goal.returns
 returns c = starts-all _ _ _ _ c.loop-i.invariant (omega arith)

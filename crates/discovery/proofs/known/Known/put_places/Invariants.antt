@@ -3,4 +3,4 @@ use Rattle.discovery.specs.Places.{StartsTo}
 use Rattle.discovery.proofs.known.Known.put_places.Given as goal
 
 abbrev pub invariant-loop-i : goal.invariant-loop-i
-invariant-loop-i l = StartsTo l.b.card.now l.initial.self l.self l.i
+invariant-loop-i l = StartsTo l.card l.initial.self l.self l.i
