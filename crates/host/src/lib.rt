@@ -180,8 +180,10 @@ pub extern "C" fn gontsamy_linearize(
         count,
     }) {
         Ok(order) => (0, order),
-        Err(Unordered::Ring(ring)) => (u8::from(Cause::Ring), ring),
-        Err(Unordered::Refused(cause)) => return u8::from(cause),
+        Err(unordered) => match unordered {
+            Unordered::Ring(ring) => (u8::from(Cause::Ring), ring),
+            Unordered::Refused(cause) => return u8::from(cause),
+        },
     };
     *ordered = told.padded();
     *length = told.as_slice().len();

@@ -47,12 +47,14 @@ pub fn order_of(g: driver::Graph, out: &mut [u8]) -> Result<Ordered, Refusal>
     });
     match walked {
         Ok(order) => Ok(Ordered::Units(linked(&g.files, g.units, order.padded()))),
-        Err(Unordered::Ring(ring)) => {
-            let n = write_ring(ring.as_slice(), out)?;
-            Ok(Ordered::Report(n))
-        }
+        Err(unordered) => match unordered {
+            Unordered::Ring(ring) => {
+                let n = write_ring(ring.as_slice(), out)?;
+                Ok(Ordered::Report(n))
+            }
 
-        // Discovery leaves no graph that is refused.
-        Err(Unordered::Refused(_)) => unreachable!(),
+            // Discovery leaves no graph that is refused.
+            Unordered::Refused(_) => unreachable!(),
+        },
     }
 }

@@ -40,7 +40,7 @@ linked-requires c =
     (some-units c.args.g c.requires, few, omega arith)
 
 pub unreachable-requires : goal.unreachable-requires
-unreachable-requires c = refusal-told (given_of c.args.g) c.requires.sound _ (rw c.in-Err-Refused.field-0-is at c.in-Err-Refused.ensures)
+unreachable-requires c = refusal-told (given_of c.args.g) c.requires.sound _ (rw c.in-Refused.is at c.in-Err.ensures)
 
 pub returns-in-Ok-clause-value : goal.returns-in-Ok-clause-value
 returns-in-Ok-clause-value c =
@@ -50,28 +50,28 @@ pub returns-in-Ok-clause-out_after : goal.returns-in-Ok-clause-out_after
 returns-in-Ok-clause-out_after c =
     (told-order c.args.g c.requires c.args.out.now _ (omega arith) c.in-Ok.order c.in-Ok.ensures (rw c.padded.ensures at c.linked.ensures)).1
 
-pub returns-in_err-n-in-Err-Ring-clause-value : goal.returns-in_err-n-in-Err-Ring-clause-value
-returns-in_err-n-in-Err-Ring-clause-value c =
-    let ids : c.as_slice.result.now ≡ c.in-Err-Ring.ring = c.as_slice.ensures.value ∙ c.in-Err-Ring.ring-is in
-    let p = err_from_is_err_and c.from_residual-in_err-n-in-Err-Ring.result c.from_residual-in_err-n-in-Err-Ring.ensures.1 in
+pub returns-in_err-n-in-Ring-clause-value : goal.returns-in_err-n-in-Ring-clause-value
+returns-in_err-n-in-Ring-clause-value c =
+    let ids : c.as_slice.result.now ≡ c.in-Ring.ring = c.as_slice.ensures.value in
+    let p = err_from_is_err_and c.from_residual-in_err-n-in-Ring.result c.from_residual-in_err-n-in-Ring.ensures.1 in
     rw (p.1, p.2)
-    (told-ring c.args.g c.requires c.args.out.now _ (omega arith) c.in-Err-Ring.ring _ _ (rw c.in-Err-Ring.field-0-is at c.in-Err-Ring.ensures)
-    (rw ids at c.in_err-n-in-Err-Ring.ensures.value) refl (rw ids at c.in_err-n-in-Err-Ring.ensures.out_after)).0
+    (told-ring c.args.g c.requires c.args.out.now _ (omega arith) c.in-Ring.ring _ _ (rw c.in-Ring.is at c.in-Err.ensures)
+    (rw ids at c.in_err-n-in-Ring.ensures.value) refl (rw ids at c.in_err-n-in-Ring.ensures.out_after)).0
 
-pub returns-in_err-n-in-Err-Ring-clause-out_after : goal.returns-in_err-n-in-Err-Ring-clause-out_after
-returns-in_err-n-in-Err-Ring-clause-out_after c =
-    let ids : c.as_slice.result.now ≡ c.in-Err-Ring.ring = c.as_slice.ensures.value ∙ c.in-Err-Ring.ring-is in
-    (told-ring c.args.g c.requires c.args.out.now _ (omega arith) c.in-Err-Ring.ring _ _ (rw c.in-Err-Ring.field-0-is at c.in-Err-Ring.ensures)
-    (rw ids at c.in_err-n-in-Err-Ring.ensures.value) refl (rw ids at c.in_err-n-in-Err-Ring.ensures.out_after)).1
+pub returns-in_err-n-in-Ring-clause-out_after : goal.returns-in_err-n-in-Ring-clause-out_after
+returns-in_err-n-in-Ring-clause-out_after c =
+    let ids : c.as_slice.result.now ≡ c.in-Ring.ring = c.as_slice.ensures.value in
+    (told-ring c.args.g c.requires c.args.out.now _ (omega arith) c.in-Ring.ring _ _ (rw c.in-Ring.is at c.in-Err.ensures)
+    (rw ids at c.in_err-n-in-Ring.ensures.value) refl (rw ids at c.in_err-n-in-Ring.ensures.out_after)).1
 
-pub returns-in_ok-n-in-Err-Ring-clause-value : goal.returns-in_ok-n-in-Err-Ring-clause-value
-returns-in_ok-n-in-Err-Ring-clause-value c =
-    let ids : c.as_slice.result.now ≡ c.in-Err-Ring.ring = c.as_slice.ensures.value ∙ c.in-Err-Ring.ring-is in
-    (told-ring c.args.g c.requires c.args.out.now _ (omega arith) c.in-Err-Ring.ring _ _ (rw c.in-Err-Ring.field-0-is at c.in-Err-Ring.ensures)
-    (rw ids at c.in_ok-n-in-Err-Ring.ensures.value) refl (rw ids at c.in_ok-n-in-Err-Ring.ensures.out_after)).0
+pub returns-in_ok-n-in-Ring-clause-value : goal.returns-in_ok-n-in-Ring-clause-value
+returns-in_ok-n-in-Ring-clause-value c =
+    let ids : c.as_slice.result.now ≡ c.in-Ring.ring = c.as_slice.ensures.value in
+    (told-ring c.args.g c.requires c.args.out.now _ (omega arith) c.in-Ring.ring _ _ (rw c.in-Ring.is at c.in-Err.ensures)
+    (rw ids at c.in_ok-n-in-Ring.ensures.value) refl (rw ids at c.in_ok-n-in-Ring.ensures.out_after)).0
 
-pub returns-in_ok-n-in-Err-Ring-clause-out_after : goal.returns-in_ok-n-in-Err-Ring-clause-out_after
-returns-in_ok-n-in-Err-Ring-clause-out_after c =
-    let ids : c.as_slice.result.now ≡ c.in-Err-Ring.ring = c.as_slice.ensures.value ∙ c.in-Err-Ring.ring-is in
-    (told-ring c.args.g c.requires c.args.out.now _ (omega arith) c.in-Err-Ring.ring _ _ (rw c.in-Err-Ring.field-0-is at c.in-Err-Ring.ensures)
-    (rw ids at c.in_ok-n-in-Err-Ring.ensures.value) refl (rw ids at c.in_ok-n-in-Err-Ring.ensures.out_after)).1
+pub returns-in_ok-n-in-Ring-clause-out_after : goal.returns-in_ok-n-in-Ring-clause-out_after
+returns-in_ok-n-in-Ring-clause-out_after c =
+    let ids : c.as_slice.result.now ≡ c.in-Ring.ring = c.as_slice.ensures.value in
+    (told-ring c.args.g c.requires c.args.out.now _ (omega arith) c.in-Ring.ring _ _ (rw c.in-Ring.is at c.in-Err.ensures)
+    (rw ids at c.in_ok-n-in-Ring.ensures.value) refl (rw ids at c.in_ok-n-in-Ring.ensures.out_after)).1
