@@ -113,6 +113,37 @@ module _ {s : List ℕ} {c : Card} (C : CardIs s c) where
       let o : j < remapping_count s = omega (arith, each-length (after_remapping s) (remapping_at s) (remapping_count s) (remapping_first s)) in
       ap (remapping_at s) (C.maps.places j h) ∙ sym (each_at (after_remapping s) (remapping_at s) (remapping_count s) j (remapping_first s) d o)
 
+-- a card by which the uses of s resolve: the tree of its listed paths with their index, its package roots, and of each remapping the
+-- name at its place and the folders of its context and its target
+pub record CardOf (s : List ℕ) (c : Card) : Type 0 where
+  pub index : IndexOf s (nodes_in s) c
+  pub above : Above c
+  pub tree : Tree (nodes_in s) (parent_at c)
+  pub folders : c.folders ≡ length (decode s).folders
+  pub remappings : c.remappings ≡ length (decode s).remappings
+  pub few : length (decode s).remappings ≤ remapping_limit
+  pub marks : (i : ℕ) → i < length (nodes_in s) → root_at c i ≡ member (get_or (nodes_in s) i []) (roots_of (decode s))
+  pub names : (j : ℕ) (d : Remapping) → j < length (decode s).remappings → (remapping_at s (map_at c j).place).name ≡ (get_or (decode s).remappings j d).name
+  pub contexts : (j : ℕ) (d : Remapping) → j < length (decode s).remappings → FolderAt (decode s) (get_or (decode s).remappings j d).context (map_at c j).context
+  pub targets : (j : ℕ) (d : Remapping) → j < length (decode s).remappings → FolderAt (decode s) (get_or (decode s).remappings j d).target (map_at c j).target
+  pub entry : FolderAt (decode s) (decode s).root c.root
+
+-- which the lists of a bundle are
+pub CardIs-CardOf : {s : List ℕ} {c : Card} → CardIs s c → CardOf s c
+CardIs-CardOf C = record {
+  index = C.index;
+  above = C.above;
+  tree = C.tree;
+  folders = C.folders;
+  remappings = C.remappings;
+  few = C.few;
+  marks = C.marks;
+  names = λ j d h. ap (λ (r : Remapping). r.name) (map-places C j d h);
+  contexts = C.maps.contexts;
+  targets = C.maps.targets;
+  entry = C.entry;
+}
+
 -- THE HASH OF A NAME IN A FOLDER
 pub child-long : (d n : Text) → 1 ≤ length n → length (child d n) ≡ 1 → ⊥
 unfolding child

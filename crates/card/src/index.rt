@@ -11,14 +11,13 @@ use crate::parts::{Card, NODES};
 
 // A bundle's bytes, and a card with the index of its paths; the rest of it need not be there.
 #[derive(Clone, Copy)]
-pub struct Index<'a> {
+pub struct Paths<'a> {
     pub bytes: &'a [u8],
     pub card: &'a Card,
     ghost index: { IndexOf bytes.now (nodes_in bytes.now) card.now },
-    ghost folders: { card.now.folders ≡ length (decode bytes.now).folders },
 }
 
-impl<'a> Index<'a> {
+impl<'a> Paths<'a> {
     // Whether the path of index i is t, whose hash is h; of an index after last it is not asked.
     #[tactic(auto, unfolding(crate::specs::Card::met), using(names::specs::Bytes::equals))]
     fn is_path_at(&self, i: usize, last: usize, h: u32, t: &[u8]) -> bool
@@ -57,6 +56,43 @@ impl<'a> Index<'a> {
     {
         self.find_up_to(t, NODES)
     }
+}
+
+// The same, and how many of the paths are folders.
+#[derive(Clone, Copy)]
+pub struct Index<'a> {
+    pub bytes: &'a [u8],
+    pub card: &'a Card,
+    ghost index: { IndexOf bytes.now (nodes_in bytes.now) card.now },
+    ghost folders: { card.now.folders ≡ length (decode bytes.now).folders },
+}
+
+impl<'a> Index<'a> {
+    // The paths alone.
+    fn paths(&self) -> Paths<'a>
+        ensures bytes { result.bytes.now ≡ self.now.bytes.now }
+        ensures card { result.card.now ≡ self.now.card.now }
+    {
+        Paths {
+            bytes: self.bytes,
+            card: self.card,
+        }
+    }
+
+    // Down a chain from `from`, the first index of the path t, whose hash is h, that is not after last.
+    pub fn walk(&self, h: u32, t: &[u8], from: usize, last: usize) -> Option<usize>
+        requires { Chain (nodes_in self.now.bytes.now) self.now.card.now h t.now from }
+        ensures { Looked (is_up_to (nodes_in self.now.bytes.now) t.now last) (suc from) result }
+    {
+        self.paths().walk(h, t, from, last)
+    }
+
+    // The index of a path that is not `/`.
+    pub fn find_path(&self, t: &[u8]) -> Option<usize>
+        ensures { Looked (is_at (nodes_in self.now.bytes.now) t.now) (length (nodes_in self.now.bytes.now)) result }
+    {
+        self.paths().find_path(t)
+    }
 
     // The index of the folder t, `/` among them.
     pub fn folder_of(&self, t: &[u8]) -> Option<usize>
@@ -65,6 +101,6 @@ impl<'a> Index<'a> {
         if names::is_root(t) {
             return Some(0);
         }
-        self.find_up_to(t, self.card.folders)
+        self.paths().find_up_to(t, self.card.folders)
     }
 }

@@ -8,6 +8,6 @@ mod index;
 mod look;
 mod parts;
 
-pub use index::Index;
-pub use look::Carded;
+pub use index::{Index, Paths};
+pub use look::{Carded, Mapped};
 pub use parts::{BUCKETS, Card, Link, Map, NODES, Node};

@@ -11,7 +11,7 @@ use Rattle.bundle.specs.Form.{Every}
 use Rattle.bundle.specs.Theorems.{accepted, sound}
 use Rattle.bundle.specs.Results.{Ok}
 use Rattle.card.specs.declared.parts.Card.{Card}
-use Rattle.card.specs.Card.{CardIs}
+use Rattle.card.specs.Card.{CardIs, CardIs-CardOf}
 use Rattle.card.specs.Laws.{node-file}
 use Rattle.resolution.specs.Indices.{lists_in, path_in, Importer}
 use Rattle.resolution.specs.CardLaws.{total}
@@ -37,7 +37,7 @@ module _ (s : List ℕ) (B : Bytes s) (v : verdict s ≡ Ok) {c : Card} (C : Car
     pub unit-importer : Importer s at
     unit-importer =
         let h = place-small (decode s) (bytes-roomy s B v) n g i waits in
-        record { file = omega (arith, at_is); listed = omega (arith, at_is, total C, length-map (decode s).files (λ (f : File). f.path)) }
+        record { file = omega (arith, at_is); listed = omega (arith, at_is, total (CardIs-CardOf C), length-map (decode s).files (λ (f : File). f.path)) }
 
     pub unit-below : n < file_limit
     unit-below = unit_small (decode s) (bytes-roomy s B v) n g i waits

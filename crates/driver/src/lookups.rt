@@ -21,7 +21,7 @@ fn resolve_single(b: &Carded<'_>, f: usize, mark: usize) -> Result<Found, Cause>
     ensures { result ≡ answered (lists_in b.now.bytes.now) (resolve_path_internal (lists_in b.now.bytes.now) (path_in b.now.bytes.now f) (use_at b.now.bytes.now mark).segments) }
 {
     let segments = Segments::of(b.bytes, bundle::use_segments(b.bytes, mark));
-    resolution::resolve_path_internal(b, f, segments)
+    resolution::resolve_path_internal(&b.mapped(), f, segments)
 }
 
 // All lookups of the file of index f of the card, whose uses these are. What each resolves to is kept, from the entry `first` on. Ruled

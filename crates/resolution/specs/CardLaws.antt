@@ -19,7 +19,7 @@ use Rattle.card.specs.declared.parts.Card.{Card}
 use Rattle.card.specs.Layout.{node_limit, parent_at, root_at}
 use Rattle.card.specs.Tree.{Tree, directly_is}
 use Rattle.card.specs.Index.{Hit}
-use Rattle.card.specs.Card.{CardIs, nodes_in, is_at}
+use Rattle.card.specs.Card.{CardOf, nodes_in, is_at}
 use Rattle.card.specs.Laws.{in_folders, in_files, node-folder, node-file, nearest, Nearest, nearest-is}
 use Rattle.resolution.specs.Lists.{Lists}
 use Rattle.resolution.specs.Resolution.{package_roots, get_package_root, same_root, check_local_file_imported_as_external, to}
@@ -114,7 +114,7 @@ module _ (b : Lists) {ps : List Text} {par : ℕ → ℕ} (T : Tree ps par) (mar
       go None None e N = refl
 
 -- THE CARD
-module _ {s : List ℕ} {c : Card} (C : CardIs s c) where
+module _ {s : List ℕ} {c : Card} (C : CardOf s c) where
   abbrev b : Lists
   b = lists_in s
 
@@ -138,7 +138,7 @@ module _ {s : List ℕ} {c : Card} (C : CardIs s c) where
   root_folder : (p : Text) → Memᴰ p (package_roots b) → (i : ℕ) × (IsFolder s i × (path_in s i ≡ p))
   root_folder p m =
       ⊎_elim (λ e. (_, (C.entry.folder, C.entry.path ∙ sym e)))
-      (λ n. let k = target-of b.remappings p n in let t = C.maps.targets k.0 no_remapping k.1.0 in (_, (t.folder, t.path ∙ k.1.1))) (Memᴰ.cases_cons m)
+      (λ n. let k = target-of b.remappings p n in let t = C.targets k.0 no_remapping k.1.0 in (_, (t.folder, t.path ∙ k.1.1))) (Memᴰ.cases_cons m)
 
   roots-marked : Marked (nodes_in s) (package_roots b) (root_at c)
   roots-marked = record {

@@ -13,7 +13,7 @@ use Rattle.bundle.specs.Bundle.{Text}
 use Rattle.bundle.specs.Form.{IsName}
 use Rattle.card.specs.declared.parts.Card.{Card}
 use Rattle.card.specs.Index.{Hit, Looked}
-use Rattle.card.specs.Card.{CardIs, nodes_in, sought}
+use Rattle.card.specs.Card.{CardOf, nodes_in, sought}
 use Rattle.card.specs.Laws.{in_none, in_folders, in_files}
 use Rattle.resolution.specs.Lists.{Lists}
 use Rattle.resolution.specs.Resolution.{is_folder, build_and_verify_path}
@@ -42,7 +42,7 @@ simf-is = refl
 pub file-named : (n : Text) → IsName n → Plain (n ++ simf)
 file-named n h = rw simf-is (file-plain n h)
 
-module _ {s : List ℕ} {c : Card} (C : CardIs s c) (d : ℕ) where
+module _ {s : List ℕ} {c : Card} (C : CardOf s c) (d : ℕ) where
   abbrev b : Lists
   b = lists_in s
 
@@ -113,7 +113,7 @@ module _ {s : List ℕ} {base dir : ℕ} {all left : List Text} (D : Down s base
       step : build_and_verify_path (lists_in s) (child (path_in s dir) name) rest ≡ build_and_verify_path (lists_in s) (path_in s dir) (name ∷ rest)
       step = rw e.1.0
 
-  pub down_names : {c : Card} → CardIs s c → (name : Text) (rest : List Text) → left ≡ name ∷ rest → Enters s dir name None → (x : Option Spot) → located s (child_file (path_in s dir) name) (length rest) x
+  pub down_names : {c : Card} → CardOf s c → (name : Text) (rest : List Text) → left ≡ name ∷ rest → Enters s dir name None → (x : Option Spot) → located s (child_file (path_in s dir) name) (length rest) x
       → Tells s x (build_and_verify_path (lists_in s) (path_in s base) all)
   down_names C name rest q e x l =
       subst (Tells s x) (ap (build_and_verify_path (lists_in s) (path_in s dir)) (sym q) ∙ D.same) (located-tells C dir name rest x e l)

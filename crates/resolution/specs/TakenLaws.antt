@@ -13,7 +13,7 @@ use Rattle.bundle.specs.Decode.{decode, remapping_at}
 use Rattle.card.specs.declared.parts.Card.{Card}
 use Rattle.card.specs.Layout.{node_limit, parent_at, map_at}
 use Rattle.card.specs.Tree.{ascends, below-is}
-use Rattle.card.specs.Card.{CardIs, map-places, nodes_in}
+use Rattle.card.specs.Card.{CardOf, nodes_in}
 use Rattle.resolution.specs.Longest.{only, longer, longest}
 use Rattle.resolution.specs.LongestLaws.{tried-longest, longer-none, longer_assoc}
 use Rattle.resolution.specs.Resolution.{applies, remapping_for}
@@ -23,15 +23,15 @@ use Rattle.resolution.specs.Indices.{lists_in, path_in, no_remapping, remapping_
 abbrev context_size : Remapping → ℕ
 context_size r = length r.context
 
-module _ {s : List ℕ} {c : Card} (C : CardIs s c) where
+module _ {s : List ℕ} {c : Card} (C : CardOf s c) where
   abbrev rs : List Remapping
   rs = (decode s).remappings
 
   context_listed : (j : ℕ) → j < length rs → (map_at c j).context < length (nodes_in s)
-  context_listed j h = folder-listed C (map_at c j).context (C.maps.contexts j no_remapping h).folder
+  context_listed j h = folder-listed C (map_at c j).context (C.contexts j no_remapping h).folder
 
   context_path : (j : ℕ) → j < length rs → path_in s (map_at c j).context ≡ (remapping_in s j).context
-  context_path j h = (C.maps.contexts j no_remapping h).path
+  context_path j h = (C.contexts j no_remapping h).path
 
   pub context-small : (j : ℕ) → j < length rs → (map_at c j).context < node_limit
   context-small j h = node-small C (map_at c j).context (context_listed j h)
@@ -51,7 +51,7 @@ module _ {s : List ℕ} {c : Card} (C : CardIs s c) where
     pub applies-is : (j : ℕ) → j < length rs → same (remapping_at s (map_at c j).place).name name && ascends component_limit (parent_at c) f (map_at c j).context ≡ test (remapping_in s j)
     unfolding applies
     applies-is j h =
-        rw (map-places C j no_remapping h, sym (below-is C.tree f (map_at c j).context listed (context_listed j h)), context_path j h)
+        rw (C.names j no_remapping h, sym (below-is C.tree f (map_at c j).context listed (context_listed j h)), context_path j h)
         (and-swap (same (remapping_in s j).name name) (starts_with (path_in s f) (remapping_in s j).context))
       where
         and-swap : (x y : Bool) → (x && y) ≡ (y && x)
@@ -97,7 +97,7 @@ pub taking_none : (s : List ℕ) (file name : Text) → Taking s file name None 
 unfolding remapping_for
 taking_none s file name = record { rest = sym (tried-longest context_size (applies file name) (decode s).remappings); can = tt }
 
-module _ {s : List ℕ} {c : Card} (C : CardIs s c) {f : ℕ} (listed : f < length (nodes_in s)) {name : Text} {best : Option ℕ} {j : ℕ} (T : Taking s (path_in s f) name best j) where
+module _ {s : List ℕ} {c : Card} (C : CardOf s c) {f : ℕ} (listed : f < length (nodes_in s)) {name : Text} {best : Option ℕ} {j : ℕ} (T : Taking s (path_in s f) name best j) where
   longest-cut : j < length (decode s).remappings → longest context_size (applies (path_in s f) name) (drop j (decode s).remappings)
       ≡ longer context_size (only (applies (path_in s f) name) (remapping_in s j)) (longest context_size (applies (path_in s f) name) (drop (j + 1) (decode s).remappings))
   unfolding longest

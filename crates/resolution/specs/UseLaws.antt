@@ -11,7 +11,7 @@ use Rattle.bundle.specs.Bundle.{Text, Remapping}
 use Rattle.card.specs.declared.parts.Card.{Card}
 use Rattle.card.specs.Layout.{parent_at, map_at}
 use Rattle.card.specs.Index.{Looked}
-use Rattle.card.specs.Card.{CardIs, nodes_in, is_at}
+use Rattle.card.specs.Card.{CardOf, nodes_in, is_at}
 use Rattle.card.specs.Laws.{in_none, in_folders, in_files}
 use Rattle.resolution.specs.Lists.{Lists}
 use Rattle.resolution.specs.Resolution.{get_package_root, remapping_for, Missing, Lookup, found, missing, build_and_verify_path, no_file_fault, to, fails, or_itself, resolve_crate_path, check_local_file_imported_as_external, external, resolve_path_internal}
@@ -21,7 +21,7 @@ use Rattle.resolution.specs.Indices.{lists_in, path_in, Importer, ImporterIs, Is
 use Rattle.resolution.specs.declared.listing.Spot.{Spot}
 use Rattle.resolution.specs.Results.{Refused}
 
-module _ {s : List ℕ} {c : Card} (C : CardIs s c) where
+module _ {s : List ℕ} {c : Card} (C : CardOf s c) where
   abbrev b : Lists
   b = lists_in s
 
@@ -80,7 +80,7 @@ module _ {s : List ℕ} {c : Card} (C : CardIs s c) where
 
   -- the target of the remapping taken
   pub target_path : (j : ℕ) → j < length b.remappings → IsFolder s (map_at c j).target × (path_in s (map_at c j).target ≡ (remapping_in s j).target)
-  target_path j h = let k = C.maps.targets j no_remapping h in (k.folder, k.path)
+  target_path j h = let k = C.targets j no_remapping h in (k.folder, k.path)
 
   -- WHICH FILE THE IMPORTER IS
   module _ (file : Text) where

@@ -37,5 +37,5 @@ pub fn resolve(s: &[u8], importer: &[u8], u: &[u8]) -> Result<Found, Refusal>
 {
     let mut card = Card::empty();
     let b = reader::read(s, &mut card)?;
-    uses::resolve_in(&b, importer, u).map_err(|c| c.at(0))
+    uses::resolve_in(&b.mapped(), importer, u).map_err(|c| c.at(0))
 }

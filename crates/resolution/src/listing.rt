@@ -6,7 +6,7 @@ ghost use Rattle.resolution.specs.Resolution.{build_and_verify_path};
 ghost use Rattle.resolution.specs.Indices.{lists_in, path_in, IsFolder, Enters, located, Tells};
 
 use crate::Segments;
-use card::Carded;
+use card::Mapped;
 
 // What a lookup finds: the index of a file or a folder, and how many segments are left.
 #[derive(Clone, Copy, Debug, PartialEq, Eq)]
@@ -17,7 +17,7 @@ pub struct Spot {
 
 // The folder of a name in the folder of index dir. A folder is its index, no struct with the bundle and `IsFolder` as a ghost field: a lookup
 // would then also have to say that the folder found is of the same bundle.
-fn enter(b: &Carded<'_>, dir: usize, name: &[u8]) -> Option<usize>
+fn enter(b: &Mapped<'_>, dir: usize, name: &[u8]) -> Option<usize>
     requires { IsFolder b.now.bytes.now dir × IsName name.now }
     ensures { Enters b.now.bytes.now dir name.now result }
 {
@@ -30,7 +30,7 @@ fn enter(b: &Carded<'_>, dir: usize, name: &[u8]) -> Option<usize>
 }
 
 // The file, or the folder, that a name in the folder of index dir stands for; `left` segments are left.
-fn locate(b: &Carded<'_>, dir: usize, name: &[u8], left: usize) -> Option<Spot>
+fn locate(b: &Mapped<'_>, dir: usize, name: &[u8], left: usize) -> Option<Spot>
     requires { IsFolder b.now.bytes.now dir × IsName name.now }
     ensures { located b.now.bytes.now (child_file (path_in b.now.bytes.now dir) name.now) left result }
 {
@@ -40,7 +40,7 @@ fn locate(b: &Carded<'_>, dir: usize, name: &[u8], left: usize) -> Option<Spot>
 
 // From the folder of index base: the segments that name folders are entered, the next names the file.
 pub fn build_and_verify_path(
-    b: &Carded<'_>,
+    b: &Mapped<'_>,
     base: usize,
     mut segments: Segments<'_>,
 ) -> Option<Spot>

@@ -7,10 +7,10 @@ ghost use Rattle.card.specs.Card.{nodes_in};
 ghost use Rattle.resolution.specs.Resolution.{applies, remapping_for};
 ghost use Rattle.resolution.specs.Indices.{lists_in, path_in, remapping_in, chosen, further, Within, CanTake};
 
-use card::Carded;
+use card::Mapped;
 
 // Whether a name in the file of index f can take remapping j.
-fn remapping_applies(b: &Carded<'_>, f: usize, name: &[u8], j: usize) -> bool
+fn remapping_applies(b: &Mapped<'_>, f: usize, name: &[u8], j: usize) -> bool
     requires { (f < length (nodes_in b.now.bytes.now)) × (j < length (decode b.now.bytes.now).remappings) }
     ensures { result ≡ applies (path_in b.now.bytes.now f) name.now (remapping_in b.now.bytes.now j) }
 {
@@ -20,7 +20,7 @@ fn remapping_applies(b: &Carded<'_>, f: usize, name: &[u8], j: usize) -> bool
 }
 
 // The one with the longer context, the first where they are equally long.
-fn longer(b: &Carded<'_>, best: Option<usize>, j: usize) -> usize
+fn longer(b: &Mapped<'_>, best: Option<usize>, j: usize) -> usize
     requires { Within b.now.card.now best × (j < remapping_limit) }
     ensures { result ≡ further b.now.card.now best j }
 {
@@ -32,7 +32,7 @@ fn longer(b: &Carded<'_>, best: Option<usize>, j: usize) -> usize
 }
 
 // The remapping that a name in the file of index f takes.
-pub fn remapping_for(b: &Carded<'_>, f: usize, name: &[u8]) -> Option<usize>
+pub fn remapping_for(b: &Mapped<'_>, f: usize, name: &[u8]) -> Option<usize>
     requires { f < length (nodes_in b.now.bytes.now) }
     ensures { (chosen b.now.bytes.now result ≡ remapping_for (lists_in b.now.bytes.now) (path_in b.now.bytes.now f) name.now) × CanTake b.now.bytes.now (path_in b.now.bytes.now f) name.now result }
 {

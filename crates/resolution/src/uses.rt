@@ -12,7 +12,7 @@ ghost use Rattle.resolution.specs.Indices.{lists_in, path_in, Importer, Importer
 use crate::listing::{Spot, build_and_verify_path};
 use crate::package::remapping_for;
 use crate::{Found, Segments, Target};
-use card::{Card, Carded};
+use card::{Card, Mapped};
 use refusal::Cause;
 
 // What is found at an index: the files come after the folders.
@@ -32,7 +32,7 @@ fn resolved(card: &Card, spot: Spot) -> Found
 }
 
 // Whether index t has the package root of the file of index f.
-fn check_local_file_imported_as_external(b: &Carded<'_>, f: usize, t: usize) -> bool
+fn check_local_file_imported_as_external(b: &Mapped<'_>, f: usize, t: usize) -> bool
     requires { (f < length (nodes_in b.now.bytes.now)) × (t < length (nodes_in b.now.bytes.now)) }
     ensures { result ≡ check_local_file_imported_as_external (lists_in b.now.bytes.now) (path_in b.now.bytes.now f) (path_in b.now.bytes.now t) }
 {
@@ -44,7 +44,7 @@ fn check_local_file_imported_as_external(b: &Carded<'_>, f: usize, t: usize) -> 
 
 // The segments from the target of index base on.
 fn resolve_external_path(
-    b: &Carded<'_>,
+    b: &Mapped<'_>,
     f: usize,
     base: usize,
     segments: Segments<'_>,
@@ -73,7 +73,7 @@ fn itself(card: &Card, f: usize, base: usize, left: usize) -> Result<Found, Caus
 }
 
 // Below the file's package root. The importer is its index, no struct with the bundle: so the driver and the card have it.
-fn resolve_crate_path(b: &Carded<'_>, f: usize, segments: Segments<'_>) -> Result<Found, Cause>
+fn resolve_crate_path(b: &Mapped<'_>, f: usize, segments: Segments<'_>) -> Result<Found, Cause>
     requires { Importer b.now.bytes.now f }
     ensures { told_use result ≡ answer (lists_in b.now.bytes.now) (resolve_crate_path (lists_in b.now.bytes.now) (path_in b.now.bytes.now f) segments.entry) }
 {
@@ -90,7 +90,7 @@ fn resolve_crate_path(b: &Carded<'_>, f: usize, segments: Segments<'_>) -> Resul
 // A use in the file of index f. Ruled out: a file below another package root than the importer's for `crate`; 23 for a `crate` path
 // that fails in a file directly in its package root, which resolves to itself.
 pub fn resolve_path_internal(
-    b: &Carded<'_>,
+    b: &Mapped<'_>,
     f: usize,
     mut segments: Segments<'_>,
 ) -> Result<Found, Cause>
@@ -110,7 +110,7 @@ pub fn resolve_path_internal(
 }
 
 // The index of the file of a path.
-fn importer_of(b: &Carded<'_>, file: &[u8]) -> Option<usize>
+fn importer_of(b: &Mapped<'_>, file: &[u8]) -> Option<usize>
     ensures { ImporterIs b.now.bytes.now file.now result }
 {
     // No `filter`: as for listing's `enter`.
@@ -122,7 +122,7 @@ fn importer_of(b: &Carded<'_>, file: &[u8]) -> Option<usize>
 }
 
 // The arguments of a call: 4, the segments' count and forms, 29, then 20 to 25.
-pub fn resolve_in(b: &Carded<'_>, file: &[u8], u: &[u8]) -> Result<Found, Cause>
+pub fn resolve_in(b: &Mapped<'_>, file: &[u8], u: &[u8]) -> Result<Found, Cause>
     ensures { told_use result ≡ lent (value (decode b.now.bytes.now)) file.now u.now }
 {
     if !names::is_path(file) {

@@ -14,4 +14,4 @@ pub returns : goal.returns
 unfolding Rattle.resolution.specs.Call.resolve Rattle.bundle.specs.Read.read
 returns c =
     let k : told c.map_err.result ≡ told_use c.resolve_in.result = search rules in
-    k ∙ (rw c.in_ok-b.ensures.same at c.resolve_in.ensures ∙ rw (← c.in_ok-b.ensures.tells) refl)
+    k ∙ (rw (c.mapped.ensures.bytes, c.in_ok-b.ensures.same) at c.resolve_in.ensures ∙ rw (← c.in_ok-b.ensures.tells) refl)

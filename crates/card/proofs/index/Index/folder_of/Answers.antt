@@ -7,4 +7,4 @@ pub returns-then-is_root : goal.returns-then-is_root
 returns-then-is_root c = folder-root _ _ _ c.is_root.ensures c.if-is_root.true
 
 pub returns : goal.returns
-returns c = folder-found _ _ _ c.args.self.now.folders (sym c.is_root.ensures ∙ c.if-is_root.false) _ c.find_up_to.ensures
+returns c = folder-found _ _ _ c.args.self.now.folders (sym c.is_root.ensures ∙ c.if-is_root.false) _ (rw c.paths.ensures.bytes at c.find_up_to.ensures)

@@ -1,8 +1,8 @@
--- `card::index::Index::walk` meets its contract. Assumes nothing.
+-- `card::index::Paths::walk` meets its contract. Assumes nothing.
 use Rattle.std.proofs.Common.{refl}
 use Rattle.card.specs.Card.{path-start, path-within, path-end, path-found, path-on}
 use Rattle.card.specs.Chains.{falls-of, stands, going-end}
-use Rattle.card.proofs.index.Index.walk.Goals as goal
+use Rattle.card.proofs.index.Paths.walk.Goals as goal
 
 pub of-i-items-requires : goal.of-i-items-requires
 of-i-items-requires c = falls-of c.args.self.now.index _ c.requires.within

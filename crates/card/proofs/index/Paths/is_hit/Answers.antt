@@ -1,8 +1,8 @@
--- `card::look::Carded::is_hit`: the name and its ending are compared one after the other. Assumes nothing.
+-- `card::index::Paths::is_hit`: the name and its ending are compared one after the other. Assumes nothing.
 use Rattle.std.proofs.Common.{rules}
 use Rattle.names.specs.Bytes.{equals, same-append}
 use Rattle.card.specs.Card.{hit}
-use Rattle.card.proofs.look.Carded.is_hit.Goals as goal
+use Rattle.card.proofs.index.Paths.is_hit.Goals as goal
 
 pub returns-then-starts_with : goal.returns-then-starts_with
 unfolding hit

@@ -1,9 +1,0 @@
--- `card::look::Carded::is_below`: what is left to ascend before each step. Assumes nothing.
-use Rattle.std.proofs.Common.{◌≡◌, ◌<◌, ◌-◌}
-use Rattle.card.specs.Layout.{node_limit, parent_at}
-use Rattle.card.specs.Tree.{ascends}
-use Rattle.names.specs.Path.{component_limit}
-use Rattle.card.proofs.look.Carded.is_below.Given as goal
-
-abbrev pub invariant-loop : goal.invariant-loop
-invariant-loop l = (l.i < node_limit) × (ascends (component_limit - l.counter) (parent_at l.self.card.now) l.i l.d ≡ ascends component_limit (parent_at l.self.card.now) l.f l.d)

@@ -1,9 +1,0 @@
--- `card::look::Carded::nearest_root`: what is left to search before each step. Assumes nothing.
-use Rattle.std.proofs.Common.{◌≡◌, ◌<◌, ◌-◌}
-use Rattle.card.specs.Layout.{node_limit, parent_at, root_at}
-use Rattle.card.specs.Laws.{nearest}
-use Rattle.names.specs.Path.{component_limit}
-use Rattle.card.proofs.look.Carded.nearest_root.Given as goal
-
-abbrev pub invariant-loop : goal.invariant-loop
-invariant-loop l = (l.i < node_limit) × (nearest (component_limit - l.counter) (parent_at l.self.card.now) (root_at l.self.card.now) l.i ≡ nearest component_limit (parent_at l.self.card.now) (root_at l.self.card.now) l.f)
