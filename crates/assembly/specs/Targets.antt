@@ -6,6 +6,7 @@ use Rattle.std.specs.Result.{result_ok}
 use Rattle.std.specs.Option.{unwrap_or}
 use Rattle.std.proofs.Common.{arith, sym, ◌∙◌, ltb-false, length-append, length-take-le, drop_at}
 use Rattle.std.proofs.Math.Path.{refl, ap}
+use Rattle.std.proofs.Math.Seq.{take-length}
 use mathlib.Core.List.{List, [], ◌∷◌, ◌++◌, Memᴰ}
 use Rattle.names.specs.Bytes.{ascii, member}
 use Rattle.names.specs.Decimal.{unit_name}
@@ -85,6 +86,14 @@ found_unit files units file fits =
     go : (i : ℕ) → i ≤ units → (b : Bool) → ltb i units ≡ b → unwrap_or (cond b (Some i) None) units ≡ i
     go i h true e = refl
     go i h false e = let l = ltb-false i units e in omega arith
+
+-- the same where the units' files stand alone
+pub found_there : (files : List ℕ) (file : ℕ) → unwrap_or (position_by (λ g. eqb g file) files) (length files) ≡ unit_by files (length files) (File file)
+found_there files file = ap (λ (l : List ℕ). unwrap_or (position_by (λ g. eqb g file) l) (length files)) (sym (take-length files)) ∙ found_unit files (length files) file (omega arith)
+
+pub units_alone : (files : List ℕ) (units : ℕ) → units ≤ length files → (t : resolution.Target) → unit_by (take units files) (length (take units files)) t ≡ unit_by files units t
+units_alone files units fits (File f) = ap (index_in f) (take-length (take units files))
+units_alone files units fits (Folder f) = length-take-le units files fits
 
 module _ (s : List ℕ) (k : Known) (units id : ℕ) (u : UnitOf s k units id) (segments : List Text) where
   abbrev files : List ℕ

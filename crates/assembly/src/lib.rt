@@ -10,8 +10,8 @@ mod units;
 pub use checks::report_faults;
 use fixed_vec::FixedVec;
 use refusal::Refusal;
-pub use targets::Target;
-pub use units::{Program, Unit};
+pub use targets::{Target, target_of};
+pub use units::{Program, Unit, unit_items};
 
 // The most faults of step 5: every item an enum, and no main.
 const FAULTS: usize = bundle::limits::ITEMS + 1;

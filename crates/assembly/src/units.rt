@@ -50,12 +50,21 @@ impl<'a> Program<'a> {
     }
 }
 
+// Where the items of the unit `id` stand, of which nothing more is asked than its file and where the files stand. Ruled out: those of the
+// file whose index is the id.
+pub fn unit_items(s: &[u8], known: &Known, id: usize) -> Range
+    requires { PlacedUnit s.now known.now id }
+    ensures { (items_at depth_limit s.now result.end result.at ≡ items_of (decode s.now) id) × (result.end ≤ 2 ^ 27) }
+{
+    bundle::file_items(s, known.place_of(known.files[id]))
+}
+
 impl<'a> Unit<'a> {
-    // Where its items stand. Ruled out: those of the file whose index is the id.
+    // Where its items stand.
     pub fn items(&self) -> Range
         ensures { (items_at depth_limit self.now.bytes.now result.end result.at ≡ items_of (decode self.now.bytes.now) self.now.id) × (result.end ≤ 2 ^ 27) }
     {
-        bundle::file_items(self.bytes, self.known.place_of(self.known.files[self.id]))
+        unit_items(self.bytes, self.known, self.id)
     }
 
     // Whether it has a main function: one at its top, and not inside its modules.

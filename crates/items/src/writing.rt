@@ -10,14 +10,15 @@ ghost use Rattle.encoder.specs.Parts.{head_bytes};
 ghost use Rattle.assembly.specs.Assemble.{file_of};
 ghost use Rattle.assembly.specs.Image.{length_cap};
 ghost use Rattle.assembly.specs.Given.{unit_bytes, program_bytes};
-ghost use Rattle.assembly.specs.Targets.{InFile, file_uses, path_by, Within};
+ghost use Rattle.assembly.specs.Targets.{UnitOf, InFile, file_uses, path_by, Within};
 ghost use Rattle.assembly.specs.Walk.{segments_at, elements_at, use_bytes, named_bytes, one_at, item_bytes, items_bytes, Brief, HasName};
 ghost use Rattle.items.specs.Written.{Wrote, Fits};
 
 use crate::segments::last_segments;
-use assembly::{Program, Target, Unit};
+use assembly::{Program, Target, Unit, target_of};
 use bundle::limits::{DEPTH, MODULE, USE};
 use bundle::{Items, Kind, Range};
+use discovery::Known;
 use encoder::{Strings, put_head, put_segments, put_start, put_two, put_unit_start};
 
 // A use's new path: its count, and its segments.
@@ -51,14 +52,22 @@ fn put_elements(s: &[u8], mark: usize, out: &mut [u8]) -> usize
     1 + Strings::new(s, elements.first, 2 * elements.count).put(&mut out[1..])
 }
 
-// The use at `mark` in the unit, with its path rewritten: segment count, segments, element count, elements.
-pub fn rewrite_use(unit: &Unit<'_>, mark: usize, out: &mut [u8]) -> usize
-    requires { (UseMark unit.now.bytes.now mark × InFile unit.now.bytes.now (file_of (decode unit.now.bytes.now) unit.now.id) mark) × ((length (segments_at unit.now.bytes.now mark) ≤ segment_limit) × (length (use_bytes unit.now.bytes.now (file_of (decode unit.now.bytes.now) unit.now.id) mark) ≤ length out.old)) }
-    ensures { (result ≡ length (use_bytes unit.now.bytes.now (file_of (decode unit.now.bytes.now) unit.now.id) mark)) × (out.new ≡ started (use_bytes unit.now.bytes.now (file_of (decode unit.now.bytes.now) unit.now.id) mark) out.old) }
+// The use at `mark` in the unit `id` of so many, with its path rewritten: segment count, segments, element count, elements. Nothing more is
+// asked of the unit than its uses' entries and the units' files.
+pub fn rewrite_use(
+    s: &[u8],
+    known: &Known,
+    units: usize,
+    id: usize,
+    mark: usize,
+    out: &mut [u8],
+) -> usize
+    requires { (UnitOf s.now known.now units id × UseMark s.now mark × InFile s.now (file_of (decode s.now) id) mark) × ((length (segments_at s.now mark) ≤ segment_limit) × (length (use_bytes s.now (file_of (decode s.now) id) mark) ≤ length out.old)) }
+    ensures { (result ≡ length (use_bytes s.now (file_of (decode s.now) id) mark)) × (out.new ≡ started (use_bytes s.now (file_of (decode s.now) id) mark) out.old) }
 {
-    let target = unit.target_of(mark);
-    let a = put_path(unit.bytes, mark, target, out);
-    a + put_elements(unit.bytes, mark, &mut out[a..])
+    let target = target_of(s, known, units, id, mark);
+    let a = put_path(s, mark, target, out);
+    a + put_elements(s, mark, &mut out[a..])
 }
 
 // A use: its rewritten form, then its head.
@@ -66,7 +75,14 @@ fn write_use(unit: &Unit<'_>, at: usize, out: &mut [u8]) -> usize
     requires { (UseMark unit.now.bytes.now at × InFile unit.now.bytes.now (file_of (decode unit.now.bytes.now) unit.now.id) at) × ((length (segments_at unit.now.bytes.now at) ≤ segment_limit) × ((4 + length (use_bytes unit.now.bytes.now (file_of (decode unit.now.bytes.now) unit.now.id) at) ≤ length out.old) × (4 + length (use_bytes unit.now.bytes.now (file_of (decode unit.now.bytes.now) unit.now.id) at) < length_cap))) }
     ensures { (result ≡ 4 + length (use_bytes unit.now.bytes.now (file_of (decode unit.now.bytes.now) unit.now.id) at)) × (out.new ≡ started (head_bytes (2 + length (use_bytes unit.now.bytes.now (file_of (decode unit.now.bytes.now) unit.now.id) at)) use_kind (byte unit.now.bytes.now (at + 3)) ++ use_bytes unit.now.bytes.now (file_of (decode unit.now.bytes.now) unit.now.id) at) out.old) }
 {
-    let n = rewrite_use(unit, at, &mut out[4..]);
+    let n = rewrite_use(
+        unit.bytes,
+        unit.known,
+        unit.units,
+        unit.id,
+        at,
+        &mut out[4..],
+    );
     put_head(out, 2 + n, USE, bundle::item_visibility(unit.bytes, at));
     4 + n
 }

@@ -2,7 +2,6 @@
 use Rattle.std.specs.Prelude.{ℕ, ◌+◌, ◌<◌, ◌≤◌, ◌≡◌, refl, List, [], ◌∷◌, ◌++◌, length, get_or, set, take, drop, Ok, Err}
 use Rattle.std.proofs.Common.{add-one, arith, sym, ap, ◌∙◌, length-take-le, take-suc}
 use Rattle.std.proofs.lemmas.List.{length-replicate, length-map}
-use Rattle.std.proofs.Math.Seq.{take-length}
 use Rattle.bundle.specs.Limits.{file_limit, use_limit}
 use Rattle.driver.specs.declared.record.Graph.{Graph}
 use Rattle.discovery.specs.Discovery.{Fault}

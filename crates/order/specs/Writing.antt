@@ -9,14 +9,18 @@ use Rattle.std.proofs.lemmas.List.{length-map}
 use Rattle.std.proofs.Math.Seq.{length-take-le, take-length}
 use Rattle.std.proofs.lemmas.Bool.{lt-leb}
 use Rattle.refusal.specs.declared.Refusal.{Refusal}
-use Rattle.refusal.specs.Numbers.{number_of}
 use Rattle.bundle.specs.Encode.{joined}
 use Rattle.encoder.specs.Started.{put_one}
+use Rattle.discovery.specs.Discovery.{Fault}
 use Rattle.driver.specs.Meaning.{fault_told}
 use Rattle.order.specs.Report.{Record, fault, ring, ring_met, low, place_bytes, record_bytes, report_bytes, record_length, report_length, report-length, lent_report, reporting, small_buffer}
 use Rattle.order.specs.Results as reported
 
--- the records that the arrays stand for
+-- the records of what is told of some values
+abbrev pub records_told : {A : Type 0} → (A → Fault) → List A → List Record
+records_told told l = map fault (map told l)
+
+-- those of refusals, and of a ring
 abbrev pub fault_records : List Refusal → List Record
 fault_records faults = map fault (map fault_told faults)
 
@@ -57,57 +61,58 @@ module _ (rs : List Record) (out : List ℕ) (n : ℕ) (is : report_length rs �
   all-written final h e = let k : report_length rs ≤ length out = omega arith in rw (le-leb (report_length rs) (length out) k, is) (refl, e)
 
 -- FAULTS
-pub faults-length : (l : List Refusal) → report_length (fault_records l) ≡ 3 * length l
-unfolding report_length record_length
-faults-length [] = refl
-faults-length (e ∷ l) = let r = faults-length l in omega arith
+module _ {A : Type 0} (told : A → Fault) where
+  pub faults-length : (l : List A) → report_length (records_told told l) ≡ 3 * length l
+  unfolding report_length record_length
+  faults-length [] = refl
+  faults-length (e ∷ l) = let r = faults-length l in omega arith
 
-faults_more : (i : ℕ) (l : List Refusal) (d : Refusal) → i < length l
-    → report_bytes (fault_records (take (suc i) l)) ≡ report_bytes (fault_records (take i l)) ++ (number_of (get_or l i d).cause ∷ place_bytes (get_or l i d).place)
-unfolding report_bytes joined record_bytes
-faults_more i [] d h = absurd (omega arith)
-faults_more zero (e ∷ l) d h = refl
-faults_more (suc i) (e ∷ l) d h = ap (λ (k : List ℕ). (number_of e.cause ∷ place_bytes e.place) ++ k) (faults_more i l d (omega arith))
+  faults_more : (i : ℕ) (l : List A) (d : A) → i < length l
+      → report_bytes (records_told told (take (suc i) l)) ≡ report_bytes (records_told told (take i l)) ++ ((told (get_or l i d)).number ∷ place_bytes (told (get_or l i d)).place)
+  unfolding report_bytes joined record_bytes
+  faults_more i [] d h = absurd (omega arith)
+  faults_more zero (e ∷ l) d h = refl
+  faults_more (suc i) (e ∷ l) d h = ap (λ (k : List ℕ). ((told e).number ∷ place_bytes (told e).place) ++ k) (faults_more i l d (omega arith))
 
 -- i records are written
-pub record FaultsTo (l : List Refusal) (out₀ out : List ℕ) (i : ℕ) : Type 0 where
+pub record FaultsTo {A : Type 0} (told : A → Fault) (l : List A) (out₀ out : List ℕ) (i : ℕ) : Type 0 where
   pub few : i ≤ length l
-  pub so_far : out ≡ report_bytes (fault_records (take i l)) ++ drop (3 * i) out₀
+  pub so_far : out ≡ report_bytes (records_told told (take i l)) ++ drop (3 * i) out₀
   pub long : length out ≡ length out₀
 
-module _ (l : List Refusal) (out₀ : List ℕ) where
-  pub faults-none : FaultsTo l out₀ out₀ 0
+module _ {A : Type 0} (told : A → Fault) (l : List A) (out₀ : List ℕ) where
+  pub faults-none : FaultsTo told l out₀ out₀ 0
   unfolding report_bytes joined
   faults-none = record { few = omega arith; so_far = refl; long = refl }
 
-  pub faults-one : (out out' : List ℕ) (i : ℕ) (d : Refusal) → 3 * length l ≤ length out₀ → i < length l → FaultsTo l out₀ out i
-      → out' ≡ written3 out (3 * i) (number_of (get_or l i d).cause) (get_or l i d).place → FaultsTo l out₀ out' (i + 1)
+  pub faults-one : (out out' : List ℕ) (i : ℕ) (d : A) → 3 * length l ≤ length out₀ → i < length l → FaultsTo told l out₀ out i
+      → out' ≡ written3 out (3 * i) (told (get_or l i d)).number (told (get_or l i d)).place → FaultsTo told l out₀ out' (i + 1)
   faults-one out out' i d room h f e =
-      let n = number_of (get_or l i d).cause in
-      let p = (get_or l i d).place in
+      let n = (told (get_or l i d)).number in
+      let p = (told (get_or l i d)).place in
       let few = length-take-le i l (omega arith) in
-      let done = report-length (fault_records (take i l)) ∙ faults-length (take i l) in
+      let done = report-length (records_told told (take i l)) ∙ faults-length told (take i l) in
       record {
         few = omega arith;
         so_far =
             e
             ∙ (ap (λ (l : List ℕ). written3 l (3 * i) n p) f.so_far
-            ∙ (put_three (report_bytes (fault_records (take i l))) out₀ (3 * i) n (low (p / 256)) (low p) (omega arith) (omega arith)
-            ∙ (ap (λ (l : List ℕ). l ++ drop (3 * i + 3) out₀) (sym (faults_more i l d (omega arith)) ∙ ap (λ (k : ℕ). report_bytes (fault_records (take k l))) (sym (add-one i)))
-            ∙ ap (λ (k : ℕ). report_bytes (fault_records (take (i + 1) l)) ++ drop k out₀) (next i))));
+            ∙ (put_three (report_bytes (records_told told (take i l))) out₀ (3 * i) n (low (p / 256)) (low p) (omega arith) (omega arith)
+            ∙ (ap (λ (l : List ℕ). l ++ drop (3 * i + 3) out₀) (sym (faults_more told i l d (omega arith)) ∙ ap (λ (k : ℕ). report_bytes (records_told told (take k l))) (sym (add-one i)))
+            ∙ ap (λ (k : ℕ). report_bytes (records_told told (take (i + 1) l)) ++ drop k out₀) (next i))));
         long = rw e (simp length-set f.long);
       }
     where
       next : (i : ℕ) → 3 * i + 3 ≡ 3 * (i + 1)
       next i = omega arith
 
-  pub faults-all : (out : List ℕ) (i : ℕ) → 3 * length l ≤ length out₀ → length l ≤ i → FaultsTo l out₀ out i
-      → (reported.Report (3 * length l) ≡ reporting (fault_records l) (length out₀)) × (out ≡ lent_report (fault_records l) out₀)
+  pub faults-all : (out : List ℕ) (i : ℕ) → 3 * length l ≤ length out₀ → length l ≤ i → FaultsTo told l out₀ out i
+      → (reported.Report (3 * length l) ≡ reporting (records_told told l) (length out₀)) × (out ≡ lent_report (records_told told l) out₀)
   faults-all out i room h f =
       let e : i ≡ length l = let k = f.few in omega arith in
-      all-written (fault_records l) out₀ (3 * length l) (faults-length l) out room
-      (f.so_far ∙ (ap (λ (k : ℕ). report_bytes (fault_records (take k l)) ++ drop (3 * k) out₀) e
-      ∙ ap (λ (k : List Refusal). report_bytes (fault_records k) ++ drop (3 * length l) out₀) (take-length l)))
+      all-written (records_told told l) out₀ (3 * length l) (faults-length told l) out room
+      (f.so_far ∙ (ap (λ (k : ℕ). report_bytes (records_told told (take k l)) ++ drop (3 * k) out₀) e
+      ∙ ap (λ (k : List A). report_bytes (records_told told k) ++ drop (3 * length l) out₀) (take-length l)))
 
 -- A RING
 -- the record's head and the first i of its ids

@@ -15,7 +15,7 @@ use card::Card;
 use discovery::Known;
 pub use linked::{Linked, Ordered, UNITS};
 use refusal::Refusal;
-pub use report::write_faults;
+pub use report::{Numbered, Recorded, write_faults};
 
 // The units of a bundle in linked order, or a refusal: 1 to 13 of the bundle, the report of discovery's faults or of a ring, or
 // 14 where that exceeds the lent buffer, of which then not a byte is changed. Ruled out: the order of unit 0 alone where the

@@ -78,6 +78,6 @@ pub fn ask_use(unit: &Unit<'_>, at: usize, tree: &mut Lent) -> Result<(), Refusa
     ensures walked { Walks (lent_in tree.old) (asked at (resolves_use (use_bytes unit.now.bytes.now (file_of (decode unit.now.bytes.now) unit.now.id) at) (is_public (byte unit.now.bytes.now (at + 3)))) ∷ []) (stop_of result) (lent_in tree.new) }
 {
     let mut decl = [0u8; USE_SIZE];
-    let n = items::rewrite_use(unit, at, &mut decl);
+    let n = items::rewrite_use(unit.bytes, unit.known, unit.units, unit.id, at, &mut decl);
     ask(tree, Call::Use(&decl[..n], is_public(unit.bytes, at)), at)
 }

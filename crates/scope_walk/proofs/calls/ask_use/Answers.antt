@@ -8,4 +8,4 @@ rewrite_use-n-requires c =
     let u = c.args.unit.now in
     let f = c.requires.1.1 in
     let n = use_few u.bytes.now u.known.now u.units u.id c.args.at u.among f.0 f.1 in
-    (c.requires.0, (f.0.0, omega arith))
+    ((u.among, c.requires.0.0, c.requires.0.1), (f.0.0, omega arith))
