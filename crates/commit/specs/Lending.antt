@@ -3,6 +3,7 @@ use Rattle.std.specs.Prelude.{◌≡◌}
 use Rattle.std.proofs.Common.{◌∙◌}
 use Rattle.scope_tree.specs.Kinds.{kind_number}
 use Rattle.scope_tree.specs.Entries.{Entry}
+use Rattle.scope_tree.specs.declared.Entry.{Entry as Numbers}
 use Rattle.scope_tree.specs.Views.{bit_of}
 use Rattle.scope_tree.specs.Trees.{packed_in}
 use Rattle.scope_tree.specs.declared.Tree.{Tree}
@@ -13,6 +14,11 @@ use Rattle.commit.specs.declared.Lent.{Lent}
 abbrev pub entry_told : Given → Entry
 entry_told e =
     record { kind = kind_number e.staged.kind; visible = bit_of e.public; scope = e.scope; mark = e.staged.mark; name = e.staged.name; origin = e.staged.origin; target = e.staged.target; moment = e.staged.moment; opens = e.opens }
+
+-- the same of one that is given in these numbers
+abbrev pub numbers_told : Numbers → Entry
+numbers_told e =
+    record { kind = e.kind; visible = e.visible; scope = e.scope; mark = e.mark; name = e.name; origin = e.origin; target = e.target; moment = e.moment; opens = e.opens }
 
 -- the tree of the arrays
 abbrev pub lent_in : Lent → Tree

@@ -6,12 +6,14 @@ ghost use Rattle.scope_tree.specs.Trees.{tree_in};
 ghost use Rattle.scope_tree.specs.Views.{bit_of};
 ghost use Rattle.scope_tree.specs.Pack.{added};
 ghost use Rattle.decision.specs.Batches.{staged_of};
-ghost use Rattle.commit.specs.Lending.{entry_told, lent_in, Kept};
+ghost use Rattle.commit.specs.Lending.{entry_told, numbers_told, lent_in, Kept};
 ghost use Rattle.commit.specs.Filled.{filled};
 
 use decision::batch::{Batch, Staged};
 use scope_tree::look::{Key, View, free_slot};
-use scope_tree::{CELLS, COUNT, DEPTH, INDEX, KINDS, OPENED, ORIGINS, TARGETS, TIMES};
+use scope_tree::{
+    CELLS, COUNT, DEPTH, Entry as Numbers, INDEX, KINDS, OPENED, ORIGINS, TARGETS, TIMES,
+};
 
 // An entry to add, and where it stands.
 #[derive(Clone, Copy)]
@@ -54,16 +56,55 @@ impl<'a> Lent<'a> {
         }
     }
 
-    // Entry `at`, at the tree's end, and a module opened with it.
+    // Entry `at`, at the tree's end, and a module opened with it: any numbers as its kind and its visibility. Ruled out: a number that is
+    // cut.
     #[tactic(auto, unfolding(scope_tree::specs::Pack::added))]
+    pub fn add_numbers(&mut self, at: usize, entry: Numbers)
+        requires few { at < 1024 }
+        requires shallow { entry.opens ≡ true → get_or self.old.opened.now 10 0 < 9 }
+        ensures kept { Kept self.old self.new }
+        ensures added { lent_in self.new ≡ added at (lent_in self.old) (numbers_told entry) }
+    {
+        let depth = usize::from(self.opened[DEPTH]);
+        let place = (at + 1) as u16;
+        let Numbers {
+            kind,
+            visible,
+            scope,
+            mark,
+            name,
+            origin,
+            target,
+            moment,
+            opens,
+        } = entry;
+        let slot = free_slot(&*self.cells, Key { scope, kind, name });
+        self.visible[at] = visible;
+        self.scopes[at] = scope;
+        self.marks[at] = mark;
+        self.n0[at] = name.w0;
+        self.n1[at] = name.w1;
+        self.n2[at] = name.w2;
+        self.n3[at] = name.w3;
+        self.cells[KINDS + at] = kind;
+        self.cells[ORIGINS + at] = origin;
+        self.cells[TARGETS + at] = target;
+        self.cells[TIMES + at] = moment;
+        self.cells[INDEX + slot] = place;
+        self.opened[COUNT] = place;
+        if opens {
+            self.opened[depth] = place;
+            self.opened[DEPTH] = (depth + 1) as u16;
+        }
+    }
+
+    // The same of an entry of a kind, public or not.
     pub fn add(&mut self, at: usize, entry: Entry)
         requires few { at < 1024 }
         requires shallow { entry.opens ≡ true → get_or self.old.opened.now 10 0 < 9 }
         ensures kept { Kept self.old self.new }
         ensures added { lent_in self.new ≡ added at (lent_in self.old) (entry_told entry) }
     {
-        let depth = usize::from(self.opened[DEPTH]);
-        let scope = (at + 1) as u16;
         let Staged {
             kind,
             name,
@@ -72,48 +113,58 @@ impl<'a> Lent<'a> {
             target,
             moment,
         } = entry.staged;
-        let slot = free_slot(
-            &*self.cells,
-            Key {
-                scope: entry.scope,
+        let numbers = Numbers {
+            kind: u16::from(kind),
+            visible: u8::from(entry.public),
+            scope: entry.scope,
+            mark,
+            name,
+            origin,
+            target,
+            moment,
+            opens: entry.opens,
+        };
+        self.add_numbers(at, numbers);
+    }
+
+    // The entries of a use, one after another from the place `first` on, of any number as their visibility. Ruled out: entries that stand
+    // at the tree's end where `first` is another place.
+    pub fn commit_at(&mut self, first: usize, batch: &Batch, scope: u16, public: u8)
+        requires { first + batch.now.count ≤ 1024 }
+        ensures kept { Kept self.old self.new }
+        ensures filled { lent_in self.new ≡ filled first (lent_in self.old) (staged_of batch.now) scope public batch.now.count }
+    {
+        for (i, staged) in batch.entries[..batch.count].iter().enumerate() {
+            let Staged {
                 kind,
                 name,
-            },
-        );
-        self.visible[at] = u8::from(entry.public);
-        self.scopes[at] = entry.scope;
-        self.marks[at] = mark;
-        self.n0[at] = name.w0;
-        self.n1[at] = name.w1;
-        self.n2[at] = name.w2;
-        self.n3[at] = name.w3;
-        self.cells[KINDS + at] = u16::from(kind);
-        self.cells[ORIGINS + at] = origin;
-        self.cells[TARGETS + at] = target;
-        self.cells[TIMES + at] = moment;
-        self.cells[INDEX + slot] = scope;
-        self.opened[COUNT] = scope;
-        if entry.opens {
-            self.opened[depth] = scope;
-            self.opened[DEPTH] = (depth + 1) as u16;
+                mark,
+                origin,
+                target,
+                moment,
+            } = *staged;
+            let numbers = Numbers {
+                kind: u16::from(kind),
+                visible: public,
+                scope,
+                mark,
+                name,
+                origin,
+                target,
+                moment,
+                opens: false,
+            };
+            self.add_numbers(first + i, numbers);
         }
     }
 
-    // The entries of a use, one after another at the tree's end.
+    // The same at the tree's end, public or not.
     pub fn commit(&mut self, batch: &Batch, scope: u16, public: bool)
         requires { get_or self.old.opened.now 9 0 + batch.now.count ≤ 1024 }
         ensures kept { Kept self.old self.new }
         ensures filled { lent_in self.new ≡ filled (get_or self.old.opened.now 9 0) (lent_in self.old) (staged_of batch.now) scope (bit_of public) batch.now.count }
     {
         let first = self.view().count();
-        for (i, staged) in batch.entries[..batch.count].iter().enumerate() {
-            let entry = Entry {
-                staged: *staged,
-                public,
-                scope,
-                opens: false,
-            };
-            self.add(first + i, entry);
-        }
+        self.commit_at(first, batch, scope, u8::from(public));
     }
 }

@@ -128,10 +128,10 @@ module _ {out cur name item x : List ℕ} {k v a : ℕ} (f : Inside out cur name
       let w = length-append (take 2 out) (k ∷ v ∷ string name) in
       record { starts = f.begun.start; is = omega arith; room = omega (arith, length-append (began out name k v) x) }
 
-  inside-room : length x ≤ length (mid_of a (length cur - a) cur)
+  pub inside-room : length x ≤ length (mid_of a (length cur - a) cur)
   inside-room = front-room inside-front
 
-  inside-short : length x < length_cap
+  pub inside-short : length x < length_cap
   inside-short = let l = size-inside in let s = f.begun.fits.short in omega arith
 
   pub inside-fits : Fits x (mid_of a (length cur - a) cur)

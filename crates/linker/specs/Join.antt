@@ -1,7 +1,8 @@
 -- From the answers of the layers to that of the operation. Assumes nothing.
-use Rattle.std.specs.Prelude.{ℕ, ◌≤◌, ◌<◌, ◌≡◌, refl, true, false, List, [], ◌∷◌, map, length, take, get_or}
+use Rattle.std.specs.Prelude.{ℕ, ◌≤◌, ◌<◌, ◌≡◌, refl, true, false, List, [], ◌∷◌, map, eqb, leb, length, take, get_or, Result, Ok as Answered, Err}
 use Rattle.std.proofs.Common.{arith, sym, ◌∙◌, eq-eqb, ne_eqb}
 use Rattle.std.proofs.Math.Path.{ap, subst}
+use Rattle.std.proofs.Math.Bool.{Bool, cond}
 use Rattle.bundle.specs.Bundle.{Bundle}
 use Rattle.bundle.specs.Decode.{decode}
 use Rattle.bundle.specs.Read.{Reading, value, refused, read, verdict}
@@ -12,7 +13,7 @@ use Rattle.order.specs.Run.{ordered}
 use Rattle.order.specs.Run as order
 use Rattle.order.specs.Call.{padded, refusing, unit_files, order_answer, order_report}
 use Rattle.order.specs.Call as call
-use Rattle.order.specs.Report.{fault, lent_report, reporting, nothing_lent, tells, tells-some, tells_none}
+use Rattle.order.specs.Report.{fault, ring, lent_report, reporting, nothing_lent, tells, tells-some, tells_none}
 use Rattle.order.specs.Results.{Reported, Answer}
 use Rattle.order.specs.Results as reported
 use Rattle.order.specs.Outcome.{and_then}
@@ -30,20 +31,30 @@ use Rattle.assembly.specs.GivenLaws.{known-linked, with_files}
 use Rattle.assembly.specs.Join.{units-linked}
 use Rattle.scope_tree.specs.declared.Tree.{Tree}
 use Rattle.assembly.specs.Assemble.{assembled, assembly_faults, step5, assemble_after, linearize_and_assemble}
-use Rattle.assembly.specs.Image.{imaging, lent_image}
+use Rattle.assembly.specs.Image.{small_buffer, long_image, image_limit, items_length, image_length, imaging, lent_image}
 use Rattle.assembly.specs.Call.{faults_told, reported_to, imaged_to, with_image}
 use Rattle.assembly.specs.Given as units
 use Rattle.assembly.specs.Results.{Imaged}
 use Rattle.assembly.specs.Results as imaged
-use Rattle.linker.specs.Link.{Outcome, faulty, closed, ended, result, linked, step6, link_after, link_bundle}
-use Rattle.linker.specs.Call.{records_of, built_of, answering, image_after, TreeWith, TreeOfMade, TreeAfter, TreeTo, entries_with, entries_after, entries_to, link_answer, link_report, link_image, LinkTree, link_entries}
+use Rattle.linker.specs.Link.{Made, Outcome, faulty, closed, ended, result, linked, step6, link_after, link_bundle}
+use Rattle.linker.specs.Call.{records_of, built_of, answering, image_after, TreeWith, TreeOfMade, TreeAfter, TreeTo, answer_to, entries_with, entries_after, entries_to, link_answer, link_report, link_image, LinkTree, link_entries}
 use Rattle.scope_walk.specs.Steps.{Stop, reached}
 use Rattle.scope_walk.specs.Units.{ScopedAs}
+use Rattle.refusal.specs.declared.Refusal.{Refusal}
+use Rattle.program.specs.declared.assembled.Assembled.{Assembled}
+use Rattle.program.specs.declared.assembled.Assembled.TheVariants as assembled
+use Rattle.program.specs.Told.{told as answer_told}
+use Rattle.linker.specs.declared.linked.Linked.{Linked}
+use Rattle.linker.specs.Told.{tree_with}
 
 -- which tree comes back with an image, and which without
 abbrev pub tree_by : Imaged → Tree → Tree → Tree
 tree_by (imaged.Image n) made given = made
 tree_by (imaged.Refused n p) made given = given
+
+-- which tree comes back where one was given: the one made, if the image has a length
+abbrev pub tree_given : ℕ → Tree → Tree → Tree
+tree_given n made given = cond (eqb n 0) given made
 
 -- what is due of an answer, of both buffers and of the tree that comes back for each one that is given
 abbrev pub Due : (s report₀ image₀ report₁ image₁ : List ℕ) → Answer → (Tree → Tree) → Type 0
@@ -237,3 +248,75 @@ rows-due s img u d l l' n h =
     let c = comes u s img d in
     let b : length (flat_of u).entries ≤ 1024 = rw (length-tab (row_of (view u)) (get_or u.opened 9 0)) c.small in
     (listed_as _ _ c.are l n l' h, omega (arith, h.count, b))
+
+-- FROM NO TREE GIVEN TO ANY
+module _ (t u : Tree) where
+  with_given : (files : List ℕ) (m : ℕ) (q : Made) → TreeOfMade m cleared u q → TreeOfMade m t (tree_given (with_image files m (built_of q)).image u t) q
+  unfolding imaging
+  with_given files m q h = go (leb (items_length q.items) image_limit) (leb (image_length q.items) m) h
+    where
+      image_of : Bool → Bool → Imaged
+      image_of a b = cond a (cond b (imaged.Image (image_length q.items)) (imaged.Refused small_buffer 0)) (imaged.Refused long_image 0)
+
+      go : (a b : Bool) → TreeWith (image_of a b) q.tree cleared u
+          → TreeWith (image_of a b) q.tree t (tree_given (imaged_to (length files) (padded files) (padded q.ids) (image_of a b)).image u t)
+      go true true k = rw (ne_eqb (image_length q.items) 0 (λ z. omega arith)) k
+      go true false k = refl
+      go false b k = refl
+
+  reported_given : (r : Reported) → tree_given (reported_to r).image u t ≡ t
+  reported_given (reported.Report n) = refl
+  reported_given (reported.Refused n p) = refl
+
+  after-given : (files : List ℕ) (n m : ℕ) (y : Outcome) → TreeAfter m y cleared u → TreeAfter m y t (tree_given (answering files n m y).image u t)
+  after-given files n m (faulty l) h = reported_given (reporting (map fault l) n)
+  after-given files n m (closed r) h = reported_given (reporting (ring r ∷ []) n)
+  after-given files n m (ended k p) h = refl
+  after-given files n m (result q) h = with_given files m q h
+
+  to-given : (x : Reading) (n m : ℕ) → TreeTo x m cleared u → TreeTo x m t (tree_given (answer_to x n m).image u t)
+  to-given (refused k p) n m h = refl
+  to-given (value b) n m h = after-given (unit_files b) n m (link_bundle b) h
+
+  pub tree-given : (s out img : List ℕ) (a : Answer) → a ≡ link_answer s out img → LinkTree s img cleared u → LinkTree s img t (tree_given a.image u t)
+  unfolding link_answer LinkTree
+  tree-given s out img a e h = rw e (to-given (read s) (length out) (length img) h)
+
+  -- as the code has it
+  pub record_given : (x : Linked) → (answer_told x.answer).image ≡ 0 → ◌≡◌ {A = Linked} (record { answer = x.answer; tree = t }) (record { answer = x.answer; tree = tree_given (answer_told x.answer).image x.tree t })
+  record_given x e = rw (eq-eqb (answer_told x.answer).image 0 e)
+
+  pub record_made : (x : Linked) → ((answer_told x.answer).image ≡ 0 → ⊥) → x ≡ record { answer = x.answer; tree = tree_given (answer_told x.answer).image x.tree t }
+  record_made x n = rw (ne_eqb (answer_told x.answer).image 0 n)
+
+-- an answer that has units has an image
+image_some : (x : Reading) (n m : ℕ) → 0 < (answer_to x n m).units → (answer_to x n m).image ≡ 0 → ⊥
+unfolding imaging
+image_some (refused k p) n m h z = omega arith
+image_some (value b) n m h z = by (link_bundle b) h z
+  where
+    none : (r : Reported) → 0 < (reported_to r).units → ⊥
+    none r k = omega (arith, told_none r)
+
+    by : (y : Outcome) → 0 < (answering (unit_files b) n m y).units → (answering (unit_files b) n m y).image ≡ 0 → ⊥
+    by (faulty l) k e = none (reporting (map fault l) n) k
+    by (closed r) k e = none (reporting (ring r ∷ []) n) k
+    by (ended j p) k e = omega arith
+    by (result q) k e = go (leb (items_length q.items) image_limit) (leb (image_length q.items) m) k e
+      where
+        image_of : Bool → Bool → Answer
+        image_of a c = imaged_to (length (unit_files b)) (padded (unit_files b)) (padded q.ids) (cond a (cond c (imaged.Image (image_length q.items)) (imaged.Refused small_buffer 0)) (imaged.Refused long_image 0))
+
+        go : (a c : Bool) → 0 < (image_of a c).units → (image_of a c).image ≡ 0 → ⊥
+        go true true i j = omega arith
+        go true false i j = omega arith
+        go false c i j = omega arith
+
+-- the same by the code's answer: `link` gives back the tree that was made where there is an image, and otherwise the one given
+pub tree_with-given : (t u : Tree) (s out img : List ℕ) (r : Result Assembled Refusal) → answer_told r ≡ link_answer s out img → LinkTree s img cleared u → LinkTree s img t (tree_with r u t)
+unfolding link_answer
+tree_with-given t u s out img (Err e) q h = tree-given t u s out img (answer_told (Err e)) q h
+tree_with-given t u s out img (Answered (assembled.Report n)) q h = tree-given t u s out img (answer_told (Answered (assembled.Report n))) q h
+tree_with-given t u s out img (Answered (assembled.Image l n)) q h =
+    let some : n ≡ 0 → ⊥ = λ z. image_some (read s) (length out) (length img) (omega (arith, ap (λ (a : Answer). a.units) q, l.some.0)) (sym (ap (λ (a : Answer). a.image) q) ∙ z) in
+    rw (ne_eqb n 0 some) at (tree-given t u s out img (answer_told (Answered (assembled.Image l n))) q h)

@@ -34,7 +34,13 @@ pub fn link_new(s: &[u8], report: &mut [u8], image: &mut [u8]) -> Linked
     ensures image_after { image.new ≡ link_image s.now image.old }
     ensures link_tree { LinkTree s.now image.old cleared result.tree }
 {
-    link(s, report, image, scopes::empty())
+    let mut tree = scopes::empty();
+    let answer = link_into(s, report, image, &mut tree);
+    if !has_image(&answer) {
+        let none = scopes::empty();
+        return Linked { answer, tree: none };
+    }
+    Linked { answer, tree }
 }
 
 // The same, with the tree's entries as rows of numbers in `out`, as far as there is place: no tree is copied. Ruled out: an entry left
@@ -61,8 +67,7 @@ pub fn link(s: &[u8], report: &mut [u8], image: &mut [u8], tree: Tree) -> Linked
     ensures image_after { image.new ≡ link_image s.now image.old }
     ensures link_tree { LinkTree s.now image.old tree result.tree }
 {
-    let mut made = scopes::empty();
-    let answer = link_into(s, report, image, &mut made);
+    let Linked { answer, tree: made } = link_new(s, report, image);
     if has_image(&answer) {
         return Linked { answer, tree: made };
     }

@@ -63,7 +63,7 @@ pub fn link_into(
                 known: &known,
                 ids: &linked.ids[..linked.units],
             };
-            scope_walk::walk_units(&program, tree)?;
+            scope_walk::walk_tree(&program, tree)?;
             let n = program::write_image(&program, image)?;
             Ok(Assembled::Image(linked, n))
         }

@@ -74,7 +74,7 @@ module _ (o₀ : List ℕ) (at : ℕ) (xs : List ℕ) where
       record { within = omega arith; long = refl; same = ap (λ (j : ℕ). written o₀ j xs) e }
 
   module _ (o : List ℕ) (i : ℕ) (w : Putting o i) where
-    putting_turn : length xs ≡ 11 → i < 11 → (o' : List ℕ) → (o' ≡ put_at o (at + i) (get_or xs i 0)) × (length o' ≡ length o) → Putting o' (i + 1)
+    pub putting_turn : length xs ≡ 11 → i < 11 → (o' : List ℕ) → (o' ≡ put_at o (at + i) (get_or xs i 0)) × (length o' ≡ length o) → Putting o' (i + 1)
     unfolding written
     putting_turn z h o' (q, l) =
         let e : at + i + 1 ≡ at + (i + 1) = omega arith in

@@ -11,6 +11,7 @@ pub mod form;
 pub mod look;
 
 use look::View;
+use names::Name;
 use refusal::Cause;
 
 // The most entries of a tree, whose arrays are written with the number itself, and the most open modules.
@@ -59,6 +60,21 @@ pub struct Tree {
     pub n1: [u64; 1024],
     pub n2: [u64; 1024],
     pub n3: [u64; 1024],
+}
+
+// An entry to add, in the numbers that the arrays hold.
+#[derive(Clone, Copy)]
+pub struct Entry {
+    pub kind: u16,
+    pub visible: u8,
+    pub scope: u16,
+    pub mark: u16,
+    pub name: Name,
+    pub origin: u16,
+    pub target: u16,
+    pub moment: u16,
+    // whether a module opens
+    pub opens: bool,
 }
 
 // What a name stands for. A module holds a name once of each kind.

@@ -14,11 +14,11 @@ use crate::{
 use names::Name;
 use refusal::Cause;
 
-// By what an entry is looked for.
+// By what an entry is looked for; the kind in the number that the cells hold.
 #[derive(Clone, Copy, Debug, PartialEq, Eq)]
 pub struct Key {
     pub scope: u16,
-    pub kind: Kind,
+    pub kind: u16,
     pub name: Name,
 }
 
@@ -56,24 +56,24 @@ impl Key {
     #[tactic(auto, using(crate::specs::Index::part_small), unfolding(crate::specs::Index::mix_by))]
     fn mixed(&self, by: &Multipliers) -> u64
         requires { Small by.now }
-        ensures { result ≡ mix_by by.now self.now.scope (kind_number self.now.kind) self.now.name }
+        ensures { result ≡ mix_by by.now self.now.scope self.now.kind self.now.name }
     {
         let Key { scope, kind, name } = *self;
         (halves(name.w0, by[0])
             + halves(name.w1, by[1])
             + halves(name.w2, by[2])
             + halves(name.w3, by[3])
-            + (u64::from(scope) * by[4].0 + u64::from(u16::from(kind)) * by[4].1))
+            + (u64::from(scope) * by[4].0 + u64::from(kind) * by[4].1))
             / 268435456
     }
 
     // The words of the name, then one of scope and kind: all that two keys can differ in.
     #[tactic(auto, unfolding(crate::specs::Index::word_at))]
     fn word(&self, i: usize) -> u64
-        ensures { result ≡ word_at self.now.scope (kind_number self.now.kind) self.now.name i }
+        ensures { result ≡ word_at self.now.scope self.now.kind self.now.name i }
     {
         let name = self.name;
-        let last = u64::from(self.scope) + u64::from(u16::from(self.kind)) * 65536;
+        let last = u64::from(self.scope) + u64::from(self.kind) * 65536;
         let words = [name.w0, name.w1, name.w2, name.w3, last];
         words[i.min(4)]
     }
@@ -84,7 +84,7 @@ impl Key {
 struct Route {
     key: Key,
     bits: u64,
-    ghost mixed: { bits ≡ mix key.scope (kind_number key.kind) key.name },
+    ghost mixed: { bits ≡ mix key.scope key.kind key.name },
 }
 
 impl Route {
@@ -101,7 +101,7 @@ impl Route {
     // The slot of the hash.
     #[tactic(auto, unfolding(crate::specs::Index::bucket))]
     fn start(&self) -> usize
-        ensures { (result ≡ bucket self.now.key.scope (kind_number self.now.key.kind) self.now.key.name) × (result < 3072) }
+        ensures { (result ≡ bucket self.now.key.scope self.now.key.kind self.now.key.name) × (result < 3072) }
     {
         (self.bits % 1024) as usize
     }
@@ -109,7 +109,7 @@ impl Route {
     // The bit by which it goes on at a depth: those of the mix that aren't the hash, those of the other mix, then those of the words.
     #[tactic(auto, unfolding(crate::specs::Index::turn_of, crate::specs::Index::mix_again, crate::specs::Index::mix_by))]
     fn turn(&self, depth: usize) -> usize
-        ensures { (result ≡ turn self.now.key.scope (kind_number self.now.key.kind) self.now.key.name depth) × (result < 2) }
+        ensures { (result ≡ turn self.now.key.scope self.now.key.kind self.now.key.name depth) × (result < 2) }
     {
         let bits = if depth < 26 {
             self.bits >> (depth + 10)
@@ -125,7 +125,7 @@ impl Route {
     #[tactic(auto, unfolding(crate::specs::Index::below))]
     fn below(&self, depth: usize, i: usize) -> usize
         requires { i < 1024 }
-        ensures { (result ≡ below (turn self.now.key.scope (kind_number self.now.key.kind) self.now.key.name) depth i) × (result < 3072) }
+        ensures { (result ≡ below (turn self.now.key.scope self.now.key.kind self.now.key.name) depth i) × (result < 3072) }
     {
         ENTRIES + 2 * i + self.turn(depth)
     }
@@ -148,7 +148,7 @@ fn held(cells: &[u16; CELLS], slot: usize) -> Option<usize>
 // The slot for one more entry of a key: the empty one that its walk ends at.
 #[tactic(auto, using(crate::specs::Index::reaching_steps))]
 pub fn free_slot(cells: &[u16; CELLS], key: Key) -> usize
-    ensures { (result ≡ free_slot (index_of cells.now) key.scope (kind_number key.kind) key.name) × (result < 3072) }
+    ensures { (result ≡ free_slot (index_of cells.now) key.scope key.kind key.name) × (result < 3072) }
 {
     let route = Route::new(key);
     let mut slot = route.start();
@@ -247,20 +247,28 @@ impl<'a> View<'a> {
     #[tactic(auto, unfolding(crate::specs::Rows::is_row, crate::specs::Index::within, names::specs::Packed::same_name))]
     fn is_sought(&self, i: usize, key: &Key, time: usize) -> bool
         requires { i < 1024 }
-        ensures { result ≡ sought_in (tree_in self.now) key.now.scope time (kind_number key.now.kind) key.now.name i }
+        ensures { result ≡ sought_in (tree_in self.now) key.now.scope time key.now.kind key.now.name i }
     {
         usize::from(key.scope) <= i
             && i < time
             && self.scopes[i] == key.scope
-            && cell(self.cells, KINDS, i) == u16::from(key.kind)
+            && cell(self.cells, KINDS, i) == key.kind
             && self.name(i) == key.name
     }
 
-    // The first entry of a kind and a name at a place: a walk through the index from the slot of the hash. It ends at an empty slot; an
-    // earlier entry stands before a later one of the same scope, kind and name.
-    #[tactic(auto, using(crate::specs::Index::seeking_steps))]
+    // The first entry of a kind and a name at a place.
     pub fn find(&self, at: Place, kind: Kind, name: Name) -> Option<usize>
         ensures found { result ≡ found_in (tree_in self.now) at.scope at.time (kind_number kind) name }
+        ensures below { IfSome result (λ i. i < 1024) }
+    {
+        self.find_in(at, u16::from(kind), name)
+    }
+
+    // The same of any number as the kind: a walk through the index from the slot of the hash. It ends at an empty slot; an earlier entry
+    // stands before a later one of the same scope, kind and name.
+    #[tactic(auto, using(crate::specs::Index::seeking_steps))]
+    pub fn find_in(&self, at: Place, kind: u16, name: Name) -> Option<usize>
+        ensures found { result ≡ found_in (tree_in self.now) at.scope at.time kind name }
         ensures below { IfSome result (λ i. i < 1024) }
     {
         let route = Route::new(Key {

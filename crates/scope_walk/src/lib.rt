@@ -4,4 +4,4 @@
 mod calls;
 mod walk;
 
-pub use walk::walk_units;
+pub use walk::{walk_tree, walk_units};

@@ -78,8 +78,9 @@ fn walk_unit(unit: &Unit<'_>, tree: &mut Lent) -> Result<(), Refusal>
     ask(tree, Call::Exit, 0)
 }
 
-// The units in their order.
-fn walk_program(program: &Program<'_>, tree: &mut Lent) -> Result<(), Refusal>
+// The tree calls of the units in their order, made on the arrays that the caller lends: up to the first that is refused. Ruled out: the
+// tree of the entry's items alone; a unit's number told with the mark of its first item.
+pub fn walk_units(program: &Program<'_>, tree: &mut Lent) -> Result<(), Refusal>
     ensures kept { Kept tree.old tree.new }
     ensures walked { Walks (lent_in tree.old) (program_calls (decode program.now.bytes.now) program.now.ids.now) (stop_of result) (lent_in tree.new) }
 {
@@ -89,9 +90,8 @@ fn walk_program(program: &Program<'_>, tree: &mut Lent) -> Result<(), Refusal>
     Ok(())
 }
 
-// The tree calls of the units in their order, made on a tree that was empty: up to the first that is refused. Ruled out: the tree of the
-// entry's items alone; a unit's number told with the mark of its first item.
-pub fn walk_units(program: &Program<'_>, tree: &mut Tree) -> Result<(), Refusal>
+// The same on the arrays of a tree that was empty.
+pub fn walk_tree(program: &Program<'_>, tree: &mut Tree) -> Result<(), Refusal>
     requires { tree.old ≡ cleared }
     ensures { Walks cleared (program_calls (decode program.now.bytes.now) program.now.ids.now) (stop_of result) tree.new }
 {
@@ -107,5 +107,5 @@ pub fn walk_units(program: &Program<'_>, tree: &mut Tree) -> Result<(), Refusal>
         n2: &mut tree.n2,
         n3: &mut tree.n3,
     };
-    walk_program(program, &mut arrays)
+    walk_units(program, &mut arrays)
 }

@@ -1,5 +1,5 @@
 -- What a tree call promises, by value or over lent arrays. Assumes nothing.
-use Rattle.std.specs.Prelude.{ℕ, ◌≡◌, refl, Option, Some, None, Result, Ok, Err, Bool, true, false, cond, List, eqb}
+use Rattle.std.specs.Prelude.{ℕ, ◌≡◌, refl, Option, Some, None, Result, Ok, Err, Bool, true, false, cond, List, [], eqb}
 use Rattle.scope_tree.specs.Step.{step}
 use Rattle.scope_tree.specs.Flat.{flat}
 use Rattle.scope_tree.specs.Note.{accepted}
@@ -72,6 +72,59 @@ request_of (Function i) = inserts_function i.name.now i.public i.mark
 request_of (Use s v) = resolves_use s.now v
 request_of (GetAlias s) = gets_alias s.now
 request_of (GetFunction s) = gets_function s.now
+
+-- the code of a call, and what is handed over with it: a call that has no place for a name, a visibility or a mark has none, is private
+-- and has the mark 0
+abbrev pub code_of : Call → ℕ
+code_of (Enter i) = 1
+code_of Exit = 2
+code_of (Alias i) = 3
+code_of (Enum i) = 4
+code_of (Function i) = 5
+code_of (Use s v) = 6
+code_of (GetAlias s) = 7
+code_of (GetFunction s) = 8
+
+abbrev pub bytes_of : Call → List ℕ
+bytes_of (Enter i) = i.name.now
+bytes_of Exit = []
+bytes_of (Alias i) = i.name.now
+bytes_of (Enum i) = i.name.now
+bytes_of (Function i) = i.name.now
+bytes_of (Use s v) = s.now
+bytes_of (GetAlias s) = s.now
+bytes_of (GetFunction s) = s.now
+
+abbrev pub public_of : Call → Bool
+public_of (Enter i) = i.public
+public_of Exit = false
+public_of (Alias i) = i.public
+public_of (Enum i) = i.public
+public_of (Function i) = i.public
+public_of (Use s v) = v
+public_of (GetAlias s) = false
+public_of (GetFunction s) = false
+
+abbrev pub mark_of : Call → ℕ
+mark_of (Enter i) = i.mark
+mark_of Exit = 0
+mark_of (Alias i) = i.mark
+mark_of (Enum i) = i.mark
+mark_of (Function i) = i.mark
+mark_of (Use s v) = 0
+mark_of (GetAlias s) = 0
+mark_of (GetFunction s) = 0
+
+-- what a call asks is what its code asks
+pub request-code : (c : Call) → request_of c ≡ request (code_of c) (bytes_of c) (public_of c) (mark_of c)
+request-code (Enter i) = refl
+request-code Exit = refl
+request-code (Alias i) = refl
+request-code (Enum i) = refl
+request-code (Function i) = refl
+request-code (Use s v) = refl
+request-code (GetAlias s) = refl
+request-code (GetFunction s) = refl
 
 -- an item's declaration by its kind in a bundle: 2 a function, 4 an enum, else a type alias
 abbrev pub declares : ℕ → List ℕ → Bool → ℕ → Request

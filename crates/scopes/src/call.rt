@@ -1,4 +1,6 @@
 // The calls of a tree, with their arguments.
+ghost use Rattle.std.specs.Prelude.{◌≡◌};
+ghost use Rattle.scopes.specs.Meets.{request, request_of};
 
 // What a declaration is handed.
 #[derive(Clone, Copy)]
@@ -20,4 +22,28 @@ pub enum Call<'a> {
     Use(&'a [u8], bool),
     GetAlias(&'a [u8]),
     GetFunction(&'a [u8]),
+}
+
+impl<'a> Call<'a> {
+    // The call of a code: 1 enter, 2 exit, 3 type alias, 4 enum, 5 function, 6 use, 7 get_alias, any other get_function. What the call has
+    // no place for is let go. Ruled out: another call for a code.
+    pub fn of_code(code: u8, bytes: &'a [u8], public: bool, mark: u16) -> Call<'a>
+        ensures { request_of result ≡ request code bytes.now public mark }
+    {
+        let item = Item {
+            name: bytes,
+            public,
+            mark,
+        };
+        match code {
+            1 => Call::Enter(item),
+            2 => Call::Exit,
+            3 => Call::Alias(item),
+            4 => Call::Enum(item),
+            5 => Call::Function(item),
+            6 => Call::Use(bytes, public),
+            7 => Call::GetAlias(bytes),
+            _ => Call::GetFunction(bytes),
+        }
+    }
 }

@@ -5,7 +5,7 @@ ghost use Rattle.scope_tree.specs.Form.{resolves_use};
 ghost use Rattle.scope_tree.specs.Kinds.{kind_number, twice_number, deepest_for, opens_for};
 ghost use Rattle.scope_tree.specs.Told.{done_told, call_told};
 ghost use Rattle.commit.specs.Lending.{lent_in, Kept};
-ghost use Rattle.scopes.specs.Meets.{Meets, request_of, left, Leaves};
+ghost use Rattle.scopes.specs.Meets.{Meets, request, request_of, left, Leaves};
 ghost use Rattle.scopes.specs.Declares.{Declares};
 
 use crate::call::{Call, Item};
@@ -87,4 +87,18 @@ pub fn call(tree: &mut Lent, call: Call) -> Result<Option<u16>, Cause>
         }
     }
     Ok(None)
+}
+
+// The same by the call's code. Ruled out: another call for a code.
+pub fn call_of_code(
+    tree: &mut Lent,
+    code: u8,
+    bytes: &[u8],
+    public: bool,
+    mark: u16,
+) -> Result<Option<u16>, Cause>
+    ensures kept { Kept tree.old tree.new }
+    ensures met { Meets (lent_in tree.old) (request code bytes.now public mark) (left (call_told result) (lent_in tree.new)) }
+{
+    call(tree, Call::of_code(code, bytes, public, mark))
 }

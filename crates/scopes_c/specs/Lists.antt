@@ -2,7 +2,7 @@
 use Prim.Native.Nat.{ℕ, zero, suc, ◌+◌, ◌*◌, ◌-◌, ◌≤◌, ◌<◌}
 use native.Mathlib.Omega.{arith}
 use Rattle.std.proofs.Math.Decide.{dec_lt}
-use Rattle.std.specs.Prelude.{◌≡◌, Bool, false, cond, ◌⊎◌, eqb, ltb, min, Option, Some, None}
+use Rattle.std.specs.Prelude.{◌≡◌, Bool, false, cond, ◌⊎◌, eqb, ltb, min, Option, Some, None, IfSome}
 use Rattle.std.proofs.Math.Path.{refl, ap, sym}
 use Rattle.std.proofs.Common.{subst, ◌∙◌, inl, inr, take_all}
 use mathlib.Core.List.{List, [], ◌∷◌}
@@ -23,7 +23,7 @@ use Rattle.scope_tree.specs.Nav.{stack_of}
 use Rattle.scope_tree.specs.Views.{told}
 use Rattle.scope_tree.specs.Trees.{cleared, flat_of, Good}
 use Rattle.scope_tree.specs.Pack.{index-clear, clear-get}
-use Rattle.scopes.specs.Meets.{Outcome, Meets, request_of, declares}
+use Rattle.scopes.specs.Meets.{Outcome, Meets, request, request_of, code_of, bytes_of, public_of, mark_of, request-code, declares}
 use Rattle.scopes.specs.Runs.{first-is, first_good}
 
 -- THE BYTES
@@ -61,6 +61,16 @@ order_at s p =
 abbrev pub order_told : Option Call → Order
 order_told None = clears
 order_told (Some c) = asks (request_of c)
+
+-- a call that was read asks what the code n asks
+pub record IsCoded (n : ℕ) (o : Option Call) : Type 0 where
+  pub asked : IfSome o (λ c. request_of c ≡ request n (bytes_of c) (public_of c) (mark_of c))
+
+pub is_coded : {n : ℕ} (c : Call) → n ≡ code_of c → IsCoded n (Some c)
+is_coded c e = record { asked = rw e (request-code c) }
+
+pub coded_none : {n : ℕ} → IsCoded n None
+coded_none = record { asked = tt }
 
 -- the name of the call at p; and what it declares
 abbrev pub name_in : List ℕ → ℕ → List ℕ
@@ -166,30 +176,30 @@ module _ (s : List ℕ) (p : ℕ) {op : ℕ} (oq : op ≡ get_or s p 0) where
   order_use z nq dq bq = rw (← oq, z, dq, bq, nq)
 
   module _ {d : List ℕ} (dq : d ≡ name_in s p) where
-    pub order-get_alias : op ≡ 7 → asks (gets_alias d) ≡ order_at s p
+    pub order-alias : op ≡ 7 → asks (gets_alias d) ≡ order_at s p
     unfolding order_at
-    order-get_alias z = rw (← oq, z, dq)
+    order-alias z = rw (← oq, z, dq)
 
-    pub order-get_function : op ≡ 8 → asks (gets_function d) ≡ order_at s p
+    pub order-function : op ≡ 8 → asks (gets_function d) ≡ order_at s p
     unfolding order_at
-    order-get_function z = rw (← oq, z, dq)
+    order-function z = rw (← oq, z, dq)
 
   module _ {i : Item} (h : IsItem s p i) where
     pub order-enter : op ≡ 1 → asks (enters i.name.now i.public i.mark) ≡ order_at s p
     unfolding order_at
     order-enter z = rw (← oq, z, h.name, h.public, h.mark)
 
-    pub order-alias : op ≡ 3 → asks (inserts_alias i.name.now i.public i.mark) ≡ order_at s p
+    pub order_type : op ≡ 3 → asks (inserts_alias i.name.now i.public i.mark) ≡ order_at s p
     unfolding order_at
-    order-alias z = rw (← oq, z, h.name, h.public, h.mark)
+    order_type z = rw (← oq, z, h.name, h.public, h.mark)
 
     pub order-enum : op ≡ 4 → asks (inserts_enum i.name.now i.public i.mark) ≡ order_at s p
     unfolding order_at
     order-enum z = rw (← oq, z, h.name, h.public, h.mark)
 
-    pub order-function : op ≡ 5 → asks (inserts_function i.name.now i.public i.mark) ≡ order_at s p
+    pub order_fn : op ≡ 5 → asks (inserts_function i.name.now i.public i.mark) ≡ order_at s p
     unfolding order_at
-    order-function z = rw (← oq, z, h.name, h.public, h.mark)
+    order_fn z = rw (← oq, z, h.name, h.public, h.mark)
 
   undeclared : (op ≡ 3 → ⊥) → (op ≡ 4 → ⊥) → (op ≡ 5 → ⊥) → is_declaring op ≡ false
   undeclared a b c = go (dec_lt op 3) (dec_lt op 6)
@@ -316,7 +326,7 @@ module _ (s : List ℕ) (o₀ : List ℕ) where
           tree = sym (w.tree ∙ f);
         }
 
-    walking_past : length s ≤ p → Replayed i o t
+    pub walking_past : length s ≤ p → Replayed i o t
     unfolding replay left
     walking_past h = ended_here (go (16000000 - i)) (stays (16000000 - i))
       where
@@ -328,7 +338,7 @@ module _ (s : List ℕ) (o₀ : List ℕ) where
         stays zero = refl
         stays (suc k) = rw (le-ltb p (length s) h)
 
-    walking_far : p < length s → 16777216 ≤ p → Replayed i o t
+    pub walking_far : p < length s → 16777216 ≤ p → Replayed i o t
     unfolding replay left
     walking_far h f = ended_here (go (16000000 - i)) (stays (16000000 - i))
       where

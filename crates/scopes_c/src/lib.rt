@@ -8,7 +8,7 @@ ghost use Rattle.scope_tree.specs.Views.{told};
 ghost use Rattle.scope_tree.specs.Told.{call_told};
 ghost use Rattle.scope_tree.specs.Trees.{cleared};
 ghost use Rattle.commit.specs.Lending.{lent_in, Kept};
-ghost use Rattle.scopes_c.specs.Lists.{pair_at, part_of, name_in, IsItem, order_at, order_told, after_order, shown, Turned, Called, left_tree, Walked, Replayed};
+ghost use Rattle.scopes_c.specs.Lists.{pair_at, part_of, name_in, IsItem, IsCoded, order_at, order_told, after_order, shown, Turned, Called, left_tree, Walked, Replayed};
 ghost use Rattle.rows.specs.Written.{put_at};
 ghost use Rattle.rows.specs.TreeRows.{Listed};
 
@@ -69,6 +69,7 @@ fn item_at<'a>(s: &'a [u8], p: usize) -> Item<'a>
 fn next_call<'a>(s: &'a [u8], p: usize) -> (Option<Call<'a>>, usize)
     requires { p < 16777216 }
     ensures call { order_told result.0 ≡ order_at s.now p }
+    ensures code { IsCoded (get_or s.now p 0) result.0 }
     ensures next { (result.1 ≡ after_order s.now p) × (result.1 ≤ p + 65539) }
 {
     let name = usize::from(byte(s, p + 1));

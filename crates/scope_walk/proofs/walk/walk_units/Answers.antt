@@ -1,4 +1,4 @@
--- `walk_program`: one unit after the other. Assumes nothing.
+-- `walk_units`: one unit after the other. Assumes nothing.
 use mathlib.Core.Path.{refl}
 use Rattle.std.proofs.lemmas.Result.{err_from_is_err_and}
 use Rattle.bundle.specs.Decode.{decode}
@@ -6,7 +6,7 @@ use Rattle.assembly.specs.GivenLaws.{below}
 use Rattle.commit.specs.Lending.{kept-after}
 use Rattle.scope_walk.specs.Steps.{onward_as, onward_first, onward_next, onward_stop, onward_all}
 use Rattle.scope_walk.specs.Units.{order-step, order-end}
-use Rattle.scope_walk.proofs.walk.walk_program.Goals as goal
+use Rattle.scope_walk.proofs.walk.walk_units.Goals as goal
 
 pub unit-requires : goal.unit-requires
 unit-requires c = rw c.from.ensures (below c.args.program.now.given _ c.loop-id-test.true)

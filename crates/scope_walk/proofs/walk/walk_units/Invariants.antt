@@ -4,7 +4,7 @@ use Rattle.bundle.specs.Decode.{decode}
 use Rattle.commit.specs.Lending.{lent_in, Kept}
 use Rattle.scope_walk.specs.Steps.{Onward}
 use Rattle.scope_walk.specs.Units.{program_calls}
-use Rattle.scope_walk.proofs.walk.walk_program.Given as goal
+use Rattle.scope_walk.proofs.walk.walk_units.Given as goal
 
 abbrev pub invariant-loop-id : goal.invariant-loop-id
 invariant-loop-id l =

@@ -1,7 +1,7 @@
 use Rattle.std.proofs.Common.{refl, rules, ◌∙◌}
 use Rattle.commit.specs.Lending.{kept-after}
 use Rattle.commit.specs.Filled.{filled, fills_more, entry-read}
-use Rattle.commit.proofs.Lent.commit.Goals as goal
+use Rattle.commit.proofs.Lent.commit_at.Goals as goal
 
 pub loop-i-init : goal.loop-i-init
 unfolding filled
@@ -9,6 +9,6 @@ loop-i-init c = (search rules, refl)
 
 pub loop-i-preserved : goal.loop-i-preserved
 loop-i-preserved c = (
-  kept-after c.loop-i.invariant.0 c.add.ensures.kept,
-  c.add.ensures.added ∙ fills_more _ _ _ _ _ _ c.loop-i.invariant.1 (entry-read _ _ _ _ c.loop-i-test.true _ _),
+  kept-after c.loop-i.invariant.0 c.add_numbers.ensures.kept,
+  c.add_numbers.ensures.added ∙ fills_more _ _ _ _ _ _ c.loop-i.invariant.1 (rw c.from.ensures (entry-read _ _ _ _ c.loop-i-test.true _ _)),
 )
