@@ -70,7 +70,7 @@ module _ (s : List ℕ) (B : Bytes s) (known : Known) (ids : List ℕ) (x : Orde
   order : ordered b ≡ linked ids
   order = x.order ∙ ap linked (take-length ids)
 
-  front-is : ids ≡ front ++ (0 ∷ [])
+  pub front-is : ids ≡ front ++ (0 ∷ [])
   front-is =
       let z = zero-last b ids order in
       let n : length ids ≡ length z.before + 1 = ap length z.is ∙ length-append z.before (0 ∷ []) in
@@ -91,7 +91,7 @@ module _ (s : List ℕ) (B : Bytes s) (known : Known) (ids : List ℕ) (x : Orde
       let a = ap (λ (k : List ℕ). length (enums_of b k)) front-is ∙ enums_append b front (0 ∷ []) in
       omega arith
 
-  step5-faults : assembly_faults b ids ≡ map foreign_enum_fault (enums_of b front) ++ main_fault b
+  pub step5-faults : assembly_faults b ids ≡ map foreign_enum_fault (enums_of b front) ++ main_fault b
   step5-faults =
       let r = (checked-roomy s x.of_units.checked).some in
       let i = (first_half b r).ids ids order in

@@ -134,7 +134,7 @@ module _ (b : Lists) (file : Text) (us : List Use) (g₀ : Graph) where
   pub looked-none : LookedTo b file us g₀ g₀ 0
   looked-none = record { left = refl; faults = omega arith; imports = omega arith }
 
-  looked-one : (g : Graph) (i : ℕ) (u : Use) → LookedTo b file us g₀ g i → i < length us → get_or us i u ≡ u → LookedTo b file us g₀ (looked_use b file u g) (i + 1)
+  pub looked-one : (g : Graph) (i : ℕ) (u : Use) → LookedTo b file us g₀ g i → i < length us → get_or us i u ≡ u → LookedTo b file us g₀ (looked_use b file u g) (i + 1)
   unfolding looked_all
   looked-one g i u h lt e =
       let x = h.faults in
