@@ -3,7 +3,6 @@
 // the number of units, and the image in hexadecimal.
 #![tactic(auto)]
 
-use lines::Hex;
 use program::Assembled;
 use refusal::Cause;
 use std::io;
@@ -26,7 +25,9 @@ fn tell<W: Write>(out: &mut W, bundle: &[u8]) -> io::Result<()> {
         }
         Ok(Assembled::Image(linked, n)) => {
             let image = image.get(..n).unwrap_or(&[]);
-            writeln!(out, "ok {}\nimage {}", linked.units, Hex(image))
+            write!(out, "ok {}\nimage ", linked.units)?;
+            lines::tell_hex(out, image)?;
+            writeln!(out)
         }
     }
 }

@@ -14,7 +14,7 @@ ghost use Rattle.std.specs.Io.KnownBytes.{Consumes, IsAtEnd};
 ghost use Rattle.lines.specs.Words.{HasNone};
 
 pub use frames::Frames;
-pub use hex::{Hex, unhex, unhexed};
+pub use hex::{Hex, tell_hex, unhex, unhexed};
 pub use report::{ring, tell_faults, tell_refusal, tell_ring};
 use std::io;
 use std::io::{BufWriter, Printer, Read, Write};

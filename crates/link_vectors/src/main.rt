@@ -34,7 +34,9 @@ fn tell_image<W: Write>(out: &mut W, s: &[u8]) -> io::Result<()> {
     let Ok(Assembled::Image(_, n)) = linked.answer else {
         return Ok(());
     };
-    writeln!(out, "image {}", lines::Hex(image.get(..n).unwrap_or(&[])))
+    write!(out, "image ")?;
+    lines::tell_hex(out, image.get(..n).unwrap_or(&[]))?;
+    writeln!(out)
 }
 
 fn tell<W: Write>(out: &mut W, s: &[u8]) -> io::Result<()> {

@@ -3,7 +3,7 @@
 // refusal, and on a line of its own the buffer afterwards in hexadecimal.
 #![tactic(auto)]
 
-use lines::{Frames, Hex};
+use lines::Frames;
 use std::io;
 use std::io::{BufWriter, Write};
 
@@ -16,7 +16,8 @@ fn tell<W: Write>(out: &mut W, list: &[u8], lent: &mut [u8]) -> io::Result<()> {
         Ok(k) => writeln!(out, "ok {k}")?,
         Err(refusal) => writeln!(out, "{refusal}")?,
     }
-    writeln!(out, "{}", Hex(lent))
+    lines::tell_hex(out, lent)?;
+    writeln!(out)
 }
 
 fn main(rt: HostRuntime) -> io::Result<()> {
