@@ -1,13 +1,15 @@
 -- What a commit makes of a tree. Assumes nothing.
-use Rattle.std.specs.Prelude.{ℕ, zero, suc, ◌+◌, ◌≤◌, ◌<◌, ◌≡◌, false, List, length, take, get_or}
+use Rattle.std.specs.Prelude.{ℕ, zero, suc, ◌+◌, ◌≤◌, ◌<◌, ◌≡◌, false, List, length, take, map, get_or}
 use Rattle.std.proofs.Common.{arith, add-one, sym, ◌∙◌}
 use Rattle.std.proofs.Math.Path.{refl, ap}
+use Rattle.std.proofs.lemmas.List.{get_or-map}
 use Rattle.scope_tree.specs.Kinds.{kind_number}
 use Rattle.scope_tree.specs.Staging.{Staged}
 use Rattle.scope_tree.specs.Rows.{name_at}
 use Rattle.scope_tree.specs.Views.{View, pushed, committed, commits}
 use Rattle.scope_tree.specs.declared.Tree.{Tree}
 use Rattle.scope_tree.specs.Entries.{Entry}
+use Rattle.scope_tree.specs.declared.Entry.{Entry as Numbers}
 use Rattle.scope_tree.specs.Trees.{view, Sized}
 use Rattle.decision.specs.declared.batch.Staged.{Staged as Listed}
 use Rattle.decision.specs.Batches.{column, staged_in}
@@ -59,5 +61,38 @@ entry-read n es i d k h v =
       origin = read (λ (e : Listed). e.origin) j;
       target = read (λ (e : Listed). e.target) j;
       moment = read (λ (e : Listed). e.moment) j;
+      opens = false;
+    }
+
+-- ENTRIES IN NUMBERS, staged as they stand: any number as a kind
+abbrev pub numbers_staged : List Numbers → Staged
+numbers_staged es = record {
+  number = 0;
+  count = length es;
+  kinds = map (λ (e : Numbers). e.kind) es;
+  marks = map (λ (e : Numbers). e.mark) es;
+  n0 = map (λ (e : Numbers). e.name.w0) es;
+  n1 = map (λ (e : Numbers). e.name.w1) es;
+  n2 = map (λ (e : Numbers). e.name.w2) es;
+  n3 = map (λ (e : Numbers). e.name.w3) es;
+  origins = map (λ (e : Numbers). e.origin) es;
+  targets = map (λ (e : Numbers). e.target) es;
+  times = map (λ (e : Numbers). e.moment) es;
+}
+
+-- what is read of them
+pub numbers-read : (es : List Numbers) (i : ℕ) (d : Numbers) → i < length es → (h v : ℕ)
+    → (let e = get_or es i d in record { kind = e.kind; visible = v; scope = h; mark = e.mark; name = e.name; origin = e.origin; target = e.target; moment = e.moment; opens = false }) ≡ staged_entry (numbers_staged es) h v i
+numbers-read es i d k h v =
+    let read : (f : Numbers → ℕ) → f (get_or es i d) ≡ get_or (map f es) i 0 = λ f. sym (get_or-map f es i d 0 k) in
+    λ j. record {
+      kind = read (λ (e : Numbers). e.kind) j;
+      visible = v;
+      scope = h;
+      mark = read (λ (e : Numbers). e.mark) j;
+      name = record { w0 = read (λ (e : Numbers). e.name.w0) j; w1 = read (λ (e : Numbers). e.name.w1) j; w2 = read (λ (e : Numbers). e.name.w2) j; w3 = read (λ (e : Numbers). e.name.w3) j };
+      origin = read (λ (e : Numbers). e.origin) j;
+      target = read (λ (e : Numbers). e.target) j;
+      moment = read (λ (e : Numbers). e.moment) j;
       opens = false;
     }

@@ -1,13 +1,13 @@
 // The one writer of a tree: the entries that a call comes to, written at the end of the nine arrays that the caller lends.
 #![tactic(auto)]
 
-ghost use Rattle.std.specs.Prelude.{◌≡◌, true, get_or, ◌+◌, ◌<◌, ◌≤◌};
+ghost use Rattle.std.specs.Prelude.{◌≡◌, true, get_or, length, ◌+◌, ◌<◌, ◌≤◌};
 ghost use Rattle.scope_tree.specs.Trees.{tree_in};
 ghost use Rattle.scope_tree.specs.Views.{bit_of};
 ghost use Rattle.scope_tree.specs.Pack.{added};
 ghost use Rattle.decision.specs.Batches.{staged_of};
 ghost use Rattle.commit.specs.Lending.{entry_told, numbers_told, lent_in, Kept};
-ghost use Rattle.commit.specs.Filled.{filled};
+ghost use Rattle.commit.specs.Filled.{numbers_staged, filled};
 
 use decision::batch::{Batch, Staged};
 use scope_tree::look::{Key, View, free_slot};
@@ -155,6 +155,24 @@ impl<'a> Lent<'a> {
                 opens: false,
             };
             self.add_numbers(first + i, numbers);
+        }
+    }
+
+    // The same of entries in numbers: any as a kind. One scope and one visibility are every entry's, and no module opens. Ruled out: a
+    // kind that is cut.
+    pub fn commit_numbers(&mut self, first: usize, entries: &[Numbers], scope: u16, visible: u8)
+        requires { first + length entries.now ≤ 1024 }
+        ensures kept { Kept self.old self.new }
+        ensures filled { lent_in self.new ≡ filled first (lent_in self.old) (numbers_staged entries.now) scope visible (length entries.now) }
+    {
+        for (i, given) in entries.iter().enumerate() {
+            let entry = Numbers {
+                visible,
+                scope,
+                opens: false,
+                ..*given
+            };
+            self.add_numbers(first + i, entry);
         }
     }
 

@@ -43,7 +43,7 @@ pub fn uses_of(s: &[u8], at: usize) -> Uses
     requires { (at < 2 ^ 57) × (length (uses (file_at s.now at).items) ≤ use_limit) }
     ensures { UsesAre s.now result (uses (file_at s.now at).items) }
 {
-    let mut uses = Uses::new(0);
+    let mut uses = Uses::new();
     process_items(s, bundle::file_items(s, at), DEPTH, &mut uses);
     uses
 }

@@ -3,10 +3,11 @@
 
 mod imports;
 mod known;
+mod uses;
 
-use fixed_vec::FixedVec;
 pub use imports::uses_of;
 pub use known::{Entry, FileRow, Known};
+pub use uses::Uses;
 
 // The most files and folders of a bundle, and the most uses, so the most ids in all lists and the most faults: the limits of the
 // reader.
@@ -15,6 +16,3 @@ pub const UNITS: usize = bundle::limits::FILES;
 pub const IDS: usize = bundle::limits::USES;
 
 pub const FOLDERS: usize = bundle::limits::FOLDERS;
-
-// The marks of uses, in item order.
-pub type Uses = FixedVec<usize, IDS>;
