@@ -47,52 +47,49 @@ pub fills_more : (c : ℕ) (t : Tree) (s : Staged) (h v i : ℕ) {u : Tree} → 
 unfolding filled
 fills_more c t s h v i {u} p {e} q = (λ j. added (c + i) (p j) (q j)) ∙ ap (filled c t s h v) (sym (add-one i))
 
--- what is read of them
+-- WHAT IS READ OF THEM: of columns that have a number of each entry
+abbrev pub by_columns : ℕ → ((Numbers → ℕ) → List ℕ) → Staged
+by_columns n column_of = record {
+  number = 0;
+  count = n;
+  kinds = column_of (λ (e : Numbers). e.kind);
+  marks = column_of (λ (e : Numbers). e.mark);
+  n0 = column_of (λ (e : Numbers). e.name.w0);
+  n1 = column_of (λ (e : Numbers). e.name.w1);
+  n2 = column_of (λ (e : Numbers). e.name.w2);
+  n3 = column_of (λ (e : Numbers). e.name.w3);
+  origins = column_of (λ (e : Numbers). e.origin);
+  targets = column_of (λ (e : Numbers). e.target);
+  times = column_of (λ (e : Numbers). e.moment);
+}
+
+columns-read : (n : ℕ) (column_of : (Numbers → ℕ) → List ℕ) (i : ℕ) (e : Numbers) → ((f : Numbers → ℕ) → f e ≡ get_or (column_of f) i 0) → (h v : ℕ)
+    → record { kind = e.kind; visible = v; scope = h; mark = e.mark; name = e.name; origin = e.origin; target = e.target; moment = e.moment; opens = false } ≡ staged_entry (by_columns n column_of) h v i
+columns-read n column_of i e read h v j = record {
+  kind = read (λ (e : Numbers). e.kind) j;
+  visible = v;
+  scope = h;
+  mark = read (λ (e : Numbers). e.mark) j;
+  name = record { w0 = read (λ (e : Numbers). e.name.w0) j; w1 = read (λ (e : Numbers). e.name.w1) j; w2 = read (λ (e : Numbers). e.name.w2) j; w3 = read (λ (e : Numbers). e.name.w3) j };
+  origin = read (λ (e : Numbers). e.origin) j;
+  target = read (λ (e : Numbers). e.target) j;
+  moment = read (λ (e : Numbers). e.moment) j;
+  opens = false;
+}
+
+-- an entry of a use, in numbers; its visibility and its scope are those of the commit
+abbrev in_numbers : Listed → Numbers
+in_numbers e = record { kind = kind_number e.kind; visible = 0; scope = 0; mark = e.mark; name = e.name; origin = e.origin; target = e.target; moment = e.moment; opens = false }
+
 pub entry-read : (n : ℕ) (es : List Listed) (i : ℕ) (d : Listed) → i < length (take n es) → (h v : ℕ)
     → (let e = get_or (take n es) i d in record { kind = kind_number e.kind; visible = v; scope = h; mark = e.mark; name = e.name; origin = e.origin; target = e.target; moment = e.moment; opens = false }) ≡ staged_entry (staged_in n es) h v i
-entry-read n es i d k h v =
-    let read : (f : Listed → ℕ) → f (get_or (take n es) i d) ≡ get_or (column f n es) i 0 = λ f. sym (column-get f n es i d k) in
-    λ j. record {
-      kind = read (λ (e : Listed). kind_number e.kind) j;
-      visible = v;
-      scope = h;
-      mark = read (λ (e : Listed). e.mark) j;
-      name = record { w0 = read (λ (e : Listed). e.name.w0) j; w1 = read (λ (e : Listed). e.name.w1) j; w2 = read (λ (e : Listed). e.name.w2) j; w3 = read (λ (e : Listed). e.name.w3) j };
-      origin = read (λ (e : Listed). e.origin) j;
-      target = read (λ (e : Listed). e.target) j;
-      moment = read (λ (e : Listed). e.moment) j;
-      opens = false;
-    }
+entry-read n es i d k =
+    columns-read n (λ f. column (λ (e : Listed). f (in_numbers e)) n es) i (in_numbers (get_or (take n es) i d)) (λ f. sym (column-get (λ (e : Listed). f (in_numbers e)) n es i d k))
 
 -- ENTRIES IN NUMBERS, staged as they stand: any number as a kind
 abbrev pub numbers_staged : List Numbers → Staged
-numbers_staged es = record {
-  number = 0;
-  count = length es;
-  kinds = map (λ (e : Numbers). e.kind) es;
-  marks = map (λ (e : Numbers). e.mark) es;
-  n0 = map (λ (e : Numbers). e.name.w0) es;
-  n1 = map (λ (e : Numbers). e.name.w1) es;
-  n2 = map (λ (e : Numbers). e.name.w2) es;
-  n3 = map (λ (e : Numbers). e.name.w3) es;
-  origins = map (λ (e : Numbers). e.origin) es;
-  targets = map (λ (e : Numbers). e.target) es;
-  times = map (λ (e : Numbers). e.moment) es;
-}
+numbers_staged es = by_columns (length es) (λ f. map f es)
 
--- what is read of them
 pub numbers-read : (es : List Numbers) (i : ℕ) (d : Numbers) → i < length es → (h v : ℕ)
     → (let e = get_or es i d in record { kind = e.kind; visible = v; scope = h; mark = e.mark; name = e.name; origin = e.origin; target = e.target; moment = e.moment; opens = false }) ≡ staged_entry (numbers_staged es) h v i
-numbers-read es i d k h v =
-    let read : (f : Numbers → ℕ) → f (get_or es i d) ≡ get_or (map f es) i 0 = λ f. sym (get_or-map f es i d 0 k) in
-    λ j. record {
-      kind = read (λ (e : Numbers). e.kind) j;
-      visible = v;
-      scope = h;
-      mark = read (λ (e : Numbers). e.mark) j;
-      name = record { w0 = read (λ (e : Numbers). e.name.w0) j; w1 = read (λ (e : Numbers). e.name.w1) j; w2 = read (λ (e : Numbers). e.name.w2) j; w3 = read (λ (e : Numbers). e.name.w3) j };
-      origin = read (λ (e : Numbers). e.origin) j;
-      target = read (λ (e : Numbers). e.target) j;
-      moment = read (λ (e : Numbers). e.moment) j;
-      opens = false;
-    }
+numbers-read es i d k = columns-read (length es) (λ f. map f es) i (get_or es i d) (λ f. sym (get_or-map f es i d 0 k))

@@ -1,13 +1,12 @@
 // Bytes in hexadecimal.
-ghost use Rattle.std.specs.Prelude.{◌≡◌, ◌/◌, ◌<◌, ◌≤◌, length, min, Some, IfOk, OnOk, vec_len};
-ghost use Rattle.std.specs.Fmt.{HasWritten, IsPlainFormatter};
+ghost use Rattle.std.specs.Prelude.{◌≡◌, ◌/◌, ◌<◌, ◌≤◌, length, min, false, Some, IfOk, OnOk, vec_len};
+ghost use Rattle.std.specs.Fmt.{HasWritten, IsPlainFormatter, digit_glyph};
+ghost use Rattle.std.specs.Io.KnownBytes.{Appends};
 ghost use Rattle.lines.specs.Hex.{hex, pair};
 
 use std::alloc::Global;
 use std::io::Write;
 use std::{fmt, io};
-
-const DIGITS: [u8; 16] = *b"0123456789abcdef";
 
 // Bytes, two digits for each.
 #[derive(Clone, Copy)]
@@ -31,10 +30,24 @@ impl fmt::Display for Hex<'_> {
     }
 }
 
-// Writes bytes in hexadecimal, as Hex shows them: a pair at once, in a quarter of the time that a formatter takes.
-pub fn tell_hex<W: Write>(out: &mut W, bytes: &[u8]) -> io::Result<()> {
+// The digit of a value below 16.
+fn glyph(value: u8) -> u8
+    requires { value < 16 }
+    ensures { result ≡ digit_glyph false value }
+{
+    if value < 10 {
+        b'0' + value
+    } else {
+        b'a' - 10 + value
+    }
+}
+
+// Appends what Hex shows: a pair at once, in a quarter of the time that a formatter takes.
+pub fn tell_hex<W: Write>(out: &mut W, bytes: &[u8]) -> io::Result<()>
+    ensures { OnOk result (Appends (W.contents out.old) (W.contents out.new) (hex bytes.now)) }
+{
     for b in bytes {
-        out.write_all(&[DIGITS[usize::from(*b / 16)], DIGITS[usize::from(*b % 16)]])?;
+        out.write_all(&[glyph(*b / 16), glyph(*b % 16)])?;
     }
     Ok(())
 }
