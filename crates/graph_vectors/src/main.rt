@@ -82,7 +82,7 @@ fn answer<W: Write>(out: &mut W, g: Graph) -> io::Result<()> {
 
 fn main(rt: HostRuntime) -> io::Result<()> {
     let alloc = rt.alloc();
-    lines::each_line(&rt, |out, line| match lines::split_once(line, b' ') {
+    lines::each_byte_line(&rt, |out, line| match lines::split_once(line, b' ') {
         Some((lists, ids)) => answer(out, graph_of(alloc, lists, ids)?),
         None => Ok(()),
     })

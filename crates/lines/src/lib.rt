@@ -1,13 +1,15 @@
 // What the programs that replay stored answers share: their one shape, parts led by their length, bytes in hexadecimal, and what
 // is written of a refusal and of a report; and the reading into a buffer of those that read a bundle at a time.
 //
-// All of the input is read before anything is written, but by those that read a bundle at a time. What writes an answer takes any
-// writer, `out`, first. A read or a write that fails ends the program with that error.
+// All of the input is read before anything is written, but by `each_line` and by those that read a bundle at a time. What writes an
+// answer takes any writer, `out`, first. A read or a write that fails ends the program with that error.
 #![tactic(auto)]
 
 mod frames;
 mod hex;
 mod report;
+#[cfg(test)]
+mod tests;
 
 ghost use Rattle.std.specs.Prelude.{◌≡◌, ◌<◌, ◌≤◌, ◌++◌, ◌∷◌, length, take, IfOk, MatchOption};
 ghost use Rattle.std.specs.Io.KnownBytes.{Consumes, IsAtEnd};
@@ -17,7 +19,7 @@ pub use frames::Frames;
 pub use hex::{Hex, tell_hex, unhex, unhexed};
 pub use report::{ring, tell_faults, tell_refusal, tell_ring};
 use std::io;
-use std::io::{BufWriter, Printer, Read, Write};
+use std::io::{BufRead, BufReader, BufWriter, Printer, Read, Write};
 
 // All of standard input.
 pub fn input(rt: &(impl Input + AllocGlobal)) -> io::Result<Vec<u8>> {
@@ -41,8 +43,23 @@ where
     out.flush()
 }
 
-// Answers each line of standard input, whatever its bytes, on standard output, which has a buffer in front.
+// Answers each line of standard input, which is text, on standard output, which has a buffer in front. A line is read when the one
+// before it is answered, so that no more than one is held. One that is no text is an error. Ruled out: it taken for text.
 pub fn each_line<R, F>(rt: &R, mut tell: F) -> io::Result<()>
+where
+    R: Input + Print + AllocGlobal,
+    F: FnMut(&mut BufWriter<Printer<'_, R>>, &str) -> io::Result<()>,
+    requires { F.IsAlwaysCallable tell }
+{
+    let mut out = BufWriter::new(rt.alloc(), io::writer(rt))?;
+    for line in BufReader::new(rt.alloc(), rt.reader())?.lines(rt.alloc()) {
+        tell(&mut out, line?.as_str())?;
+    }
+    out.flush()
+}
+
+// The same of whatever bytes, all of which are read first.
+pub fn each_byte_line<R, F>(rt: &R, mut tell: F) -> io::Result<()>
 where
     R: Input + Print + AllocGlobal,
     F: FnMut(&mut BufWriter<Printer<'_, R>>, &[u8]) -> io::Result<()>,

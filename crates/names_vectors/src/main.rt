@@ -88,5 +88,5 @@ fn answer<W: Write>(out: &mut W, line: &[u8]) -> io::Result<()> {
 }
 
 fn main(rt: HostRuntime) -> io::Result<()> {
-    lines::each_line(&rt, |out, line| answer(out, line))
+    lines::each_byte_line(&rt, |out, line| answer(out, line))
 }

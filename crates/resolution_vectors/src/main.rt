@@ -126,5 +126,5 @@ fn answer<W: Write>(
 fn main(rt: HostRuntime) -> io::Result<()> {
     let alloc = rt.alloc();
     let mut bundle = Vec::new(alloc);
-    lines::each_line(&rt, |out, line| answer(alloc, out, &mut bundle, line))
+    lines::each_byte_line(&rt, |out, line| answer(alloc, out, &mut bundle, line))
 }
