@@ -43,8 +43,8 @@ where
     out.flush()
 }
 
-// Answers each line of standard input, which is text, on standard output, which has a buffer in front. A line is read when the one
-// before it is answered, so that no more than one is held. One that is no text is an error. Ruled out: it taken for text.
+// Answers each line of standard input, which is text, on standard output, which has a buffer in front: as they are read, so that the
+// input may be longer than memory. A line that is no text is an error.
 pub fn each_line<R, F>(rt: &R, mut tell: F) -> io::Result<()>
 where
     R: Input + Print + AllocGlobal,
@@ -58,7 +58,8 @@ where
     out.flush()
 }
 
-// The same of whatever bytes, all of which are read first.
+// The same of whatever bytes, all of which are read before the first answer. Here a line is all that stands between two line feeds: a
+// carriage return stays, and what follows the last line feed is a line too, though it be empty.
 pub fn each_byte_line<R, F>(rt: &R, mut tell: F) -> io::Result<()>
 where
     R: Input + Print + AllocGlobal,

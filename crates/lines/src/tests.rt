@@ -89,12 +89,26 @@ fn answers_each_line(rt: HostRuntime) {
     }
 }
 
-// The answers up to there are not lost silently: the call fails.
 #[test]
 fn refuses_what_is_no_text(rt: HostRuntime) {
-    let [text, bytes] = answers(rt.alloc(), b"one\n\xFF\ntwo", b"[one]", b"[one][\xFF][two]");
+    let [text, bytes] = answers(rt.alloc(), b"one\n\xFF\ntwo", b"", b"[one][\xFF][two]");
     assert!(rt; text.is_err_and(|e| e.kind() == io::ErrorKind::InvalidData));
     assert!(rt; bytes.is_ok());
+}
+
+// The first line's answer fails, and not what stands behind it, which isn't read by then.
+#[test]
+fn answers_before_it_reads_on(rt: HostRuntime) {
+    let console = Console {
+        input: b"one\n\xFF\n",
+        output: b"",
+        alloc: rt.alloc(),
+    };
+    let result = each_line(
+        &console,
+        |_, _| Err(io::Error::from(io::ErrorKind::InvalidInput)),
+    );
+    assert!(rt; result.is_err_and(|e| e.kind() == io::ErrorKind::InvalidInput));
 }
 
 #[test]
